@@ -2,7 +2,7 @@
 -- Assumes nothing.
 use Prim.Native.Nat.{ℕ, zero, suc, _<_, _^_}
 use mathlib.Core.Bool.{Bool, true, false}
-use mathlib.Core.Path.{_≡_, refl, sym, ap, _∙_}
+use mathlib.Core.Path.{_≡_, refl, sym, ap, ap₂, _∙_}
 use mathlib.Core.List.{List, [], _∷_}
 use native.Mathlib.Omega.{arith}
 use lib.ListN.{length, getD}
@@ -48,3 +48,8 @@ module _ {x : ℤ} {m : ℕ} (e : x ≡ pos m) (h : mag x < 2 ^ 63) where
       let b : toZ w64 (ofZ w64 x) ≡ pos m = back x h ∙ e in
       let k : m < 2 ^ 63 = rw e at h in
       rw b (tt, record { fits = omega arith })
+
+-- the result of a call on two signed parameters
+pub told-call : {x y r : ℤ} (op : ℤ → ℤ → ℤ) → SFits w64 x → SFits w64 y → mag r < 2 ^ 63
+    → r ≡ op (toZ w64 (ofZ w64 x)) (toZ w64 (ofZ w64 y)) → toZ w64 (ofZ w64 r) ≡ op x y
+told-call {x} {y} {r} op f g h e = back r h ∙ e ∙ ap₂ op (toZ-ofZ f) (toZ-ofZ g)

@@ -1,2 +1,9 @@
 pub mod Bits
+pub mod Halves
+pub mod Midpoint
+pub mod Operation
+pub mod Residue
+pub mod Saturated
 pub mod Tests
+pub mod Unsigned
+pub mod Wrap

@@ -1,0 +1,144 @@
+ghost use mathlib.Core.Path.{_≡_};
+ghost use Prim.Native.Nat.{_+_, _*_, _^_, min};
+ghost use lib.IntN.{_+ℤ_, _-ℤ_, _*ℤ_};
+ghost use lib.Signed.{ltZ};
+ghost use Rattle.num.specs.Numbers.{eqZ, residue, signed, wrap, saturated, smallerOf, largerOf, midpoint, flag, operation};
+
+// The two's complement bits: no instruction at -O3, where both arms are one.
+pub fn as_unsigned(x: i64) -> u64
+    ensures { λ r. ⌜ r ≡ residue x ⌝ }
+{
+    if x < 0 { !((!x) as u64) } else { x as u64 }
+}
+
+// The number that has these two's complement bits; undoes `as_unsigned`.
+pub fn as_signed(bits: u64) -> i64
+    ensures { λ r. ⌜ r ≡ signed bits ⌝ }
+{
+    if bits < 0x8000_0000_0000_0000 {
+        bits as i64
+    } else {
+        !((!bits) as i64)
+    }
+}
+
+// The sum modulo 2^64, read as signed.
+pub fn wrapping_add(x: i64, y: i64) -> i64
+    ensures { λ r. ⌜ r ≡ wrap (x +ℤ y) ⌝ }
+{
+    as_signed(std::num::wrapping_add_u64(as_unsigned(x), as_unsigned(y)))
+}
+
+// The difference modulo 2^64, read as signed.
+pub fn wrapping_sub(x: i64, y: i64) -> i64
+    ensures { λ r. ⌜ r ≡ wrap (x -ℤ y) ⌝ }
+{
+    as_signed(std::num::wrapping_sub_u64(as_unsigned(x), as_unsigned(y)))
+}
+
+// The product modulo 2^64, read as signed: one multiplication at -O3.
+pub fn wrapping_mul(x: i64, y: i64) -> i64
+    ensures { λ r. ⌜ r ≡ wrap (x *ℤ y) ⌝ }
+{
+    let product = full_product(as_unsigned(x), as_unsigned(y));
+    as_signed(product.low)
+}
+
+// A number of 128 bits, by its halves.
+pub struct Product {
+    pub high: u64,
+    pub low: u64,
+}
+
+const HALF: u64 = 0x1_0000_0000;
+
+// The product with no bit lost, from the four products of 32-bit halves.
+pub fn full_product(a: u64, b: u64) -> Product
+    ensures { λ r. ⌜ r .high * 2 ^ 64 + r .low ≡ a * b ⌝ }
+{
+    let a_high = a / HALF;
+    let a_low = a % HALF;
+    let b_high = b / HALF;
+    let b_low = b % HALF;
+    let low = a_low * b_low;
+    let left = a_high * b_low + low / HALF;
+    let right = a_low * b_high + left % HALF;
+    Product {
+        high: a_high * b_high + left / HALF + right / HALF,
+        low: right % HALF * HALF + low % HALF,
+    }
+}
+
+// The sum, or the greatest usize where the sum is above it.
+pub fn saturating_add(a: usize, b: usize) -> usize
+    ensures { λ r. ⌜ r ≡ saturated (a + b) ⌝ }
+{
+    if a <= usize::MAX - b { a + b } else { usize::MAX }
+}
+
+// The product, or the greatest usize where the product is above it.
+pub fn saturating_mul(a: usize, b: usize) -> usize
+    ensures { λ r. ⌜ r ≡ saturated (a * b) ⌝ }
+{
+    let product = full_product(a as u64, b as u64);
+    if product.high == 0 { product.low as usize } else { usize::MAX }
+}
+
+pub fn smaller(x: i64, y: i64) -> i64
+    ensures { λ r. ⌜ r ≡ smallerOf x y ⌝ }
+{
+    if x <= y { x } else { y }
+}
+
+pub fn larger(x: i64, y: i64) -> i64
+    ensures { λ r. ⌜ r ≡ largerOf x y ⌝ }
+{
+    if x <= y { y } else { x }
+}
+
+pub fn smaller_count(a: usize, b: usize) -> usize
+    ensures { λ r. ⌜ r ≡ min a b ⌝ }
+{
+    if a <= b { a } else { b }
+}
+
+// 1 or 0, as code 7 shows it.
+pub fn equal(x: i64, y: i64) -> i64
+    ensures { λ r. ⌜ r ≡ flag (eqZ x y) ⌝ }
+{
+    if x == y { 1 } else { 0 }
+}
+
+// 1 or 0, as code 8 shows it.
+pub fn less(x: i64, y: i64) -> i64
+    ensures { λ r. ⌜ r ≡ flag (ltZ x y) ⌝ }
+{
+    if x < y { 1 } else { 0 }
+}
+
+// The exact sum halved, which no sum of i64 holds: the bits that both have count once, and half of those that differ.
+pub fn midpoint_toward_zero(x: i64, y: i64) -> i64
+    ensures { λ r. ⌜ r ≡ midpoint x y ⌝ }
+{
+    let differ = x ^ y;
+    let down = (x & y) + (differ >> 1);
+    if down < 0 { down + (differ & 1) } else { down }
+}
+
+// What the operation of a code shows for two values. Callers refuse a code that is not listed; here it is the last.
+pub fn apply(code: u8, x: i64, y: i64) -> i64
+    ensures { λ r. ⌜ r ≡ operation code x y ⌝ }
+{
+    match code {
+        0 => wrapping_add(x, y),
+        1 => wrapping_sub(x, y),
+        2 => wrapping_mul(x, y),
+        3 => smaller(x, y),
+        4 => larger(x, y),
+        5 => x,
+        6 => y,
+        7 => equal(x, y),
+        8 => less(x, y),
+        _ => midpoint_toward_zero(x, y),
+    }
+}
