@@ -38,16 +38,17 @@ getD-any [] i d d′ h = let z : ⊥ = omega arith in absurd z
 getD-any (x ∷ l) zero d d′ h = refl
 getD-any (x ∷ l) (suc i) d d′ h = getD-any l i d d′ (omega arith)
 
+-- a signed number that is a natural number below 2^64, cast
+pub cast-nat : {z : ℤ} {n : ℕ} → z ≡ pos n → n < 2 ^ 64 → T (nonNeg z) × Fits w64 (natAbs z)
+cast-nat e h = rw e (tt, record { fits = h })
+
 -- a local that holds an end, cast to a natural number
 module _ {x : ℤ} {m : ℕ} (e : x ≡ pos m) (h : mag x < 2 ^ 63) where
   pub end-nat : natAbs (toZ w64 (ofZ w64 x)) ≡ m
   end-nat = ap natAbs (back x h ∙ e)
 
   pub end-cast : T (nonNeg (toZ w64 (ofZ w64 x))) × Fits w64 (natAbs (toZ w64 (ofZ w64 x)))
-  end-cast =
-      let b : toZ w64 (ofZ w64 x) ≡ pos m = back x h ∙ e in
-      let k : m < 2 ^ 63 = rw e at h in
-      rw b (tt, record { fits = omega arith })
+  end-cast = let k : m < 2 ^ 63 = rw e at h in cast-nat (back x h ∙ e) (omega arith)
 
 -- the result of a call on two signed parameters
 pub told-call : {x y r : ℤ} (op : ℤ → ℤ → ℤ) → SFits w64 x → SFits w64 y → mag r < 2 ^ 63

@@ -4,6 +4,8 @@ use mathlib.Core.Path.{_≡_}
 use Prim.Native.Nat.{ℕ, _+_, _*_, _-_, _/_, _%_, _^_, _≤_, _<_}
 use native.Mathlib.Nat.{div-add-mod', add-mul, mul-add, mul-comm, mul-assoc, mul-mul-mul-comm, mul-le-mul}
 use native.Mathlib.Omega.{arith}
+use mir.Syntax.{w64}
+use mir.Val.{Fits}
 
 abbrev H : ℕ
 H = 2 ^ 32
@@ -35,11 +37,11 @@ pub record HalfProducts (a b : ℕ) : Type 0 where
   pub low-high : a % 2 ^ 32 * (b / 2 ^ 32) ≤ (2 ^ 32 - 1) * (2 ^ 32 - 1)
   pub high-high : a / 2 ^ 32 * (b / 2 ^ 32) ≤ (2 ^ 32 - 1) * (2 ^ 32 - 1)
 
-pub half-products : (a b : ℕ) → a < 2 ^ 64 → b < 2 ^ 64 → HalfProducts a b
-half-products a b h k =
+pub half-products : {a b : ℕ} → Fits w64 a → Fits w64 b → HalfProducts a b
+half-products f g =
     record {
       low-low = half-product (omega arith) (omega arith);
       high-low = half-product (omega arith) (omega arith);
       low-high = half-product (omega arith) (omega arith);
-      high-high = half-product (omega arith) (omega arith)
+      high-high = half-product (omega arith) (omega arith);
     }

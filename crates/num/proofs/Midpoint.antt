@@ -1,11 +1,11 @@
 -- Half the exact sum of two i64, from their bits: those that both have count once, and half of those that differ.
 -- Assumes nothing.
-use mathlib.Core.Path.{_≡_, refl, sym, ap, _∙_}
+use mathlib.Core.Path.{_≡_, refl, ap, _∙_}
 use mathlib.Core.Bool.{true, false}
 use Prim.Native.Nat.{ℕ, zero, suc, _+_, _*_, _-_, _/_, _%_, _^_, _≤_, _<_}
 use native.Mathlib.Nat.{add-comm}
 use native.Mathlib.Omega.{arith}
-use lib.IntN.{ℤ, pos, negsuc, negℤ, natAbs, subℕ, _+ℤ_, +ℤ-comm}
+use lib.IntN.{ℤ, pos, negsuc, negℤ, natAbs, subℕ, _+ℤ_}
 use lib.Signed.{mag, ltZ, shrZ, mag-shr}
 use lib.Bits.{bitAnd, bitXor, and-shr, xor-shr, and-comm, xor-comm, and-mask, xor-add-and, and-lt, xor-lt, and-le-l}
 use lib.Dec.{ltb}
@@ -46,7 +46,7 @@ down-mag (pos n) h = omega arith
 down-mag (negsuc n) h = omega arith
 
 -- ---- halved down, and then toward zero
-pub down-zero : (z : ℤ) → ltZ (shrZ z 2) (pos 0) ≡ false → shrZ z 2 ≡ halved z
+down-zero : (z : ℤ) → ltZ (shrZ z 2) (pos 0) ≡ false → shrZ z 2 ≡ halved z
 down-zero (pos n) e = refl
 down-zero (negsuc n) e = absurd (let x : _≡_ {A = ℕ} 0 1 = cc in omega arith)
 
@@ -55,12 +55,12 @@ up-zero (pos n) e = absurd (let h = ltb-true (n / 2) 0 e in omega arith)
 up-zero (negsuc n) e =
     by-test (ltb (suc n % 2) (suc (n / 2)))
     (λ t. let h = ltb-true (suc n % 2) (suc (n / 2)) t in
-      let k : suc n / 2 ≡ suc (suc (n / 2) - suc (suc n % 2)) = omega arith in
-      rw (t, k))
+    let k : suc n / 2 ≡ suc (suc (n / 2) - suc (suc n % 2)) = omega arith in
+    rw (t, k))
     (λ t. let h = ltb-false (suc n % 2) (suc (n / 2)) t in
-      let k : suc n / 2 ≡ 0 = omega arith in
-      let j : suc n % 2 - suc (n / 2) ≡ 0 = omega arith in
-      rw (t, k, j))
+    let k : suc n / 2 ≡ 0 = omega arith in
+    let j : suc n % 2 - suc (n / 2) ≡ 0 = omega arith in
+    rw (t, k, j))
 
 -- ---- from the sum of the bits
 toZ-high : (n : ℕ) → 2 ^ 63 ≤ n → toZ w64 n ≡ negsuc (2 ^ 64 - suc n)
@@ -76,13 +76,13 @@ module _ {p q n m : ℕ} (h : p < 2 ^ 63) (k : q < 2 ^ 63) where
       rw (toZ-pos w64 i, toZ-high m j)
       (by-test (ltb p (suc q))
       (λ t. let g = ltb-true p (suc q) t in
-        let f : n < suc d = omega arith in
-        let e : suc d - suc n ≡ (suc q - suc p) / 2 = omega arith in
-        rw (t, lt-ltb n (suc d) f, e))
+      let f : n < suc d = omega arith in
+      let e : suc d - suc n ≡ (suc q - suc p) / 2 = omega arith in
+      rw (t, lt-ltb n (suc d) f, e))
       (λ t. let g = ltb-false p (suc q) t in
-        let f : suc d ≤ n = omega arith in
-        let e : n - suc d ≡ (p - suc q) / 2 = omega arith in
-        rw (t, le-ltb n (suc d) f, e)))
+      let f : suc d ≤ n = omega arith in
+      let e : n - suc d ≡ (p - suc q) / 2 = omega arith in
+      rw (t, le-ltb n (suc d) f, e)))
 
   down-negative : m + n * 2 ≡ (2 ^ 64 - suc p) + (2 ^ 64 - suc q) → 2 ^ 63 ≤ n → n < 2 ^ 64 → m < 2 ^ 63 → toZ w64 n +ℤ shrZ (toZ w64 m) 2 ≡ shrZ (negsuc p +ℤ negsuc q) 2
   down-negative s i l j =

@@ -2,16 +2,16 @@
 -- Assumes nothing.
 use mathlib.Core.Path.{_≡_, ap, _∙_}
 use mathlib.Core.Bool.{true, false}
-use Prim.Native.Nat.{ℕ, suc, _-_, _^_, _<_}
+use Prim.Native.Nat.{ℕ, suc, _-_, _^_}
 use native.Mathlib.Omega.{arith}
 use lib.IntN.{ℤ, pos, negsuc, natAbs}
-use lib.Signed.{ltZ, nonNeg}
-use lib.Dec.{T}
+use lib.Signed.{ltZ}
 use borrow.Author.Tests.{ltb-true}
 use mir.Syntax.{w64}
-use mir.Val.{Fits, SFits, toZ, ofZ}
-use mir.Facts.{toZ-pos, toZ-ofZ}
+use mir.Val.{SFits, toZ, ofZ}
+use mir.Facts.{toZ-pos, toZ-ofZ, sfits-lit}
 use Rattle.num.specs.Numbers.{residue}
+use Rattle.num.proofs.Bits.{told-lt}
 use Rattle.num.proofs.Residue.{residue-lt}
 
 -- all bits of a negative number flipped
@@ -25,16 +25,12 @@ plain : (z : ℤ) → SFits w64 z → ltZ z (pos 0) ≡ false → z ≡ pos (res
 plain (pos n) f e = let h : n ≡ residue (pos n) = omega arith in ap pos h
 plain (negsuc n) f e = absurd (let x : _≡_ {A = ℕ} 0 1 = cc in omega arith)
 
--- a signed number that is a natural number below 2^64 may be cast
-pub cast-nat : {z : ℤ} {n : ℕ} → z ≡ pos n → n < 2 ^ 64 → T (nonNeg z) × Fits w64 (natAbs z)
-cast-nat e h = rw e (tt, record { fits = h })
-
 module _ {z : ℤ} (f : SFits w64 z) where
   pub negative-flipped : ltZ (toZ w64 (ofZ w64 z)) (pos 0) ≡ true → toZ w64 (2 ^ 64 - 1 - ofZ w64 z) ≡ pos (2 ^ 64 - 1 - residue z)
-  negative-flipped e = flipped z f (rw (toZ-ofZ f) at e)
-
-  pub nonnegative-plain : ltZ (toZ w64 (ofZ w64 z)) (pos 0) ≡ false → toZ w64 (ofZ w64 z) ≡ pos (residue z)
-  nonnegative-plain e = toZ-ofZ f ∙ plain z f (rw (toZ-ofZ f) at e)
+  negative-flipped e = flipped z f (told-lt f (sfits-lit tt) e)
 
   pub flipped-back : ltZ (toZ w64 (ofZ w64 z)) (pos 0) ≡ true → 2 ^ 64 - 1 - natAbs (toZ w64 (2 ^ 64 - 1 - ofZ w64 z)) ≡ residue z
   flipped-back e = rw (negative-flipped e) (omega (arith, residue-lt z))
+
+  pub nonnegative-plain : ltZ (toZ w64 (ofZ w64 z)) (pos 0) ≡ false → toZ w64 (ofZ w64 z) ≡ pos (residue z)
+  nonnegative-plain e = toZ-ofZ f ∙ plain z f (told-lt f (sfits-lit tt) e)

@@ -1,16 +1,14 @@
 -- Numbers modulo 2^64, read as signed: they fit an i64, an i64 stays as it is, and wrapping on the way makes no difference.
 -- Assumes nothing.
-use mathlib.Core.Path.{_≡_, sym, ap, _∙_}
+use mathlib.Core.Path.{_≡_, ap, _∙_}
 use Prim.Native.Nat.{ℕ, _+_, _*_, _%_, _^_, _<_}
 use native.Mathlib.Omega.{arith}
 use lib.IntN.{ℤ, pos, negsuc, _+ℤ_, _-ℤ_, _*ℤ_}
-use lib.Signed.{mag}
 use lib.Dec.{ltb}
 use mir.Syntax.{w64}
 use mir.Val.{toZ, ofZ, SFits}
 use mir.Facts.{toZ-ofZ, ofZ-toZ, sfits-toZ}
 use Rattle.num.specs.Numbers.{residue, signed, wrap}
-use Rattle.num.proofs.Bits.{back}
 use Rattle.num.proofs.Residue.{residue-lt, residue-add, residue-sub, residue-mul}
 use Rattle.num.proofs.Tests.{by-test}
 
@@ -37,18 +35,32 @@ pub residue-wrap : (z : ℤ) → residue (wrap z) ≡ residue z
 residue-wrap z = residue-bits (wrap z) (wrap-fits z) ∙ ap (ofZ w64) (wrap-bits z) ∙ ofZ-toZ {w = w64} {n = residue z} (record { fits = residue-lt z })
 
 -- `wrap` asks only for the residue
-pub wrap-residue : (a b : ℤ) → residue a ≡ residue b → wrap a ≡ wrap b
+wrap-residue : (a b : ℤ) → residue a ≡ residue b → wrap a ≡ wrap b
 unfolding wrap
 wrap-residue a b e = ap signed e
 
-pub wrap-wrap : (z : ℤ) → wrap (wrap z) ≡ wrap z
-wrap-wrap z = wrap-residue (wrap z) z (residue-wrap z)
+-- of an operation whose result's residue the arguments' residues give
+module _ (op : ℤ → ℤ → ℤ) (of : ℕ → ℕ → ℕ) (law : (a b : ℤ) → residue (op a b) ≡ of (residue a) (residue b) % 2 ^ 64) (a b : ℤ) where
+  wrap-both : wrap (op (wrap a) (wrap b)) ≡ wrap (op a b)
+  wrap-both = wrap-residue (op (wrap a) (wrap b)) (op a b) (rw (law (wrap a) (wrap b), law a b, residue-wrap a, residue-wrap b))
+
+  wrap-left : wrap (op (wrap a) b) ≡ wrap (op a b)
+  wrap-left = wrap-residue (op (wrap a) b) (op a b) (rw (law (wrap a) b, law a b, residue-wrap a))
+
+  wrap-right : wrap (op a (wrap b)) ≡ wrap (op a b)
+  wrap-right = wrap-residue (op a (wrap b)) (op a b) (rw (law a (wrap b), law a b, residue-wrap b))
 
 pub wrap-add : (a b : ℤ) → wrap (wrap a +ℤ wrap b) ≡ wrap (a +ℤ b)
-wrap-add a b = wrap-residue (wrap a +ℤ wrap b) (a +ℤ b) (rw (residue-add (wrap a) (wrap b), residue-add a b, residue-wrap a, residue-wrap b))
+wrap-add = wrap-both _+ℤ_ _+_ residue-add
+
+pub wrap-add-left : (a b : ℤ) → wrap (wrap a +ℤ b) ≡ wrap (a +ℤ b)
+wrap-add-left = wrap-left _+ℤ_ _+_ residue-add
+
+pub wrap-add-right : (a b : ℤ) → wrap (a +ℤ wrap b) ≡ wrap (a +ℤ b)
+wrap-add-right = wrap-right _+ℤ_ _+_ residue-add
 
 pub wrap-mul : (a b : ℤ) → wrap (wrap a *ℤ wrap b) ≡ wrap (a *ℤ b)
-wrap-mul a b = wrap-residue (wrap a *ℤ wrap b) (a *ℤ b) (rw (residue-mul (wrap a) (wrap b), residue-mul a b, residue-wrap a, residue-wrap b))
+wrap-mul = wrap-both _*ℤ_ _*_ residue-mul
 
 from-residue : (z : ℤ) {r : ℤ} {s : ℕ} → r ≡ signed s → s ≡ residue z → toZ w64 (ofZ w64 r) ≡ wrap z
 unfolding wrap

@@ -4,7 +4,7 @@ ghost use lib.IntN.{_+ℤ_, _-ℤ_, _*ℤ_};
 ghost use lib.Signed.{ltZ};
 ghost use Rattle.num.specs.Numbers.{eqZ, residue, signed, wrap, saturated, smallerOf, largerOf, midpoint, flag, operation};
 
-// The two's complement bits: no instruction at -O3, where both arms are one.
+// The two's complement bits. A cast of a negative number is refused; these arms cost no instruction.
 pub fn as_unsigned(x: i64) -> u64
     ensures { λ r. ⌜ r ≡ residue x ⌝ }
 {
@@ -22,21 +22,21 @@ pub fn as_signed(bits: u64) -> i64
     }
 }
 
-// The sum modulo 2^64, read as signed.
+// Code 0: one addition, and no trap.
 pub fn wrapping_add(x: i64, y: i64) -> i64
     ensures { λ r. ⌜ r ≡ wrap (x +ℤ y) ⌝ }
 {
     as_signed(std::num::wrapping_add_u64(as_unsigned(x), as_unsigned(y)))
 }
 
-// The difference modulo 2^64, read as signed.
+// Code 1: one subtraction, and no trap.
 pub fn wrapping_sub(x: i64, y: i64) -> i64
     ensures { λ r. ⌜ r ≡ wrap (x -ℤ y) ⌝ }
 {
     as_signed(std::num::wrapping_sub_u64(as_unsigned(x), as_unsigned(y)))
 }
 
-// The product modulo 2^64, read as signed: one multiplication at -O3.
+// Code 2: one multiplication, as the high half goes away.
 pub fn wrapping_mul(x: i64, y: i64) -> i64
     ensures { λ r. ⌜ r ≡ wrap (x *ℤ y) ⌝ }
 {
@@ -50,6 +50,7 @@ pub struct Product {
     pub low: u64,
 }
 
+// Division by it is a shift, and its remainder a mask.
 const HALF: u64 = 0x1_0000_0000;
 
 // The product with no bit lost, from the four products of 32-bit halves.
@@ -73,7 +74,11 @@ pub fn full_product(a: u64, b: u64) -> Product
 pub fn saturating_add(a: usize, b: usize) -> usize
     ensures { λ r. ⌜ r ≡ saturated (a + b) ⌝ }
 {
-    if a <= usize::MAX - b { a + b } else { usize::MAX }
+    if a <= usize::MAX - b {
+        a + b
+    } else {
+        usize::MAX
+    }
 }
 
 // The product, or the greatest usize where the product is above it.
@@ -81,42 +86,49 @@ pub fn saturating_mul(a: usize, b: usize) -> usize
     ensures { λ r. ⌜ r ≡ saturated (a * b) ⌝ }
 {
     let product = full_product(a as u64, b as u64);
-    if product.high == 0 { product.low as usize } else { usize::MAX }
+    if product.high == 0 {
+        product.low as usize
+    } else {
+        usize::MAX
+    }
 }
 
+// Code 3, and where a segment of two runs ends; no branch is left of it.
 pub fn smaller(x: i64, y: i64) -> i64
     ensures { λ r. ⌜ r ≡ smallerOf x y ⌝ }
 {
     if x <= y { x } else { y }
 }
 
+// Code 4.
 pub fn larger(x: i64, y: i64) -> i64
     ensures { λ r. ⌜ r ≡ largerOf x y ⌝ }
 {
     if x <= y { y } else { x }
 }
 
+// Of two sizes or places.
 pub fn smaller_count(a: usize, b: usize) -> usize
     ensures { λ r. ⌜ r ≡ min a b ⌝ }
 {
     if a <= b { a } else { b }
 }
 
-// 1 or 0, as code 7 shows it.
+// Code 7.
 pub fn equal(x: i64, y: i64) -> i64
     ensures { λ r. ⌜ r ≡ flag (eqZ x y) ⌝ }
 {
     if x == y { 1 } else { 0 }
 }
 
-// 1 or 0, as code 8 shows it.
+// Code 8.
 pub fn less(x: i64, y: i64) -> i64
     ensures { λ r. ⌜ r ≡ flag (ltZ x y) ⌝ }
 {
     if x < y { 1 } else { 0 }
 }
 
-// The exact sum halved, which no sum of i64 holds: the bits that both have count once, and half of those that differ.
+// Code 9. The exact sum may fit no i64; half of it is the bits that both have, and half of those that differ.
 pub fn midpoint_toward_zero(x: i64, y: i64) -> i64
     ensures { λ r. ⌜ r ≡ midpoint x y ⌝ }
 {
@@ -125,7 +137,7 @@ pub fn midpoint_toward_zero(x: i64, y: i64) -> i64
     if down < 0 { down + (differ & 1) } else { down }
 }
 
-// What the operation of a code shows for two values. Callers refuse a code that is not listed; here it is the last.
+// What a code shows for two values. A code past the list is refused before it comes here.
 pub fn apply(code: u8, x: i64, y: i64) -> i64
     ensures { λ r. ⌜ r ≡ operation code x y ⌝ }
 {

@@ -10,16 +10,6 @@ use Rattle.num.proofs.Operation.{operation-last}
 use borrow.Author.Needs.{needs}
 use Rattle.num.proofs.apply.Statement.{statement}
 use Rattle.num.proofs.apply.Tie as tie
-use Rattle.num.proofs.apply.Reads as reads
-use Rattle.num.proofs.apply.Lts as lts
-use Rattle.num.proofs.equal.Reads as equal-reads
-use Rattle.num.proofs.larger.Reads as larger-reads
-use Rattle.num.proofs.less.Reads as less-reads
-use Rattle.num.proofs.midpoint_toward_zero.Reads as midpoint-toward-zero-reads
-use Rattle.num.proofs.smaller.Reads as smaller-reads
-use Rattle.num.proofs.wrapping_add.Reads as wrapping-add-reads
-use Rattle.num.proofs.wrapping_mul.Reads as wrapping-mul-reads
-use Rattle.num.proofs.wrapping_sub.Reads as wrapping-sub-reads
 
 wrapping-add-requires : tie.Need-wrapping-add-requires
 wrapping-add-requires c κs = search needs

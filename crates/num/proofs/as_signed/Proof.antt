@@ -1,7 +1,7 @@
 -- `num::as_signed` meets its contract.
 -- Assumes nothing.
-use mathlib.Core.Path.{_≡_, sym, _∙_}
-use Prim.Native.Nat.{_-_}
+use mathlib.Core.Path.{_≡_, sym}
+use Prim.Native.Nat.{_-_, _^_}
 use native.Mathlib.Omega.{arith}
 use borrow.Author.Needs.{needs}
 use Rattle.num.proofs.Wrap.{signed-bits}
@@ -20,7 +20,7 @@ returns c = search needs
 returns-2 : tie.Need-returns-2
 returns-2 c =
     let b = c .before .args .bits in
-    let e : 18446744073709551615 - (18446744073709551615 - b) ≡ b = omega arith in
+    let e : 2 ^ 64 - 1 - (2 ^ 64 - 1 - b) ≡ b = omega arith in
     rw e (sym (signed-bits b))
 
 pub as-signed-spec : {M : Type 1} → statement M

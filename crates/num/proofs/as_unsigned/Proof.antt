@@ -3,8 +3,9 @@
 use mathlib.Core.Path.{ap}
 use native.Mathlib.Omega.{arith}
 use lib.IntN.{natAbs}
+use Rattle.num.proofs.Bits.{cast-nat}
 use Rattle.num.proofs.Residue.{residue-lt}
-use Rattle.num.proofs.Unsigned.{cast-nat, negative-flipped, nonnegative-plain, flipped-back}
+use Rattle.num.proofs.Unsigned.{negative-flipped, nonnegative-plain, flipped-back}
 use Rattle.num.proofs.as_unsigned.Statement.{statement}
 use Rattle.num.proofs.as_unsigned.Tie as tie
 

@@ -2,38 +2,33 @@
 -- Assumes nothing.
 use native.Mathlib.Omega.{arith}
 use borrow.Author.Needs.{needs}
-use Rattle.num.proofs.Halves.{HalfProducts, by-halves, half-products}
+use Rattle.num.proofs.Halves.{by-halves, half-products}
 use Rattle.num.proofs.full_product.Statement.{statement}
 use Rattle.num.proofs.full_product.Tie as tie
-use Rattle.num.proofs.full_product.Reads as reads
-use Rattle.num.proofs.full_product.Lts as lts
-
-bounds : (c : lts.Start reads.Pre reads.Post) → HalfProducts (c .args .a) (c .args .b)
-bounds c = half-products (c .args .a) (c .args .b) (omega arith) (omega arith)
 
 mul-low : tie.Need-mul-low
-mul-low c = let h = bounds c in search needs
+mul-low c = let h = half-products (c .fits .a) (c .fits .b) in search needs
 
 mul-left : tie.Need-mul-left
-mul-left c = let h = bounds c in search needs
+mul-left c = let h = half-products (c .fits .a) (c .fits .b) in search needs
 
 add-left : tie.Need-add-left
-add-left c = let h = bounds c in search needs
+add-left c = let h = half-products (c .fits .a) (c .fits .b) in search needs
 
 mul-right : tie.Need-mul-right
-mul-right c = let h = bounds c in search needs
+mul-right c = let h = half-products (c .fits .a) (c .fits .b) in search needs
 
 add-right : tie.Need-add-right
-add-right c = let h = bounds c in search needs
+add-right c = let h = half-products (c .fits .a) (c .fits .b) in search needs
 
 mul-t10 : tie.Need-mul-t10
-mul-t10 c = let h = bounds c in search needs
+mul-t10 c = let h = half-products (c .fits .a) (c .fits .b) in search needs
 
 add-t12 : tie.Need-add-t12
-add-t12 c = let h = bounds c in search needs
+add-t12 c = let h = half-products (c .fits .a) (c .fits .b) in search needs
 
 add-t14 : tie.Need-add-t14
-add-t14 c = let h = bounds c in search needs
+add-t14 c = let h = half-products (c .fits .a) (c .fits .b) in search needs
 
 mul-t16 : tie.Need-mul-t16
 mul-t16 c = search needs

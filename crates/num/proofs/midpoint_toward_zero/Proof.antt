@@ -1,6 +1,5 @@
 -- `num::midpoint_toward_zero` meets its contract.
 -- Assumes nothing.
-use mathlib.Core.Path.{_∙_}
 use mir.Facts.{toZ-ofZ}
 use Rattle.num.proofs.Midpoint.{down-sum, down-fits, midpoint-fits, midpoint-down, midpoint-up}
 use Rattle.num.proofs.midpoint_toward_zero.Statement.{statement}
