@@ -1,0 +1,54 @@
+-- The first "no" of several questions.
+-- Assumes nothing.
+use Prim.Native.Nat.{ℕ, suc, _+_, _≤_, _<_}
+use mathlib.Core.Option.{none, some}
+use mathlib.Core.List.{List, [], _∷_}
+use mathlib.Core.Path.{_≡_, refl, sym, _∙_}
+use native.Mathlib.Numerals.{add-one}
+use lib.ListN.{length, getD, drop, drop-of-length-le}
+use lib.Seq.{drop-cons}
+use Rattle.column.specs.Paper.{PaperRefusal, answers}
+use Rattle.column.specs.Asking.{Question, firstNo, _otherwise_, eachFrom}
+
+-- a question by itself
+pub alone : (q : Question) → firstNo (q ∷ []) ≡ q
+alone none = refl
+alone (some r) = refl
+
+-- ---- "yes" to all is "yes" to each
+
+pub first-yes : (q : Question) (qs : List Question) → firstNo (q ∷ qs) ≡ none → q ≡ none
+first-yes none qs e = refl
+first-yes (some r) qs e = e
+
+pub rest-yes : (q : Question) (qs : List Question) → firstNo (q ∷ qs) ≡ none → firstNo qs ≡ none
+rest-yes none qs e = e
+rest-yes (some r) qs e = cc
+
+pub answered-yes : {X : Type 0} (q : Question) (x y : X) → q otherwise x ≡ answers y → q ≡ none
+answered-yes none x y e = refl
+answered-yes (some r) x y e = cc
+
+-- ---- a question and those behind it, as the code puts them: what is asked later counts only after a "yes"
+
+pub asked-next : {r a b : Question} (q : Question) (qs : List Question) → r ≡ firstNo (a ∷ b ∷ []) → a ≡ q → (q ≡ none → b ≡ firstNo qs) → r ≡ firstNo (q ∷ qs)
+asked-next {b = b} none qs e p h = e ∙ rw p (alone b ∙ h refl)
+asked-next (some r) qs e p h = e ∙ rw p
+
+pub asked-last : {r a b : Question} (p : Question) {q : Question} → r ≡ firstNo (a ∷ b ∷ []) → a ≡ p → (p ≡ none → b ≡ q) → r ≡ firstNo (p ∷ q ∷ [])
+asked-last p {q} e h k = asked-next p (q ∷ []) e h (λ y. k y ∙ sym (alone q))
+
+-- ---- a question put to each entry, at the entry that comes next
+
+module _ {A : Type 0} (q : ℕ → A → Question) (i : ℕ) (xs : List A) (d : A) where
+  pub each-next : i < length xs → q i (getD xs i d) ≡ none → eachFrom q i (drop i xs) ≡ eachFrom q (i + 1) (drop (i + 1) xs)
+  unfolding eachFrom
+  each-next h e = rw (add-one, drop-cons xs i d, e) (alone (eachFrom q (suc i) (drop (suc i) xs)))
+
+  pub each-refused : {r : PaperRefusal} → i < length xs → q i (getD xs i d) ≡ some r → eachFrom q i (drop i xs) ≡ some r
+  unfolding eachFrom
+  each-refused h e = rw (drop-cons xs i d, e)
+
+  pub each-end : length xs ≤ i → eachFrom q i (drop i xs) ≡ none
+  unfolding eachFrom
+  each-end h = rw drop-of-length-le

@@ -1,0 +1,15 @@
+pub mod Buffer
+pub mod Canonical
+pub mod Encode
+pub mod Encoded
+pub mod FirstNo
+pub mod Lists
+pub mod Merging
+pub mod Naturals
+pub mod Parts
+pub mod Promised
+pub mod Pushed
+pub mod Rest
+pub mod Rising
+pub mod Sequences
+pub mod YesNo

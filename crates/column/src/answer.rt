@@ -1,0 +1,44 @@
+use crate::error::Refusal;
+
+// What a question is answered.
+pub enum Asked {
+    Yes,
+    No(Refusal),
+}
+
+// What stands where a column has ended.
+pub enum Fill {
+    Value(i64),
+    Missing,
+}
+
+// The answer of a call that only checks.
+pub enum Checked {
+    Valid,
+    Refused(Refusal),
+}
+
+// The answer of a call that fills each output buffer with so many entries.
+pub enum Counted {
+    Count(usize),
+    Refused(Refusal),
+}
+
+// The answer of a search.
+pub enum Found {
+    At(usize),
+    Nothing,
+    Refused(Refusal),
+}
+
+// The counts of a batch; its offsets are one more than its keys.
+pub struct RleBatch {
+    pub keys: usize,
+    pub runs: usize,
+}
+
+// The answer of a call that fills the buffers of a batch.
+pub enum Batched {
+    Batch(RleBatch),
+    Refused(Refusal),
+}

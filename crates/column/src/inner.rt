@@ -1,0 +1,35 @@
+// Workers that assume what their callers have asked.
+ghost use Prim.Native.Nat.{_+_, _<_, _^_};
+ghost use mathlib.Core.Path.{_≡_};
+ghost use lib.ListN.{length};
+ghost use Rattle.column.specs.Writing.{placeAfter, nextPlace, PushedMerged};
+
+// The last run that was written: its place and its value. Before the first run they are 0 and that run's own value.
+pub struct Writer {
+    pub at: usize,
+    pub last: i64,
+}
+
+fn place_after(at: usize, last: i64, value: i64) -> usize
+    requires { ⌜ at + 1 < 2 ^ 64 ⌝ }
+    ensures { λ r. ⌜ r ≡ placeAfter at last value ⌝ }
+{
+    if value != last { at + 1 } else { at }
+}
+
+// A run up to `end` behind the runs so far: the last run grows if it has the value already.
+pub fn push_merged(
+    writer: Writer,
+    out_ends: &mut [i64],
+    out_values: &mut [i64],
+    end: i64,
+    value: i64,
+) -> Writer
+    requires { ⌜ (writer .at + 1 < 2 ^ 64) × (nextPlace writer value < length (now «out_ends»)) × (nextPlace writer value < length (now «out_values»)) ⌝ }
+    ensures { λ r. ⌜ PushedMerged writer end value (now («out_ends» .entry)) (now («out_ends» .exit)) (now («out_values» .entry)) (now («out_values» .exit)) r ⌝ }
+{
+    let at = place_after(writer.at, writer.last, value);
+    out_ends[at] = end;
+    out_values[at] = value;
+    Writer { at, last: value }
+}

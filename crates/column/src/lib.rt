@@ -1,0 +1,5 @@
+pub mod answer;
+pub mod error;
+pub mod inner;
+pub mod questions;
+pub mod sequence;

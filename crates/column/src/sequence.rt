@@ -1,0 +1,48 @@
+// Reading the flat lists of a sequence.
+ghost use mathlib.Core.Path.{_≡_};
+ghost use lib.ListN.{getD};
+ghost use Rattle.column.specs.Lists.{part};
+ghost use Rattle.column.specs.Runs.{magnitude, lengthOfEnds};
+
+// A number that is not negative, as a count; a negative one counts as 0.
+pub fn magnitude(x: i64) -> usize
+    ensures { λ r. ⌜ r ≡ magnitude x ⌝ }
+{
+    if x < 0 { 0 } else { x as usize }
+}
+
+// The length of a sequence: its last end, or 0.
+pub fn length(ends: &[i64]) -> i64
+    ensures { λ r. ⌜ r ≡ lengthOfEnds (now (ends .entry)) ⌝ }
+{
+    let n = ends.len();
+    if n == 0 { 0 } else { ends[n - 1] }
+}
+
+// The entry at an index, or another number past the last.
+pub fn entry_or(entries: &[i64], index: usize, otherwise: i64) -> i64
+    ensures { λ r. ⌜ r ≡ getD (now (entries .entry)) index otherwise ⌝ }
+{
+    if index < entries.len() {
+        entries[index]
+    } else {
+        otherwise
+    }
+}
+
+// The entries from one index up to another, as far as there are any.
+pub fn part(entries: &[i64], from: usize, to: usize) -> &[i64]
+    ensures { λ r. ⌜ now r ≡ part from to (now (entries .entry)) ⌝ }
+{
+    let n = entries.len();
+    if n < from {
+        return &entries[n..];
+    }
+    if to < from {
+        return &entries[from..from];
+    }
+    if n < to {
+        return &entries[from..];
+    }
+    &entries[from..to]
+}
