@@ -1,7 +1,9 @@
 pub mod Buffer
 pub mod Canonical
+pub mod Dense
 pub mod Encode
 pub mod Encoded
+pub mod Ends
 pub mod FirstNo
 pub mod Lists
 pub mod Merging
@@ -12,4 +14,6 @@ pub mod Pushed
 pub mod Rest
 pub mod Rising
 pub mod Sequences
+pub mod Told
+pub mod Used
 pub mod YesNo

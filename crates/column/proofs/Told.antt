@@ -1,0 +1,51 @@
+-- What a question tells where it is answered "yes".
+-- Assumes nothing.
+use Prim.Native.Nat.{ℕ, _≤_, _<_, _^_, min}
+use mathlib.Core.Bool.{Bool, true, false}
+use mathlib.Core.Option.{none}
+use mathlib.Core.List.{List, [], _∷_}
+use mathlib.Core.Path.{_≡_, refl, _∙_, sym}
+use native.Mathlib.Omega.{arith}
+use lib.Dec.{eqb, leb, ltb}
+use lib.IntN.{ℤ, pos}
+use lib.Signed.{leZ, ltZ}
+use borrow.Author.Tests.{eqb-true, leb-true, ltb-true}
+use Rattle.column.specs.Asking.{Question, refusal, _unless_}
+use Rattle.column.specs.Questions.{agree, usedWithin, notNegative, fits, longEnough, roomAt, room, both}
+use Rattle.column.proofs.FirstNo.{alone, first-yes, rest-yes}
+use Rattle.column.proofs.Naturals.{le-nlt}
+use Rattle.column.proofs.YesNo.{room-both}
+
+-- the test of a question that is one test
+told : (number : ℕ) (values : List ℤ) (t : Bool) → refusal number values unless t ≡ none → t ≡ true
+told number values true e = refl
+told number values false e = cc
+
+pub agree-told : (what left right : ℕ) → agree what left right ≡ none → left ≡ right
+unfolding agree
+agree-told what left right e = eqb-true left right (told 2 _ (eqb left right) e)
+
+pub used-told : (used ends values : ℕ) → usedWithin used ends values ≡ none → used ≤ min ends values
+unfolding usedWithin
+used-told used ends values e = leb-true used (min ends values) (told 2 _ (leb used (min ends values)) e)
+
+pub negative-told : (i : ℕ) (run : ℤ) → notNegative i run ≡ none → ltZ run (pos 0) ≡ false
+unfolding notNegative
+negative-told i run e = le-nlt (pos 0) run (told 6 _ (leZ (pos 0) run) e)
+
+pub fits-told : (n : ℕ) → fits n ≡ none → n < 2 ^ 63
+unfolding fits
+fits-told n e = ltb-true n (2 ^ 63) (told 7 _ (ltb n (2 ^ 63)) e)
+
+pub long-told : (requested present : ℤ) → longEnough requested present ≡ none → leZ present requested ≡ true
+unfolding longEnough
+long-told requested present e = told 11 _ (leZ present requested) e
+
+pub room-told : (which needed given : ℕ) → roomAt which needed given ≡ none → needed ≤ given
+unfolding roomAt
+room-told which needed given e = leb-true needed given (told 12 _ (leb needed given) e)
+
+pub both-told : (n e v : ℕ) → room (both n) (e ∷ v ∷ []) ≡ none → (n ≤ e) × (n ≤ v)
+both-told n e v h =
+    let k = sym (room-both n e v) ∙ h in
+    (room-told 0 n e (first-yes (roomAt 0 n e) (roomAt 1 n v ∷ []) k), room-told 1 n v (sym (alone (roomAt 1 n v)) ∙ rest-yes (roomAt 0 n e) (roomAt 1 n v ∷ []) k))
