@@ -15,6 +15,12 @@ pub alone : (q : Question) → firstNo (q ∷ []) ≡ q
 alone none = refl
 alone (some r) = refl
 
+-- two questions put as one
+pub first-two : (q q′ : Question) (qs : List Question) → firstNo (q ∷ q′ ∷ qs) ≡ firstNo (firstNo (q ∷ q′ ∷ []) ∷ qs)
+first-two none none qs = refl
+first-two none (some r) qs = refl
+first-two (some r) q′ qs = refl
+
 -- ---- "yes" to all is "yes" to each
 
 pub first-yes : (q : Question) (qs : List Question) → firstNo (q ∷ qs) ≡ none → q ≡ none
@@ -24,6 +30,14 @@ first-yes (some r) qs e = e
 pub rest-yes : (q : Question) (qs : List Question) → firstNo (q ∷ qs) ≡ none → firstNo qs ≡ none
 rest-yes none qs e = e
 rest-yes (some r) qs e = cc
+
+abbrev pub AllYes : List Question → Type 0
+AllYes [] = Unit {0}
+AllYes (q ∷ qs) = (q ≡ none) × AllYes qs
+
+pub all-yes : (qs : List Question) → firstNo qs ≡ none → AllYes qs
+all-yes [] e = tt
+all-yes (q ∷ qs) e = (first-yes q qs e, all-yes qs (rest-yes q qs e))
 
 pub answered-yes : {X : Type 0} (q : Question) (x y : X) → q otherwise x ≡ answers y → q ≡ none
 answered-yes none x y e = refl

@@ -1,24 +1,41 @@
--- What a worker wrote, where a call answers, is what the call promises; and so is what was there, where it refuses.
+-- What a worker wrote, after a "yes" to every question, is what a call promises; and so is what was there, after a "no".
 -- Assumes nothing.
 use Prim.Native.Nat.{ℕ}
+use mathlib.Core.Option.{none, some}
 use mathlib.Core.List.{List}
-use mathlib.Core.Path.{_≡_, refl, ap}
+use mathlib.Core.Path.{_≡_, refl, ap, _∙_, sym}
 use lib.IntN.{ℤ}
 use lib.ListN.{length}
+use Rattle.column.specs.declared.answer.Asked.{Asked}
+use Rattle.column.specs.declared.answer.Checked.{Checked}
 use Rattle.column.specs.declared.answer.Counted.{Counted}
 use Rattle.column.specs.declared.error.Refusal.{Refusal}
-use Rattle.column.specs.Paper.{Outcome, answers, refuses, paper, WritesRuns, WritesEntries}
+use Rattle.column.specs.Asking.{Question, shownAsked, _otherwise_}
+use Rattle.column.specs.Paper.{answers, paper, shownChecked, WritesRuns, WritesEntries}
 use Rattle.column.specs.Runs.{Runs, over, Filled}
 
-pub runs-written : {o : Outcome Runs} {rs : Runs} {e e′ v v′ : List ℤ} {n : ℕ} → o ≡ answers rs → Filled rs e e′ v v′ n → WritesRuns o (Counted.Count n) e e′ v v′
-runs-written h f = rw h (record { answer = ap answers (f .count); ends = f .ends; values = f .values })
+-- what the code found, as the question's answer
+pub asked-yes : {a : Asked} {q : Question} → shownAsked a ≡ q → a ≡ Asked.Yes → q ≡ none
+asked-yes e h = sym e ∙ ap shownAsked h
 
-pub runs-refused : {o : Outcome Runs} {r : Refusal} {e v : List ℤ} → o ≡ refuses (paper r) → WritesRuns o (Counted.Refused r) e e v v
-runs-refused h = rw h (record { answer = refl; ends = refl; values = refl })
+pub asked-no : {a : Asked} {q : Question} (r : Refusal) → shownAsked a ≡ q → a ≡ Asked.No r → q ≡ some (paper r)
+asked-no r e h = sym e ∙ ap shownAsked h
+
+pub runs-written : {q : Question} (rs : Runs) {e e′ v v′ : List ℤ} {n : ℕ} → q ≡ none → Filled rs e e′ v v′ n → WritesRuns (q otherwise rs) (Counted.Count n) e e′ v v′
+runs-written rs h f = rw h (record { answer = ap answers (f .count); ends = f .ends; values = f .values })
+
+pub runs-refused : {q : Question} (rs : Runs) {r : Refusal} {e v : List ℤ} → q ≡ some (paper r) → WritesRuns (q otherwise rs) (Counted.Refused r) e e v v
+runs-refused rs h = rw h (record { answer = refl; ends = refl; values = refl })
 
 module _ {A : Type 0} where
-  pub entries-written : {o : Outcome (List A)} {xs b b′ : List A} {n : ℕ} → o ≡ answers xs → n ≡ length xs → b′ ≡ over xs b → WritesEntries o (Counted.Count n) b b′
-  entries-written h e f = rw h (record { answer = ap answers e; entries = f })
+  pub entries-written : {q : Question} (xs : List A) {b b′ : List A} {n : ℕ} → q ≡ none → n ≡ length xs → b′ ≡ over xs b → WritesEntries (q otherwise xs) (Counted.Count n) b b′
+  entries-written xs h e f = rw h (record { answer = ap answers e; entries = f })
 
-  pub entries-refused : {o : Outcome (List A)} {b : List A} {r : Refusal} → o ≡ refuses (paper r) → WritesEntries o (Counted.Refused r) b b
-  entries-refused h = rw h (record { answer = refl; entries = refl })
+  pub entries-refused : {q : Question} (xs : List A) {b : List A} {r : Refusal} → q ≡ some (paper r) → WritesEntries (q otherwise xs) (Counted.Refused r) b b
+  entries-refused xs h = rw h (record { answer = refl; entries = refl })
+
+pub checked-valid : {q : Question} → q ≡ none → shownChecked Checked.Valid ≡ q otherwise tt
+checked-valid h = rw h
+
+pub checked-refused : {q : Question} (r : Refusal) → q ≡ some (paper r) → shownChecked (Checked.Refused r) ≡ q otherwise tt
+checked-refused r h = rw h

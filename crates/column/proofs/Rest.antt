@@ -1,7 +1,7 @@
 -- Runs written into the rest of the same buffers, behind those of an earlier call: what `&mut b[used..]` lends and brings home.
 -- Assumes nothing.
 use Prim.Native.Nat.{ℕ, _+_, _-_, _≤_}
-use mathlib.Core.List.{List, _++_, map-append, append-nil}
+use mathlib.Core.List.{List, _++_, append-nil}
 use mathlib.Core.Path.{_≡_, ap, ap₂, sym, _∙_}
 use native.Mathlib.Omega.{arith}
 use borrow.Rule.Slice.PartMut.{putMid, post-is}
@@ -10,7 +10,7 @@ use lib.ListN.{length, take, drop, length-drop, length-append}
 use lib.Seq.{take-all, drop-length}
 use Rattle.column.specs.Runs.{Runs, endsOf, valuesOf, over, Filled}
 use Rattle.column.proofs.Buffer.{over-rest}
-use Rattle.column.proofs.Sequences.{length-ends, length-values}
+use Rattle.column.proofs.Sequences.{length-ends, length-values, ends-append, values-append}
 
 module _ {A : Type 0} where
   -- the rest is lent
@@ -31,14 +31,6 @@ module _ {A : Type 0} where
       rest-home n now back h
       ∙ ap (λ (r : List A). take n now ++ r) (q ∙ ap (over ys) (rest-lent n now))
       ∙ rw (e, p) (over-rest xs ys before)
-
-ends-append : (rs ss : Runs) → endsOf (rs ++ ss) ≡ endsOf rs ++ endsOf ss
-unfolding endsOf
-ends-append rs ss = simp map-append
-
-values-append : (rs ss : Runs) → valuesOf (rs ++ ss) ≡ valuesOf rs ++ valuesOf ss
-unfolding valuesOf
-values-append rs ss = simp map-append
 
 module _ (rs ss : Runs) (e e₁ e₂ v v₁ v₂ : List ℤ) (n m : ℕ) where
   -- the runs of two calls, one behind the other

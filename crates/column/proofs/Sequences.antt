@@ -1,7 +1,7 @@
 -- The two flat lists of a sequence, and its runs.
 -- Assumes nothing.
 use Prim.Native.Nat.{ℕ, suc, _-_}
-use mathlib.Core.List.{List, [], _∷_}
+use mathlib.Core.List.{List, [], _∷_, _++_, map-append}
 use mathlib.Core.Path.{_≡_, refl, ap, _∙_}
 use native.Mathlib.Omega.{arith}
 use lib.IntN.{ℤ, pos}
@@ -15,6 +15,14 @@ length-ends rs = length-map rs (λ (r : Run). pos (r .end))
 pub length-values : (rs : Runs) → length (valuesOf rs) ≡ length rs
 unfolding valuesOf
 length-values rs = length-map rs (λ (r : Run). r .value)
+
+pub ends-append : (rs ss : Runs) → endsOf (rs ++ ss) ≡ endsOf rs ++ endsOf ss
+unfolding endsOf
+ends-append rs ss = simp map-append
+
+pub values-append : (rs ss : Runs) → valuesOf (rs ++ ss) ≡ valuesOf rs ++ valuesOf ss
+unfolding valuesOf
+values-append rs ss = simp map-append
 
 -- runs laid flat are those runs
 pub runs-flat : (rs : Runs) → runsOf (endsOf rs) (valuesOf rs) ≡ rs

@@ -1,18 +1,21 @@
 -- What a question tells where it is answered "yes".
 -- Assumes nothing.
-use Prim.Native.Nat.{ℕ, _≤_, _<_, _^_, min}
+use Prim.Native.Nat.{ℕ, suc, _+_, _≤_, _<_, _^_, min}
 use mathlib.Core.Bool.{Bool, true, false}
 use mathlib.Core.Option.{none}
 use mathlib.Core.List.{List, [], _∷_}
 use mathlib.Core.Path.{_≡_, refl, _∙_, sym}
-use native.Mathlib.Omega.{arith}
+use native.Mathlib.Numerals.{add-one}
 use lib.Dec.{eqb, leb, ltb}
 use lib.IntN.{ℤ, pos}
+use lib.ListN.{length, getD, drop}
+use lib.Seq.{drop-cons}
 use lib.Signed.{leZ, ltZ}
 use borrow.Author.Tests.{eqb-true, leb-true, ltb-true}
 use Rattle.column.specs.Asking.{Question, refusal, _unless_}
-use Rattle.column.specs.Questions.{agree, usedWithin, notNegative, fits, longEnough, roomAt, room, both}
-use Rattle.column.proofs.FirstNo.{alone, first-yes, rest-yes}
+use Rattle.column.specs.Questions.{agree, usedWithin, notNegative, fits, runByRun, longEnough, roomAt, room, both}
+use Rattle.column.specs.Runs.{magnitude}
+use Rattle.column.proofs.FirstNo.{AllYes, all-yes}
 use Rattle.column.proofs.Naturals.{le-nlt}
 use Rattle.column.proofs.YesNo.{room-both}
 
@@ -47,5 +50,27 @@ room-told which needed given e = leb-true needed given (told 12 _ (leb needed gi
 
 pub both-told : (n e v : ℕ) → room (both n) (e ∷ v ∷ []) ≡ none → (n ≤ e) × (n ≤ v)
 both-told n e v h =
-    let k = sym (room-both n e v) ∙ h in
-    (room-told 0 n e (first-yes (roomAt 0 n e) (roomAt 1 n v ∷ []) k), room-told 1 n v (sym (alone (roomAt 1 n v)) ∙ rest-yes (roomAt 0 n e) (roomAt 1 n v ∷ []) k))
+    let k = all-yes (roomAt 0 n e ∷ roomAt 1 n v ∷ []) (sym (room-both n e v) ∙ h) in
+    (room-told 0 n e (k .0), room-told 1 n v (k .1 .0))
+
+-- 6 and 7, at the run that comes next: p is the length so far
+module _ (p i : ℕ) (rs : List ℤ) (h : i < length rs) (yes : runByRun i p (drop i rs) ≡ none) where
+  abbrev run : ℤ
+  run = getD rs i (pos 0)
+
+  rest : Question
+  rest = runByRun (suc i) (p + magnitude run) (drop (suc i) rs)
+
+  next : AllYes (notNegative i run ∷ fits (p + magnitude run) ∷ rest ∷ [])
+  unfolding runByRun rest
+  next = all-yes (notNegative i run ∷ fits (p + magnitude run) ∷ rest ∷ []) (rw (drop-cons rs i (pos 0)) at yes)
+
+  pub run-natural : ltZ run (pos 0) ≡ false
+  run-natural = negative-told i run (next .0)
+
+  pub run-fits : p + magnitude run < 2 ^ 63
+  run-fits = fits-told (p + magnitude run) (next .1 .0)
+
+  pub runs-yes : runByRun (i + 1) (p + magnitude run) (drop (i + 1) rs) ≡ none
+  unfolding rest
+  runs-yes = rw (add-one i) (next .1 .1 .0)

@@ -172,6 +172,14 @@ pub room-next : (i n g : ℕ) (ns gs : List ℕ) → roomFrom i (n ∷ ns) (g �
 unfolding roomFrom
 room-next i n g ns gs = refl
 
+pub room-one : (n g : ℕ) → room (n ∷ []) (g ∷ []) ≡ roomAt 0 n g
+unfolding room roomFrom
+room-one n g = split (roomAt 0 n g)
+  where
+    split : (q : Question) → firstNo (q ∷ none ∷ []) ≡ q
+    split none = refl
+    split (some r) = refl
+
 pub room-both : (n e v : ℕ) → room (both n) (e ∷ v ∷ []) ≡ firstNo (roomAt 0 n e ∷ roomAt 1 n v ∷ [])
 unfolding room roomFrom
 room-both n e v = split (roomAt 0 n e) (roomAt 1 n v)

@@ -14,8 +14,8 @@ ghost use lib.Signed.{ltZ};
 ghost use Rattle.column.specs.Asking.{shownAsked, refusal, firstNo, inKey};
 ghost use Rattle.column.specs.Lists.{any};
 ghost use Rattle.column.specs.Paper.{numberOf, shownBy};
-ghost use Rattle.column.specs.Questions.{listed, maskListed, agree, usedWithin, startAndRise, lastOffset, offsetsRise, offsetsValid, endsValid, sequencesValid, atMost, notNegative, fits, runByRun, distinctKeys, intervals, side, isMissing, filled, longEnough, roomAt, room, both};
-ghost use Rattle.column.specs.Runs.{magnitude};
+ghost use Rattle.column.specs.Questions.{listed, maskListed, agree, paired, usedWithin, startAndRise, lastOffset, offsetsRise, offsetsValid, endsValid, sequencesValid, atMost, notNegative, fits, runByRun, distinctKeys, intervals, side, isMissing, filled, longEnough, roomAt, room, both};
+ghost use Rattle.column.specs.Runs.{sequence, magnitude};
 
 // The first length that does not fit i64.
 const LIMIT: usize = 0x8000_0000_0000_0000;
@@ -160,6 +160,13 @@ pub fn ask_ends(ends: &[i64]) -> Asked
         i += 1;
     }
     Asked::Yes
+}
+
+// What 3 of 2, and 4, of one sequence.
+pub fn ask_sequence(ends: &[i64], values: &[i64]) -> Asked
+    ensures { λ r. ⌜ shownAsked r ≡ firstNo (paired (sequence (now (ends .entry)) (now (values .entry))) ∷ endsValid (now (ends .entry)) ∷ []) ⌝ }
+{
+    first_no(ask_lengths(3, ends.len(), values.len()), ask_ends(ends))
 }
 
 // The same answer, for the key or sequence at a position.

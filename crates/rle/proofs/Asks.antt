@@ -1,0 +1,82 @@
+-- The questions of each call, as the code joins them. Of what is asked later only what holds after a "yes" is used.
+-- Assumes nothing.
+use Prim.Native.Nat.{ℕ, _+_, _-_, _≤_, _<_, _^_}
+use mathlib.Core.Option.{none}
+use mathlib.Core.List.{List, [], _∷_}
+use mathlib.Core.Path.{_≡_, ap, sym, _∙_}
+use native.Mathlib.Omega.{arith}
+use lib.IntN.{ℤ, pos}
+use lib.ListN.{length, take}
+use Rattle.column.specs.Asking.{Question, firstNo}
+use Rattle.column.specs.Lists.{part}
+use Rattle.column.specs.Questions.{agree, paired, usedWithin, endsValid, notNegative, fits, runByRun, longEnough, roomAt, room, both}
+use Rattle.column.specs.Runs.{sequence, magnitude, runsOf, lengthOf, lengthOfEnds}
+use Rattle.column.proofs.Ends.{length-of-ends}
+use Rattle.column.proofs.FirstNo.{all-yes, asked-next, asked-last, first-two}
+use Rattle.column.proofs.Told.{agree-told, used-told}
+use Rattle.column.proofs.Used.{used-paired}
+use Rattle.column.proofs.YesNo.{room-one}
+use Rattle.rle.specs.Rle.{fromRunsAsked, pushRunAsked, extendToAsked, toDenseAsked, presentLength, roomForOne}
+use Rattle.rle.proofs.Behind.{first-part}
+
+pub from-runs-asked : (runs values : List ℤ) (e v : ℕ) {r a b c d : Question} → r ≡ firstNo (a ∷ b ∷ []) → a ≡ agree 1 (length runs) (length values) → b ≡ firstNo (c ∷ d ∷ [])
+    → c ≡ runByRun 0 0 runs → d ≡ room (both (length runs)) (e ∷ v ∷ []) → r ≡ fromRunsAsked runs values (e ∷ v ∷ [])
+unfolding fromRunsAsked
+from-runs-asked runs values e v h p k q s =
+    asked-next (agree 1 (length runs) (length values)) (runByRun 0 0 runs ∷ room (both (length runs)) (e ∷ v ∷ []) ∷ []) h p (λ y. asked-last (runByRun 0 0 runs) k q (λ z. s))
+
+pub to-dense-asked : (es vs : List ℤ) (g : ℕ) {r a b : Question} {n : ℕ} {x : ℤ} → r ≡ firstNo (a ∷ b ∷ []) → a ≡ firstNo (paired (sequence es vs) ∷ endsValid es ∷ [])
+    → b ≡ roomAt 0 n g → n ≡ magnitude x → x ≡ lengthOfEnds es → r ≡ toDenseAsked (sequence es vs) (g ∷ [])
+unfolding toDenseAsked paired
+to-dense-asked es vs g h p q en ex =
+    asked-last (firstNo (paired (sequence es vs) ∷ endsValid es ∷ [])) h p
+    (λ y. let z = all-yes (paired (sequence es vs) ∷ endsValid es ∷ []) y in
+    let l = length-of-ends es vs (z .1 .0) (agree-told 3 (length es) (length vs) (z .0)) in
+    q ∙ ap (λ (k : ℕ). roomAt 0 k g) (en ∙ ap magnitude (ex ∙ l)) ∙ sym (room-one (lengthOf (runsOf es vs)) g))
+    ∙ sym (first-two (paired (sequence es vs)) (endsValid es) (room (lengthOf (runsOf es vs) ∷ []) (g ∷ []) ∷ []))
+
+-- ---- behind the used entries
+
+module _ (e v : List ℤ) (n : ℕ) (few : length e < 2 ^ 63) where
+  -- the used entries that the code looks at, and their length
+  module _ {es : List ℤ} (ep : es ≡ part 0 n e) where
+    used-entries : es ≡ take n e
+    used-entries = ep ∙ first-part n e
+
+    module _ {x : ℤ} (ex : x ≡ lengthOfEnds es) (used : usedWithin n (length e) (length v) ≡ none) (valid : endsValid (take n e) ≡ none) where
+      inside : (n ≤ length e) × (n ≤ length v)
+      inside = let u = used-told n (length e) (length v) used in (omega arith, omega arith)
+
+      present-is : x ≡ pos (presentLength n (sequence e v))
+      present-is = ex ∙ ap lengthOfEnds used-entries ∙ length-of-ends (take n e) (take n v) valid (used-paired n e v (inside .0) (inside .1))
+
+      room-is : {q : Question} → (n < 2 ^ 64 - 1 → q ≡ roomForOne n (sequence e v)) → q ≡ roomForOne n (sequence e v)
+      room-is f = f (let i = inside in omega arith)
+
+    pub push-run-asked : (run : ℤ) {r a b c d f g h k : Question} {x : ℤ} → x ≡ lengthOfEnds es
+        → r ≡ firstNo (a ∷ b ∷ []) → a ≡ usedWithin n (length e) (length v)
+        → b ≡ firstNo (c ∷ d ∷ []) → c ≡ endsValid es
+        → d ≡ firstNo (f ∷ g ∷ []) → f ≡ notNegative n run
+        → g ≡ firstNo (h ∷ k ∷ []) → h ≡ fits (magnitude x + magnitude run)
+        → (n < 2 ^ 64 - 1 → k ≡ roomForOne n (sequence e v))
+        → r ≡ pushRunAsked (sequence e v) n run
+    unfolding pushRunAsked
+    push-run-asked run {x = x} ex hr ha hb hc hd hf hg hh hk =
+        let sum = fits (presentLength n (sequence e v) + magnitude run) in
+        asked-next (usedWithin n (length e) (length v)) (endsValid (take n e) ∷ notNegative n run ∷ sum ∷ roomForOne n (sequence e v) ∷ []) hr ha
+        (λ u. asked-next (endsValid (take n e)) (notNegative n run ∷ sum ∷ roomForOne n (sequence e v) ∷ []) hb (hc ∙ ap endsValid used-entries)
+        (λ w. asked-next (notNegative n run) (sum ∷ roomForOne n (sequence e v) ∷ []) hd hf
+        (λ z. asked-last sum hg (hh ∙ ap (λ (y : ℤ). fits (magnitude y + magnitude run)) (present-is ex u w)) (λ y. room-is ex u w hk))))
+
+    pub extend-to-asked : (requested : ℤ) {r a b c d f g : Question} {x : ℤ} → x ≡ lengthOfEnds es
+        → r ≡ firstNo (a ∷ b ∷ []) → a ≡ usedWithin n (length e) (length v)
+        → b ≡ firstNo (c ∷ d ∷ []) → c ≡ endsValid es
+        → d ≡ firstNo (f ∷ g ∷ []) → f ≡ longEnough requested x
+        → (n < 2 ^ 64 - 1 → g ≡ roomForOne n (sequence e v))
+        → r ≡ extendToAsked (sequence e v) n requested
+    unfolding extendToAsked
+    extend-to-asked requested ex hr ha hb hc hd hf hg =
+        let long = longEnough requested (pos (presentLength n (sequence e v))) in
+        asked-next (usedWithin n (length e) (length v)) (endsValid (take n e) ∷ long ∷ roomForOne n (sequence e v) ∷ []) hr ha
+        (λ u. asked-next (endsValid (take n e)) (long ∷ roomForOne n (sequence e v) ∷ []) hb (hc ∙ ap endsValid used-entries)
+        (λ w. asked-last long hd (hf ∙ ap (longEnough requested) (present-is ex u w)) (λ y. room-is ex u w hg)))

@@ -1,0 +1,5 @@
+pub mod Asks
+pub mod Behind
+pub mod Repeated
+pub mod Runwise
+pub mod Yes

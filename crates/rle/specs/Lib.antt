@@ -1,0 +1,3 @@
+-- The calls of rle.rs; to be read after column's definitions.
+pub mod Rle
+pub mod Workers

@@ -1,0 +1,100 @@
+-- rle.rs: sequences made from runs, from values, and run by run.
+use Prim.Native.Nat.{ℕ, _+_}
+use mathlib.Core.Bool.{cond}
+use mathlib.Core.List.{List, [], _∷_, _++_}
+use lib.IntN.{ℤ, pos}
+use lib.ListN.{length, take}
+use lib.Dec.{eqb}
+use Rattle.column.specs.Asking.{Question, firstNo, _otherwise_}
+use Rattle.column.specs.Paper.{Outcome}
+use Rattle.column.specs.Questions.{agree, paired, usedWithin, endsValid, notNegative, fits, runByRun, longEnough, room, both}
+use Rattle.column.specs.Runs.{Sequence, sequence, Runs, magnitude, runs, lengthOf, dense, encode, pushMerged}
+
+-- ---- from_runs, from_ends, repeat
+
+-- the runs from position p on, for given lengths: "skips runs of 0"
+unfoldable pub runsFrom : ℕ → List ℤ → List ℤ → Runs
+runsFrom p [] vs = []
+runsFrom p (n ∷ ns) [] = []
+runsFrom p (n ∷ ns) (v ∷ vs) =
+    let end = p + magnitude n in
+    cond (eqb (magnitude n) 0) (runsFrom p ns vs) (record { end = end; value = v } ∷ runsFrom end ns vs)
+
+-- "Output entries: as many as runs given"
+unfoldable pub fromRunsAsked : List ℤ → List ℤ → List ℕ → Question
+fromRunsAsked given values buffers =
+    firstNo (agree 1 (length given) (length values) ∷ runByRun 0 0 given ∷ room (both (length given)) buffers ∷ [])
+
+unfoldable pub fromRuns : List ℤ → List ℤ → List ℕ → Outcome Runs
+fromRuns given values buffers = fromRunsAsked given values buffers otherwise runsFrom 0 given values
+
+-- "only checks, writes nothing"
+unfoldable pub fromEnds : Sequence → Outcome (Unit {0})
+fromEnds s = firstNo (paired s ∷ endsValid (s .ends) ∷ []) otherwise tt
+
+-- one run, of the length given
+unfoldable pub repeat : ℤ → ℤ → List ℕ → Outcome Runs
+repeat value run buffers =
+    firstNo (notNegative 0 run ∷ room (both 1) buffers ∷ [])
+    otherwise runsFrom 0 (run ∷ []) (value ∷ [])
+
+-- ---- push_run, extend_to
+
+-- the sequence in lent buffers: as many first entries as the used count
+abbrev pub used : ℕ → Sequence → Sequence
+used n buffers = sequence (take n (buffers .ends)) (take n (buffers .values))
+
+abbrev pub presentLength : ℕ → Sequence → ℕ
+presentLength n buffers = lengthOf (runs (used n buffers))
+
+-- the used runs, and one more behind them unless it is 0
+unfoldable pub pushed : Sequence → ℕ → ℤ → ℤ → Runs
+pushed buffers n run value = runs (used n buffers) ++ runsFrom (presentLength n buffers) (run ∷ []) (value ∷ [])
+
+-- "used count + 1 for push and extend, also when nothing is pushed"
+abbrev pub roomForOne : ℕ → Sequence → Question
+roomForOne n buffers = room (both (n + 1)) (length (buffers .ends) ∷ length (buffers .values) ∷ [])
+
+unfoldable pub pushRunAsked : Sequence → ℕ → ℤ → Question
+pushRunAsked buffers n run =
+    firstNo
+    (usedWithin n (length (buffers .ends)) (length (buffers .values))
+    ∷ endsValid (used n buffers .ends)
+    ∷ notNegative n run
+    ∷ fits (presentLength n buffers + magnitude run)
+    ∷ roomForOne n buffers
+    ∷ [])
+
+unfoldable pub pushRun : Sequence → ℕ → ℤ → ℤ → Outcome Runs
+pushRun buffers n run value = pushRunAsked buffers n run otherwise pushed buffers n run value
+
+-- the used runs at the present length, else with a run of the value behind them, merged with the last
+unfoldable pub extended : Sequence → ℕ → ℤ → ℤ → Runs
+extended buffers n requested value =
+    let present = runs (used n buffers) in
+    cond (eqb (magnitude requested) (lengthOf present)) present (pushMerged present (magnitude requested) value)
+
+unfoldable pub extendToAsked : Sequence → ℕ → ℤ → Question
+extendToAsked buffers n requested =
+    firstNo
+    (usedWithin n (length (buffers .ends)) (length (buffers .values))
+    ∷ endsValid (used n buffers .ends)
+    ∷ longEnough requested (pos (presentLength n buffers))
+    ∷ roomForOne n buffers
+    ∷ [])
+
+unfoldable pub extendTo : Sequence → ℕ → ℤ → ℤ → Outcome Runs
+extendTo buffers n requested value = extendToAsked buffers n requested otherwise extended buffers n requested value
+
+-- ---- from_dense, to_dense
+
+-- "for `from_dense` as many as values given"
+unfoldable pub fromDense : List ℤ → List ℕ → Outcome Runs
+fromDense values buffers = room (both (length values)) buffers otherwise encode values
+
+-- "for dense output, the length"
+unfoldable pub toDenseAsked : Sequence → List ℕ → Question
+toDenseAsked s buffers = firstNo (paired s ∷ endsValid (s .ends) ∷ room (lengthOf (runs s) ∷ []) buffers ∷ [])
+
+unfoldable pub toDense : Sequence → List ℕ → Outcome (List ℤ)
+toDense s buffers = toDenseAsked s buffers otherwise dense (runs s)

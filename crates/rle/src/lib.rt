@@ -1,0 +1,190 @@
+pub mod inner;
+
+use column::answer::Asked;
+use column::answer::Checked;
+use column::answer::Counted;
+use column::questions;
+use column::sequence;
+ghost use Prim.Native.Nat.{_+_, _-_, _<_, _^_};
+ghost use mathlib.Core.List.{[], _∷_};
+ghost use mathlib.Core.Path.{_≡_};
+ghost use lib.ListN.{length};
+ghost use Rattle.column.specs.Asking.{shownAsked};
+ghost use Rattle.column.specs.Paper.{shownChecked, WritesRuns, WritesEntries};
+ghost use Rattle.column.specs.Questions.{room, both};
+ghost use Rattle.column.specs.Runs.{sequence};
+ghost use Rattle.rle.specs.Rle as calls;
+
+// The used count of a sequence whose ends and values stand in lent buffers.
+pub struct Rle {
+    pub runs: usize,
+}
+
+impl Rle {
+    // How many columns a many-way call combines.
+    pub const MAX_COLUMNS: usize = 128;
+
+    // The empty sequence.
+    pub fn empty() -> Self
+        ensures { λ r. ⌜ r .runs ≡ 0 ⌝ }
+    {
+        Self { runs: 0 }
+    }
+
+    // The sequence with one more run behind it, not merged; a run of 0 changes nothing.
+    pub fn push_run(self, ends: &mut [i64], values: &mut [i64], run: i64, value: i64) -> Counted
+        ensures { λ r. ⌜ WritesRuns (calls.pushRun (sequence (now (ends .entry)) (now (values .entry))) (self .runs) run value) r
+            (now (ends .entry)) (now (ends .exit)) (now (values .entry)) (now (values .exit)) ⌝ }
+    {
+        let used = self.runs;
+        let asked = push_run_asks(ends, values, used, run);
+        match asked {
+            Asked::Yes => {
+                let n = inner::push_run(ends, values, used, run, value);
+                Counted::Count(n)
+            }
+            Asked::No(r) => Counted::Refused(r),
+        }
+    }
+
+    // The sequence up to a length, with a value at each new position; the last run grows if it has that value.
+    pub fn extend_to(self, ends: &mut [i64], values: &mut [i64], length: i64, value: i64) -> Counted
+        ensures { λ r. ⌜ WritesRuns (calls.extendTo (sequence (now (ends .entry)) (now (values .entry))) (self .runs) length value) r
+            (now (ends .entry)) (now (ends .exit)) (now (values .entry)) (now (values .exit)) ⌝ }
+    {
+        let used = self.runs;
+        let asked = extend_to_asks(ends, values, used, length);
+        match asked {
+            Asked::Yes => {
+                let n = inner::extend_to(ends, values, used, length, value);
+                Counted::Count(n)
+            }
+            Asked::No(r) => Counted::Refused(r),
+        }
+    }
+}
+
+// The used entries are read as far as there are any: what is asked behind a "no" does not count.
+fn push_run_asks(ends: &[i64], values: &[i64], used: usize, run: i64) -> Asked
+    ensures { λ r. ⌜ shownAsked r ≡ calls.pushRunAsked (sequence (now (ends .entry)) (now (values .entry))) used run ⌝ }
+{
+    let present = sequence::part(ends, 0, used);
+    let room = room_for_one(ends.len(), values.len(), used);
+    let sum = questions::first_no(questions::ask_sum(sequence::length(present), run), room);
+    let natural = questions::first_no(questions::ask_run(used, run), sum);
+    let valid = questions::first_no(questions::ask_ends(present), natural);
+    questions::first_no(questions::ask_used(used, ends.len(), values.len()), valid)
+}
+
+fn extend_to_asks(ends: &[i64], values: &[i64], used: usize, length: i64) -> Asked
+    ensures { λ r. ⌜ shownAsked r ≡ calls.extendToAsked (sequence (now (ends .entry)) (now (values .entry))) used length ⌝ }
+{
+    let present = sequence::part(ends, 0, used);
+    let room = room_for_one(ends.len(), values.len(), used);
+    let long = questions::first_no(
+        questions::ask_length(length, sequence::length(present)),
+        room,
+    );
+    let valid = questions::first_no(questions::ask_ends(present), long);
+    questions::first_no(questions::ask_used(used, ends.len(), values.len()), valid)
+}
+
+// One entry more than the used ones, of which there are any number.
+fn room_for_one(ends: usize, values: usize, used: usize) -> Asked
+    ensures { λ r. ⌜ (used < 2 ^ 64 - 1 → shownAsked r ≡ room (both (used + 1)) (ends ∷ values ∷ [])) ⌝ }
+{
+    questions::ask_both(num::saturating_add(used, 1), ends, values)
+}
+
+fn from_runs_asks(runs: &[i64], values: &[i64], out_ends: usize, out_values: usize) -> Asked
+    ensures { λ r. ⌜ shownAsked r ≡ calls.fromRunsAsked (now (runs .entry)) (now (values .entry)) («out_ends» ∷ «out_values» ∷ []) ⌝ }
+{
+    let room = questions::ask_both(runs.len(), out_ends, out_values);
+    let fit = questions::first_no(questions::ask_runs(runs), room);
+    questions::first_no(questions::ask_lengths(1, runs.len(), values.len()), fit)
+}
+
+// A sequence from the lengths of its runs and a value for each; runs of 0 are skipped.
+pub fn from_runs(
+    runs: &[i64],
+    values: &[i64],
+    out_ends: &mut [i64],
+    out_values: &mut [i64],
+) -> Counted
+    ensures { λ r. ⌜ WritesRuns
+        (calls.fromRuns (now (runs .entry)) (now (values .entry)) (length (now («out_ends» .entry)) ∷ length (now («out_values» .entry)) ∷ [])) r
+        (now («out_ends» .entry)) (now («out_ends» .exit)) (now («out_values» .entry)) (now («out_values» .exit)) ⌝ }
+{
+    let asked = from_runs_asks(runs, values, out_ends.len(), out_values.len());
+    match asked {
+        Asked::Yes => {
+            let n = inner::from_runs(runs, values, out_ends, out_values);
+            Counted::Count(n)
+        }
+        Asked::No(r) => Counted::Refused(r),
+    }
+}
+
+// Whether ends and values are a sequence.
+pub fn from_ends(ends: &[i64], values: &[i64]) -> Checked
+    ensures { λ r. ⌜ shownChecked r ≡ calls.fromEnds (sequence (now (ends .entry)) (now (values .entry))) ⌝ }
+{
+    let asked = questions::ask_sequence(ends, values);
+    match asked {
+        Asked::Yes => Checked::Valid,
+        Asked::No(r) => Checked::Refused(r),
+    }
+}
+
+// A sequence that shows one value, `length` times.
+pub fn repeat(value: i64, length: i64, out_ends: &mut [i64], out_values: &mut [i64]) -> Counted
+    ensures { λ r. ⌜ WritesRuns
+        (calls.repeat value length (lib.ListN.length (now («out_ends» .entry)) ∷ lib.ListN.length (now («out_values» .entry)) ∷ [])) r
+        (now («out_ends» .entry)) (now («out_ends» .exit)) (now («out_values» .entry)) (now («out_values» .exit)) ⌝ }
+{
+    let runs = [length];
+    let values = [value];
+    from_runs(&runs, &values, out_ends, out_values)
+}
+
+// The merged sequence that shows the values.
+pub fn from_dense(values: &[i64], out_ends: &mut [i64], out_values: &mut [i64]) -> Counted
+    ensures { λ r. ⌜ WritesRuns
+        (calls.fromDense (now (values .entry)) (length (now («out_ends» .entry)) ∷ length (now («out_values» .entry)) ∷ [])) r
+        (now («out_ends» .entry)) (now («out_ends» .exit)) (now («out_values» .entry)) (now («out_values» .exit)) ⌝ }
+{
+    let asked = questions::ask_both(values.len(), out_ends.len(), out_values.len());
+    match asked {
+        Asked::Yes => {
+            let n = inner::from_dense(values, out_ends, out_values);
+            Counted::Count(n)
+        }
+        Asked::No(r) => Counted::Refused(r),
+    }
+}
+
+fn to_dense_asks(ends: &[i64], values: &[i64], out: usize) -> Asked
+    ensures { λ r. ⌜ shownAsked r ≡ calls.toDenseAsked (sequence (now (ends .entry)) (now (values .entry))) (out ∷ []) ⌝ }
+{
+    let needed = sequence::magnitude(sequence::length(ends));
+    questions::first_no(
+        questions::ask_sequence(ends, values),
+        questions::ask_room(0, needed, out),
+    )
+}
+
+// The values that a sequence shows, one for each position.
+pub fn to_dense(ends: &[i64], values: &[i64], out: &mut [i64]) -> Counted
+    ensures { λ r. ⌜ WritesEntries
+        (calls.toDense (sequence (now (ends .entry)) (now (values .entry))) (length (now (out .entry)) ∷ [])) r
+        (now (out .entry)) (now (out .exit)) ⌝ }
+{
+    let asked = to_dense_asks(ends, values, out.len());
+    match asked {
+        Asked::Yes => {
+            let n = inner::to_dense(ends, values, out);
+            Counted::Count(n)
+        }
+        Asked::No(r) => Counted::Refused(r),
+    }
+}
