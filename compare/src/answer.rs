@@ -1,0 +1,104 @@
+//! What a call gives back, as the C interface gives it.
+
+use std::fmt;
+
+/// The numbers of document 01's refusals.
+#[derive(Clone, Copy)]
+pub enum Error {
+    UnknownCode = 1,
+    LengthMismatch,
+    InvalidOffsets,
+    InvalidEnds,
+    TooMany,
+    NegativeRun,
+    Overflow,
+    DuplicateKey,
+    InvalidInterval,
+    UnequalLength,
+    LengthTooShort,
+    ShortBuffer,
+}
+
+impl Error {
+    /// The refusal with these values, in document 01's order.
+    pub fn with(self, values: &[u64]) -> Refusal {
+        let mut refusal = Refusal {
+            number: self as u64,
+            ..Refusal::default()
+        };
+        refusal.values[..values.len()].copy_from_slice(values);
+        refusal
+    }
+}
+
+/// A refusal, or all zeros with an answer.
+#[repr(C)]
+#[derive(Clone, Copy, Default, PartialEq, Eq)]
+pub struct Refusal {
+    pub number: u64,
+    pub values: [u64; 3],
+    pub in_key: u64,
+    pub position: u64,
+}
+
+impl Refusal {
+    pub fn is(&self, error: Error) -> bool {
+        self.number == error as u64
+    }
+
+    /// Every field as the number that it stands for: some values are signed.
+    pub fn numbers(&self) -> [i128; 6] {
+        let lengths = self.is(Error::UnequalLength) || self.is(Error::LengthTooShort);
+        let interval = self.is(Error::InvalidInterval);
+        let signed = [
+            lengths,
+            lengths || interval || self.is(Error::NegativeRun),
+            interval,
+        ];
+        let value = |i: usize| match signed[i] {
+            true => self.values[i] as i64 as i128,
+            false => self.values[i] as i128,
+        };
+        [
+            self.number as i128,
+            value(0),
+            value(1),
+            value(2),
+            self.in_key as i128,
+            self.position as i128,
+        ]
+    }
+}
+
+/// A refusal and a count, one of which is zero.
+#[repr(C)]
+#[derive(Clone, Copy, Default, PartialEq, Eq)]
+pub struct Answer {
+    pub refusal: Refusal,
+    pub count: usize,
+}
+
+impl Answer {
+    pub fn counted(count: usize) -> Self {
+        Answer {
+            count,
+            ..Answer::default()
+        }
+    }
+}
+
+impl From<Refusal> for Answer {
+    fn from(refusal: Refusal) -> Self {
+        Answer { refusal, count: 0 }
+    }
+}
+
+/// The refusal's six numbers and the count.
+impl fmt::Display for Answer {
+    fn fmt(&self, f: &mut fmt::Formatter<'_>) -> fmt::Result {
+        for number in self.refusal.numbers() {
+            write!(f, "{number} ")?;
+        }
+        write!(f, "{}", self.count)
+    }
+}

@@ -1,0 +1,79 @@
+//! The sample that crates/replay replays: sample SEED
+//!
+//! A line for each case: the call's number, its arguments, the refusal's six numbers, the count and
+//! each lent buffer after the call. A list or buffer is its length and its entries. The answers are
+//! the original's in its domain, and document 01's elsewhere.
+
+use compare::answer::Error;
+use compare::call::{Arg, CALLS, Call, Outcome};
+use compare::inputs::{self, Fit, Rng};
+use std::collections::{BTreeMap, BTreeSet};
+use std::env;
+use std::process::ExitCode;
+
+/// Lines for each call. With their length they keep the sample below 60 KiB.
+const LINES: usize = 48;
+const LONGEST_LINE: usize = 180;
+const LONGEST_LIST: usize = 16;
+
+/// Cases made for each call, out of which the lines are picked.
+const CASES: usize = 20_000;
+
+/// What the sample has some of each: a refusal, with its what or which, or a count; and how the
+/// buffers fit.
+type Class = (u64, u64, Fit);
+
+fn class(outcome: &Outcome, fit: Fit) -> Class {
+    let refusal = outcome.answer.refusal;
+    let detail = if refusal.is(Error::LengthMismatch) || refusal.is(Error::ShortBuffer) {
+        refusal.values[0]
+    } else {
+        outcome.answer.count.min(5) as u64
+    };
+    (refusal.number, detail, fit)
+}
+
+/// Whether all numbers are i64 and all lists short.
+fn is_plain(args: &[Arg], outcome: &Outcome) -> bool {
+    let plain_arg = |arg: &Arg| match arg {
+        Arg::List(list) => list.len() <= LONGEST_LIST,
+        Arg::Number(_) => true,
+        Arg::Count(count) => i64::try_from(*count).is_ok(),
+    };
+    let mut numbers = outcome.answer.refusal.numbers().into_iter();
+    args.iter().all(plain_arg) && numbers.all(|number| i64::try_from(number).is_ok())
+}
+
+/// The lines of a call, as evenly out of all classes as these last.
+fn lines(call: &Call, rng: &mut Rng) -> Vec<String> {
+    let mut classes: BTreeMap<Class, Vec<String>> = BTreeMap::new();
+    let mut seen = BTreeSet::new();
+    for _ in 0..CASES {
+        let (args, fit) = inputs::random(call, rng);
+        let naive = call.naive(&args);
+        if let Some(original) = call.original(&args, &naive) {
+            assert!(original == naive, "{}: {original} is no {naive}", call.name);
+        }
+        let words: Vec<String> = args.iter().map(Arg::to_string).collect();
+        let line = format!("{} {} {naive}", call.number, words.join(" "));
+        if line.len() < LONGEST_LINE && is_plain(&args, &naive) && seen.insert(line.clone()) {
+            classes.entry(class(&naive, fit)).or_default().push(line);
+        }
+    }
+    let of_rank = |rank| classes.values().filter_map(move |lines| lines.get(rank));
+    (0..LINES).flat_map(of_rank).take(LINES).cloned().collect()
+}
+
+fn main() -> ExitCode {
+    let Some(Ok(seed)) = env::args().nth(1).map(|word| word.parse()) else {
+        eprintln!("usage: sample SEED");
+        return ExitCode::from(2);
+    };
+    let mut rng = Rng::new(seed);
+    for call in CALLS.iter().filter(|call| call.takes_arguments()) {
+        for line in lines(call, &mut rng) {
+            println!("{line}");
+        }
+    }
+    ExitCode::SUCCESS
+}

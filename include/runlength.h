@@ -1,0 +1,111 @@
+/* Columns of runs over label positions: the calls of librunlength.a (x86-64).
+ *
+ * A sequence is a list of ends and an equally long list of values. Its ends are valid when the first is above 0 and each is above
+ * the one before. Run r covers positions from the end before it (0 for the first) up to its own end, not included; the length is
+ * the last end, or 0.
+ *
+ * A list or a buffer is passed as a pointer to its first entry and a number of entries, fewer than 2^60; the pointer is aligned
+ * and not null, even with no entries. A buffer that a call may write overlaps nothing else that the call is handed.
+ *
+ * Every call takes all inputs and ends. It answers, or it gives one refusal:
+ * - With an answer all of the refusal is 0. The first `count` entries of each output buffer are filled, later ones keep what they
+ *   held.
+ * - With a refusal the count is 0 and nothing has been written.
+ * A call puts its questions in the order that stands beside it; the first "no" is its refusal. */
+#ifndef RUNLENGTH_H
+#define RUNLENGTH_H
+
+#include <stddef.h>
+#include <stdint.h>
+
+#ifdef __cplusplus
+extern "C" {
+#endif
+
+/* The refusals. A value marked * is an int64_t, given as its two's complement bits; the others are unsigned.
+ *
+ *   number                first        second       third
+ *    1  UnknownCode       code
+ *    2  LengthMismatch    what         left         right
+ *    3  InvalidOffsets
+ *    4  InvalidEnds       index
+ *    5  TooMany           number
+ *    6  NegativeRun       index        run *
+ *    7  Overflow
+ *    8  DuplicateKey      position
+ *    9  InvalidInterval   index        start *      end *
+ *   10  UnequalLength     left *       right *
+ *   11  LengthTooShort    requested *  required *
+ *   12  ShortBuffer       which        needed       given
+ *
+ * What, in 2, says which lengths disagree: 1 runs, values; 2 offsets, keys + 1; 3 ends, values; 4 new keys, keys; 5 used count,
+ * shorter buffer (refused only where the count is larger); 6 mask, runs - 1; 7 keys, starts; 8 starts, ends.
+ * Which, in 12, counts the buffers that the call may write, from 0 in argument order. */
+typedef struct {
+    uint64_t number;               /* 0 with an answer */
+    uint64_t first, second, third; /* 0 where the refusal has fewer values */
+    uint64_t in_key;               /* 1 where the refusal carries the position of a key or a sequence */
+    uint64_t position;             /* that position */
+} rl_refusal;
+
+typedef struct {
+    rl_refusal refusal;
+    size_t count;
+} rl_counted;
+
+/* rle.rs */
+
+/* A sequence without its buffers: the number of their entries in use. */
+typedef struct {
+    size_t runs;
+} rl_rle;
+
+/* The most sequences that a many-way call takes. */
+#define RL_MAX_COLUMNS 128
+
+/* The empty sequence: 0 runs, with any buffers. */
+rl_rle rl_empty(void);
+
+/* The sequence of the runs above 0 with their values; neighbours are not merged. The count is the number of its runs.
+ * Refuses: 2 (what 1); run by run 6, then 7 where the sum leaves int64_t; 12: each output needs runs_len entries. */
+rl_counted rl_from_runs(const int64_t *runs, size_t runs_len, const int64_t *values, size_t values_len, int64_t *out_ends,
+                        size_t out_ends_len, int64_t *out_values, size_t out_values_len);
+
+/* Whether ends and values are a sequence. Writes nothing.
+ * Refuses: 2 (what 3); 4: the lowest index of an end that is not above the one before (of the first: not above 0). */
+rl_refusal rl_from_ends(const int64_t *ends, size_t ends_len, const int64_t *values, size_t values_len);
+
+/* The sequence of `length` positions that show `value`: one run, or none for length 0. The count is the number of its runs.
+ * Refuses: 6 (index 0) where the length is negative; 12: each output needs 1 entry, also for length 0. */
+rl_counted rl_repeat(int64_t value, int64_t length, int64_t *out_ends, size_t out_ends_len, int64_t *out_values,
+                     size_t out_values_len);
+
+/* Appends a run to the sequence in the first `used` entries; neighbours are not merged. A run of 0 changes nothing, any other
+ * writes entry `used` of both buffers. The count is the new number of runs.
+ * Refuses: 2 (what 5) where `used` is above the shorter buffer's length; 4 of the ends in use; 6 (index `used`); 7 where the new
+ * length leaves int64_t; 12: each buffer needs used + 1 entries, also for a run of 0. */
+rl_counted rl_push_run(int64_t *ends, size_t ends_len, int64_t *values, size_t values_len, size_t used, int64_t run, int64_t value);
+
+/* Extends the sequence in the first `used` entries to `length` positions, the new ones showing `value`. The present length changes
+ * nothing. Otherwise the last run's end becomes `length` if that run holds `value`; if not, entry `used` of both buffers is
+ * written. The count is the new number of runs.
+ * Refuses: 2 (what 5) where `used` is above the shorter buffer's length; 4 of the ends in use; 11 where `length` is below the
+ * present length; 12: each buffer needs used + 1 entries, also where no run is added. */
+rl_counted rl_extend_to(int64_t *ends, size_t ends_len, int64_t *values, size_t values_len, size_t used, int64_t length,
+                        int64_t value);
+
+/* The merged sequence that shows `values`, one for each position. The count is the number of its runs.
+ * Refuses: 12: each output needs values_len entries. */
+rl_counted rl_from_dense(const int64_t *values, size_t values_len, int64_t *out_ends, size_t out_ends_len, int64_t *out_values,
+                         size_t out_values_len);
+
+/* What the sequence shows, one value for each position. The count is its length.
+ * Refuses: 2 (what 3); 4; 12: the output needs as many entries as the length. */
+rl_counted rl_to_dense(const int64_t *ends, size_t ends_len, const int64_t *values, size_t values_len, int64_t *out,
+                       size_t out_len);
+
+#ifdef __cplusplus
+}
+#endif
+
+#endif
