@@ -1,0 +1,86 @@
+-- What the numbers of the C interface say: a struct is read as the answer of the Rattle call, and every field of it is told.
+use Prim.Native.Nat.{ℕ, _-_}
+use mathlib.Core.Bool.{cond}
+use mathlib.Core.List.{List, [], _∷_}
+use lib.Dec.{eqb}
+use lib.IntN.{pos}
+use lib.ListN.{getD}
+use Rattle.num.specs.Numbers.{residue, signed}
+use Rattle.column.specs.declared.answer.Checked.{Checked}
+use Rattle.column.specs.declared.answer.Counted.{Counted}
+use Rattle.column.specs.declared.error.Error.{Error}
+use Rattle.column.specs.declared.error.Error.the-variants.{UnknownCode, LengthMismatch, InvalidOffsets, InvalidEnds, TooMany, NegativeRun, Overflow, DuplicateKey, InvalidInterval, UnequalLength, LengthTooShort, ShortBuffer}
+use Rattle.column.specs.declared.error.InKey.{InKey}
+use Rattle.column.specs.declared.error.InKey.the-variants.{Outside, Position}
+use Rattle.column.specs.declared.error.Refusal.{Refusal}
+use Rattle.column.specs.Paper.{numberOf, shownBy}
+use Rattle.runlength.specs.declared.RlCounted.{RlCounted}
+use Rattle.runlength.specs.declared.RlRefusal.{RlRefusal}
+
+-- ---- reading
+
+-- the refusals from number 1 on, of the three values; an i64 is given by its two's complement bits
+abbrev pub numbered : ℕ → ℕ → ℕ → List Error
+numbered a b c =
+    UnknownCode a
+    ∷ LengthMismatch a b c
+    ∷ InvalidOffsets
+    ∷ InvalidEnds a
+    ∷ TooMany a
+    ∷ NegativeRun a (signed b)
+    ∷ Overflow
+    ∷ DuplicateKey a
+    ∷ InvalidInterval a (signed b) (signed c)
+    ∷ UnequalLength (signed a) (signed b)
+    ∷ LengthTooShort (signed a) (signed b)
+    ∷ ShortBuffer a b c
+    ∷ []
+
+-- the refusal of a number from 1 to 12
+unfoldable pub readError : ℕ → ℕ → ℕ → ℕ → Error
+readError number a b c = getD (numbered a b c) (number - 1) Overflow
+
+abbrev pub readInKey : ℕ → ℕ → InKey
+readInKey carried position = cond (eqb carried 0) Outside (Position position)
+
+abbrev pub readRefusal : RlRefusal → Refusal
+readRefusal r = record { error = readError (r .number) (r .first) (r .second) (r .third); «in_key» = readInKey (r .«in_key») (r .position) }
+
+-- number 0 is an answer
+abbrev pub readChecked : RlRefusal → Checked
+readChecked r = cond (eqb (r .number) 0) Checked.Valid (Checked.Refused (readRefusal r))
+
+abbrev pub readCounted : RlCounted → Counted
+readCounted r = cond (eqb (r .refusal .number) 0) (Counted.Count (r .count)) (Counted.Refused (readRefusal (r .refusal)))
+
+-- ---- every field
+
+-- a value as 64 bits, 0 where the refusal has fewer values
+abbrev pub bitsAt : ℕ → Error → ℕ
+bitsAt i e = residue (getD (shownBy e) i (pos 0))
+
+abbrev pub carried : InKey → ℕ
+carried Outside = 0
+carried (Position p) = 1
+
+abbrev pub placeOf : InKey → ℕ
+placeOf Outside = 0
+placeOf (Position p) = p
+
+-- a number with its three values, and the position where there is one
+abbrev pub fields : ℕ → ℕ → ℕ → ℕ → InKey → RlRefusal
+fields n a b c k = record { number = n; first = a; second = b; third = c; «in_key» = carried k; position = placeOf k }
+
+-- document 01's number, its values and the position
+abbrev pub laidRefusal : Refusal → RlRefusal
+laidRefusal r = fields (numberOf (r .error)) (bitsAt 0 (r .error)) (bitsAt 1 (r .error)) (bitsAt 2 (r .error)) (r .«in_key»)
+
+-- an answer has 0 in every field of the refusal
+abbrev pub laidChecked : Checked → RlRefusal
+laidChecked Checked.Valid = fields 0 0 0 0 Outside
+laidChecked (Checked.Refused r) = laidRefusal r
+
+-- and a refusal the count 0
+abbrev pub laidCounted : Counted → RlCounted
+laidCounted (Counted.Count n) = record { refusal = laidChecked Checked.Valid; count = n }
+laidCounted (Counted.Refused r) = record { refusal = laidRefusal r; count = 0 }

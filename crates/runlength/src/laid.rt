@@ -1,0 +1,109 @@
+// Answers laid flat for C.
+use crate::RlCounted;
+use crate::RlRefusal;
+use column::answer::Checked;
+use column::answer::Counted;
+use column::error::Error;
+use column::error::InKey;
+use column::error::Refusal;
+ghost use mathlib.Core.Path.{_≡_};
+ghost use Rattle.runlength.specs.Reading as Reading;
+ghost use Rattle.runlength.specs.Reading.{readRefusal, readChecked, readCounted, laidRefusal, laidChecked, laidCounted};
+
+// A number and its values, with the position where there is one.
+fn fields(number: u64, first: u64, second: u64, third: u64, in_key: InKey) -> RlRefusal
+    ensures { λ r. ⌜ r ≡ Reading.fields number first second third «in_key» ⌝ }
+{
+    match in_key {
+        InKey::Outside => RlRefusal {
+            number,
+            first,
+            second,
+            third,
+            in_key: 0,
+            position: 0,
+        },
+        InKey::Position(p) => RlRefusal {
+            number,
+            first,
+            second,
+            third,
+            in_key: 1,
+            position: p as u64,
+        },
+    }
+}
+
+fn refused(r: Refusal) -> RlRefusal
+    ensures { λ x. ⌜ (readRefusal x ≡ r) × (x ≡ laidRefusal r) ⌝ }
+{
+    let error = r.error;
+    let in_key = r.in_key;
+    match error {
+        Error::UnknownCode { code } => fields(1, code as u64, 0, 0, in_key),
+        Error::LengthMismatch { what, left, right } => {
+            fields(2, what as u64, left as u64, right as u64, in_key)
+        }
+        Error::InvalidOffsets => fields(3, 0, 0, 0, in_key),
+        Error::InvalidEnds { index } => fields(4, index as u64, 0, 0, in_key),
+        Error::TooMany { number } => fields(5, number as u64, 0, 0, in_key),
+        Error::NegativeRun { index, run } => {
+            fields(6, index as u64, num::as_unsigned(run), 0, in_key)
+        }
+        Error::Overflow => fields(7, 0, 0, 0, in_key),
+        Error::DuplicateKey { position } => fields(8, position as u64, 0, 0, in_key),
+        Error::InvalidInterval { index, start, end } => fields(
+            9,
+            index as u64,
+            num::as_unsigned(start),
+            num::as_unsigned(end),
+            in_key,
+        ),
+        Error::UnequalLength { left, right } => fields(
+            10,
+            num::as_unsigned(left),
+            num::as_unsigned(right),
+            0,
+            in_key,
+        ),
+        Error::LengthTooShort {
+            requested,
+            required,
+        } => fields(
+            11,
+            num::as_unsigned(requested),
+            num::as_unsigned(required),
+            0,
+            in_key,
+        ),
+        Error::ShortBuffer {
+            which,
+            needed,
+            given,
+        } => fields(12, which as u64, needed as u64, given as u64, in_key),
+    }
+}
+
+pub fn checked(c: Checked) -> RlRefusal
+    ensures { λ x. ⌜ (readChecked x ≡ c) × (x ≡ laidChecked c) ⌝ }
+{
+    match c {
+        Checked::Valid => fields(0, 0, 0, 0, InKey::Outside),
+        Checked::Refused(r) => refused(r),
+    }
+}
+
+pub fn counted(c: Counted) -> RlCounted
+    ensures { λ x. ⌜ (readCounted x ≡ c) × (x ≡ laidCounted c) ⌝ }
+{
+    match c {
+        Counted::Count(n) => {
+            let refusal = checked(Checked::Valid);
+            RlCounted { refusal, count: n }
+        }
+        Counted::Refused(r) => {
+            let refusal = refused(r);
+            RlCounted { refusal, count: 0 }
+        }
+    }
+}
