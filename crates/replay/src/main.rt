@@ -1,0 +1,86 @@
+// Replays stored answers. Each line of standard input, up to 64 KiB in all, is a call with its arguments and what must come of it, in
+// decimal numbers. For each call a line says how many cases there were and how many of them agreed.
+mod case;
+mod row;
+
+use libc::STDIN_FILENO;
+use libc::STDOUT_FILENO;
+ghost use Prim.Native.Nat.{_<_, _≤_};
+ghost use lib.ListN.{length};
+
+// One more than the last call's number.
+const CALLS: usize = 9;
+
+// The most numbers that are read of a line, more than any case has.
+const NUMBERS: usize = 128;
+
+// Where a line ends: before its line break, or with the text.
+fn line_end(text: &[u8], at: usize) -> usize
+    requires { ⌜ at ≤ length (now text) ⌝ }
+    ensures { λ r. ⌜ (at ≤ r) × (r ≤ length (now (text .entry))) ⌝ }
+{
+    let mut end = at;
+    while end < text.len() {
+        if text[end] == b'\n' {
+            return end;
+        }
+        end += 1;
+    }
+    end
+}
+
+// Counts a line among the cases of its call, and among those that agreed; at 0 if it has no known call.
+fn replay_line(line: &[u8], cases: &mut [u64; CALLS], agreed: &mut [u64; CALLS]) {
+    let mut numbers = [0i64; NUMBERS];
+    let n = row::read(line, &mut numbers);
+    let call = case::known(row::entry(&numbers[..n], 0));
+    cases[call] = std::num::wrapping_add_u64(cases[call], 1);
+    if case::agrees(&numbers[..n], call) {
+        agreed[call] = std::num::wrapping_add_u64(agreed[call], 1);
+    }
+}
+
+// Replays line after line, and answers how many there were.
+fn replay(text: &[u8], cases: &mut [u64; CALLS], agreed: &mut [u64; CALLS]) -> u64 {
+    let mut lines = 0;
+    let mut at = 0;
+    while at < text.len() {
+        let end = line_end(text, at);
+        replay_line(&text[at..end], cases, agreed);
+        lines = std::num::wrapping_add_u64(lines, 1);
+        at = end + 1;
+    }
+    lines
+}
+
+fn write_count(count: u64, what: &[u8]) {
+    io::print_decimal(STDOUT_FILENO, count);
+    io::write_all(STDOUT_FILENO, what);
+}
+
+fn report(name: &[u8], cases: u64, agreed: u64) {
+    io::write_all(STDOUT_FILENO, name);
+    write_count(cases, b" cases, ");
+    write_count(agreed, b" agreed\n");
+}
+
+fn main() {
+    let mut buffer = io::large_buffer();
+    let n = io::read_full(STDIN_FILENO, &mut buffer);
+    let mut cases = [0u64; CALLS];
+    let mut agreed = [0u64; CALLS];
+    let lines = replay(&buffer[..n], &mut cases, &mut agreed);
+    report(b"from_runs ", cases[2], agreed[2]);
+    report(b"from_ends ", cases[3], agreed[3]);
+    report(b"repeat ", cases[4], agreed[4]);
+    report(b"push_run ", cases[5], agreed[5]);
+    report(b"extend_to ", cases[6], agreed[6]);
+    report(b"from_dense ", cases[7], agreed[7]);
+    report(b"to_dense ", cases[8], agreed[8]);
+    if cases[0] > 0 {
+        io::write_all(STDOUT_FILENO, b"unknown ");
+        write_count(cases[0], b" cases\n");
+    }
+    write_count(lines, b" lines, ");
+    write_count(n as u64, b" bytes read\n");
+}
