@@ -13,6 +13,7 @@ pub mod Promised
 pub mod Pushed
 pub mod Rest
 pub mod Rising
+pub mod Rows
 pub mod Sequences
 pub mod Told
 pub mod Used
