@@ -3,7 +3,8 @@ use Prim.Native.Nat.{ℕ, _-_}
 use mathlib.Core.Bool.{cond}
 use mathlib.Core.List.{List, [], _∷_}
 use lib.Dec.{eqb}
-use lib.IntN.{pos}
+use mathlib.Core.Path.{_≡_}
+use lib.IntN.{ℤ, pos}
 use lib.ListN.{getD}
 use Rattle.num.specs.Numbers.{residue, signed}
 use Rattle.column.specs.declared.answer.Checked.{Checked}
@@ -13,7 +14,8 @@ use Rattle.column.specs.declared.error.Error.the-variants.{UnknownCode, LengthM
 use Rattle.column.specs.declared.error.InKey.{InKey}
 use Rattle.column.specs.declared.error.InKey.the-variants.{Outside, Position}
 use Rattle.column.specs.declared.error.Refusal.{Refusal}
-use Rattle.column.specs.Paper.{numberOf, shownBy}
+use Rattle.column.specs.Paper.{Outcome, numberOf, shownBy, shownChecked, WritesRuns, WritesEntries}
+use Rattle.column.specs.Runs.{Runs}
 use Rattle.runlength.specs.declared.RlCounted.{RlCounted}
 use Rattle.runlength.specs.declared.RlRefusal.{RlRefusal}
 
@@ -84,3 +86,17 @@ laidChecked (Checked.Refused r) = laidRefusal r
 abbrev pub laidCounted : Counted → RlCounted
 laidCounted (Counted.Count n) = record { refusal = laidChecked Checked.Valid; count = n }
 laidCounted (Counted.Refused r) = record { refusal = laidRefusal r; count = 0 }
+
+-- ---- the promises: the Rattle call's own, for the answer that is read, and no field left open
+
+pub record LaidRuns (o : Outcome Runs) (r : RlCounted) (e e′ v v′ : List ℤ) : Type 0 where
+  pub promise : WritesRuns o (readCounted r) e e′ v v′
+  pub whole : r ≡ laidCounted (readCounted r)
+
+pub record LaidEntries (o : Outcome (List ℤ)) (r : RlCounted) (b b′ : List ℤ) : Type 0 where
+  pub promise : WritesEntries o (readCounted r) b b′
+  pub whole : r ≡ laidCounted (readCounted r)
+
+pub record LaidCheck (o : Outcome (Unit {0})) (r : RlRefusal) : Type 0 where
+  pub promise : shownChecked (readChecked r) ≡ o
+  pub whole : r ≡ laidChecked (readChecked r)

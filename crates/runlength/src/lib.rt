@@ -5,10 +5,9 @@ use rle::Rle;
 ghost use mathlib.Core.List.{[], _∷_};
 ghost use mathlib.Core.Path.{_≡_};
 ghost use lib.ListN.{length};
-ghost use Rattle.column.specs.Paper.{shownChecked, WritesRuns, WritesEntries};
 ghost use Rattle.column.specs.Runs.{sequence};
 ghost use Rattle.rle.specs.Rle as calls;
-ghost use Rattle.runlength.specs.Reading.{readChecked, readCounted, laidChecked, laidCounted};
+ghost use Rattle.runlength.specs.Reading.{LaidRuns, LaidEntries, LaidCheck};
 
 // A refusal: document 01's number, its values in document 01's order as 64 bits each (0 where it has fewer), and the position that it
 // may carry, with 1 in `in_key`. All 0 with an answer.
@@ -50,18 +49,16 @@ pub extern "C" fn rl_from_runs(
     out_ends: &mut [i64],
     out_values: &mut [i64],
 ) -> RlCounted
-    ensures { λ r. ⌜ WritesRuns
-        (calls.fromRuns (now (runs .entry)) (now (values .entry)) (length (now («out_ends» .entry)) ∷ length (now («out_values» .entry)) ∷ [])) (readCounted r)
+    ensures { λ r. ⌜ LaidRuns
+        (calls.fromRuns (now (runs .entry)) (now (values .entry)) (length (now («out_ends» .entry)) ∷ length (now («out_values» .entry)) ∷ [])) r
         (now («out_ends» .entry)) (now («out_ends» .exit)) (now («out_values» .entry)) (now («out_values» .exit)) ⌝ }
-    ensures { λ r. ⌜ r ≡ laidCounted (readCounted r) ⌝ }
 {
     laid::counted(rle::from_runs(runs, values, out_ends, out_values))
 }
 
 #[no_mangle]
 pub extern "C" fn rl_from_ends(ends: &[i64], values: &[i64]) -> RlRefusal
-    ensures { λ r. ⌜ shownChecked (readChecked r) ≡ calls.fromEnds (sequence (now (ends .entry)) (now (values .entry))) ⌝ }
-    ensures { λ r. ⌜ r ≡ laidChecked (readChecked r) ⌝ }
+    ensures { λ r. ⌜ LaidCheck (calls.fromEnds (sequence (now (ends .entry)) (now (values .entry)))) r ⌝ }
 {
     laid::checked(rle::from_ends(ends, values))
 }
@@ -73,10 +70,9 @@ pub extern "C" fn rl_repeat(
     out_ends: &mut [i64],
     out_values: &mut [i64],
 ) -> RlCounted
-    ensures { λ r. ⌜ WritesRuns
-        (calls.repeat value length (lib.ListN.length (now («out_ends» .entry)) ∷ lib.ListN.length (now («out_values» .entry)) ∷ [])) (readCounted r)
+    ensures { λ r. ⌜ LaidRuns
+        (calls.repeat value length (lib.ListN.length (now («out_ends» .entry)) ∷ lib.ListN.length (now («out_values» .entry)) ∷ [])) r
         (now («out_ends» .entry)) (now («out_ends» .exit)) (now («out_values» .entry)) (now («out_values» .exit)) ⌝ }
-    ensures { λ r. ⌜ r ≡ laidCounted (readCounted r) ⌝ }
 {
     laid::counted(rle::repeat(value, length, out_ends, out_values))
 }
@@ -89,9 +85,8 @@ pub extern "C" fn rl_push_run(
     run: i64,
     value: i64,
 ) -> RlCounted
-    ensures { λ r. ⌜ WritesRuns (calls.pushRun (sequence (now (ends .entry)) (now (values .entry))) used run value) (readCounted r)
+    ensures { λ r. ⌜ LaidRuns (calls.pushRun (sequence (now (ends .entry)) (now (values .entry))) used run value) r
         (now (ends .entry)) (now (ends .exit)) (now (values .entry)) (now (values .exit)) ⌝ }
-    ensures { λ r. ⌜ r ≡ laidCounted (readCounted r) ⌝ }
 {
     laid::counted(Rle { runs: used }.push_run(ends, values, run, value))
 }
@@ -104,9 +99,8 @@ pub extern "C" fn rl_extend_to(
     length: i64,
     value: i64,
 ) -> RlCounted
-    ensures { λ r. ⌜ WritesRuns (calls.extendTo (sequence (now (ends .entry)) (now (values .entry))) used length value) (readCounted r)
+    ensures { λ r. ⌜ LaidRuns (calls.extendTo (sequence (now (ends .entry)) (now (values .entry))) used length value) r
         (now (ends .entry)) (now (ends .exit)) (now (values .entry)) (now (values .exit)) ⌝ }
-    ensures { λ r. ⌜ r ≡ laidCounted (readCounted r) ⌝ }
 {
     laid::counted(Rle { runs: used }.extend_to(ends, values, length, value))
 }
@@ -117,20 +111,18 @@ pub extern "C" fn rl_from_dense(
     out_ends: &mut [i64],
     out_values: &mut [i64],
 ) -> RlCounted
-    ensures { λ r. ⌜ WritesRuns
-        (calls.fromDense (now (values .entry)) (length (now («out_ends» .entry)) ∷ length (now («out_values» .entry)) ∷ [])) (readCounted r)
+    ensures { λ r. ⌜ LaidRuns
+        (calls.fromDense (now (values .entry)) (length (now («out_ends» .entry)) ∷ length (now («out_values» .entry)) ∷ [])) r
         (now («out_ends» .entry)) (now («out_ends» .exit)) (now («out_values» .entry)) (now («out_values» .exit)) ⌝ }
-    ensures { λ r. ⌜ r ≡ laidCounted (readCounted r) ⌝ }
 {
     laid::counted(rle::from_dense(values, out_ends, out_values))
 }
 
 #[no_mangle]
 pub extern "C" fn rl_to_dense(ends: &[i64], values: &[i64], out: &mut [i64]) -> RlCounted
-    ensures { λ r. ⌜ WritesEntries
-        (calls.toDense (sequence (now (ends .entry)) (now (values .entry))) (length (now (out .entry)) ∷ [])) (readCounted r)
+    ensures { λ r. ⌜ LaidEntries
+        (calls.toDense (sequence (now (ends .entry)) (now (values .entry))) (length (now (out .entry)) ∷ [])) r
         (now (out .entry)) (now (out .exit)) ⌝ }
-    ensures { λ r. ⌜ r ≡ laidCounted (readCounted r) ⌝ }
 {
     laid::counted(rle::to_dense(ends, values, out))
 }
