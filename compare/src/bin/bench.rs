@@ -1,8 +1,8 @@
 //! Times the library beside the original: bench ROUNDS
 //!
 //! Both sides take the same inputs and check them, on one thread. Their rounds alternate, and the
-//! best round of each counts. Results go to memory that has been written before: the library is
-//! lent the same buffers again, and the original's allocator keeps what it is given back.
+//! best round of each counts. Results go to memory that has been written before: the allocator
+//! keeps what it is given back, and both sides' buffers come from it, round after round.
 
 use compare::answer::Answer;
 use compare::inputs::Rng;
@@ -76,20 +76,23 @@ impl Bench {
         mut given: impl FnMut() -> G,
         mut original: impl FnMut(G) -> Result<R>,
     ) {
-        let (mut first, mut second) = (vec![-1; units], vec![-1; units]);
+        let lent = || (vec![-1; units], vec![-1; units]);
+        let (mut first, mut second) = lent();
         let answer = library(&mut first, &mut second);
         assert_eq!(answer.refusal.number, 0, "the library answers");
         let result = original(given()).expect("the original answers");
         for (buffer, list) in [&first, &second].into_iter().zip(result.lists()) {
             assert!(buffer[..answer.count] == *list, "the results are equal");
         }
-        drop(result);
+        drop((first, second, result));
 
         let calls = TIMED.div_ceil(units);
         let (mut ours, mut theirs) = (Duration::MAX, Duration::MAX);
         for _ in 0..self.rounds.get() {
+            let (mut first, mut second) = lent();
             let library = |()| library(&mut first, &mut second);
             ours = ours.min(time(calls, || (), library));
+            drop((first, second));
             theirs = theirs.min(time(calls, &mut given, &mut original));
         }
         let each = |time: Duration| time.as_secs_f64() * 1e9 / (calls * units) as f64;

@@ -5,8 +5,6 @@ mod row;
 
 use libc::STDIN_FILENO;
 use libc::STDOUT_FILENO;
-ghost use Prim.Native.Nat.{_<_, _≤_};
-ghost use lib.ListN.{length};
 
 // One more than the last call's number.
 const CALLS: usize = 9;
@@ -14,25 +12,10 @@ const CALLS: usize = 9;
 // The most numbers that are read of a line, more than any case has.
 const NUMBERS: usize = 128;
 
-// Where a line ends: before its line break, or with the text.
-fn line_end(text: &[u8], at: usize) -> usize
-    requires { ⌜ at ≤ length (now text) ⌝ }
-    ensures { λ r. ⌜ (at ≤ r) × (r ≤ length (now (text .entry))) ⌝ }
-{
-    let mut end = at;
-    while end < text.len() {
-        if text[end] == b'\n' {
-            return end;
-        }
-        end += 1;
-    }
-    end
-}
-
 // Counts a line among the cases of its call, and among those that agreed; at 0 if it has no known call.
 fn replay_line(line: &[u8], cases: &mut [u64; CALLS], agreed: &mut [u64; CALLS]) {
     let mut numbers = [0i64; NUMBERS];
-    let n = row::read(line, &mut numbers);
+    let n = text::read(line, &mut numbers);
     let call = case::known(row::entry(&numbers[..n], 0));
     cases[call] = std::num::wrapping_add_u64(cases[call], 1);
     if case::agrees(&numbers[..n], call) {
@@ -41,12 +24,12 @@ fn replay_line(line: &[u8], cases: &mut [u64; CALLS], agreed: &mut [u64; CALLS])
 }
 
 // Replays line after line, and answers how many there were.
-fn replay(text: &[u8], cases: &mut [u64; CALLS], agreed: &mut [u64; CALLS]) -> u64 {
+fn replay(input: &[u8], cases: &mut [u64; CALLS], agreed: &mut [u64; CALLS]) -> u64 {
     let mut lines = 0;
     let mut at = 0;
-    while at < text.len() {
-        let end = line_end(text, at);
-        replay_line(&text[at..end], cases, agreed);
+    while at < input.len() {
+        let end = text::line_end(input, at);
+        replay_line(&input[at..end], cases, agreed);
         lines = std::num::wrapping_add_u64(lines, 1);
         at = end + 1;
     }

@@ -1,3 +1,5 @@
+use native.Mathlib.Nat.{le-of-lt}
+use native.Mathlib.Omega.{arith}
 use Prim.Native.Nat.{_-_}
 use lib.ListN.{length}
 use borrow.Author.Needs.{needs}
@@ -5,10 +7,10 @@ use Rattle.replay.proofs.replay.Statement.{statement}
 use Rattle.replay.proofs.replay.Tie as tie
 
 abbrev Inv-loop : tie.InvT-loop
-Inv-loop text cases₀ agreed₀ lines₀ at₀ cases agreed lines at = Unit {0}
+Inv-loop input cases₀ agreed₀ lines₀ at₀ cases agreed lines at = Unit {0}
 
 abbrev μ-loop : tie.MeasureT-loop
-μ-loop text cases₀ agreed₀ lines₀ at₀ cases agreed lines at = length text - at
+μ-loop input cases₀ agreed₀ lines₀ at₀ cases agreed lines at = length input - at
 
 loop-holds : tie.Need-loop-holds Inv-loop μ-loop
 loop-holds c = search needs
@@ -23,7 +25,7 @@ part-replay-line-start : tie.Need-part-replay-line-start Inv-loop μ-loop
 part-replay-line-start c = search needs
 
 part-replay-line-end : tie.Need-part-replay-line-end Inv-loop μ-loop
-part-replay-line-end c = search needs
+part-replay-line-end c = c .line-end .ensures .1 (le-of-lt (c .before .loop-test .taken))
 
 replay-line-requires : tie.Need-replay-line-requires Inv-loop μ-loop
 replay-line-requires c κs = search needs
@@ -32,7 +34,7 @@ wrapping-add-u64-requires : tie.Need-wrapping-add-u64-requires Inv-loop μ-loop
 wrapping-add-u64-requires c κs = search needs
 
 add-at : tie.Need-add-at Inv-loop μ-loop
-add-at c = search needs
+add-at c = omega (arith, c .before .before .before .before .before .line-end .ensures .1 (le-of-lt (c .before .before .before .before .before .before .loop-test .taken)))
 
 loop-less : tie.Need-loop-less Inv-loop μ-loop
 loop-less c = search needs

@@ -2,7 +2,7 @@ use Prim.Native.Nat.{_≤_, _-_}
 use mathlib.Core.Path.{_≡_}
 use native.Mathlib.Omega.{arith}
 use lib.ListN.{length, length-set}
-use Rattle.replay.proofs.Counting.{counts}
+use Rattle.text.proofs.Counting.{counts}
 use borrow.Author.Needs.{needs}
 use Rattle.replay.proofs.row.fill.Statement.{statement}
 use Rattle.replay.proofs.row.fill.Tie as tie

@@ -2,10 +2,10 @@ use Prim.Native.Nat.{_≤_, _-_}
 use mathlib.Core.Path.{_≡_}
 use native.Mathlib.Omega.{arith}
 use lib.ListN.{length, length-set}
-use Rattle.replay.proofs.Counting.{counts}
+use Rattle.text.proofs.Counting.{counts}
 use borrow.Author.Needs.{needs}
-use Rattle.replay.proofs.row.read.Statement.{statement}
-use Rattle.replay.proofs.row.read.Tie as tie
+use Rattle.text.proofs.read.Statement.{statement}
+use Rattle.text.proofs.read.Tie as tie
 
 abbrev Inv-loop : tie.InvT-loop
 Inv-loop line row₀ n₀ at₀ row n at = (n ≤ length row) × (length row ≡ length row₀)

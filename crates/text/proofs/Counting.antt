@@ -5,7 +5,7 @@ use mathlib.Core.List.{List}
 use mathlib.Core.Path.{sym}
 use lib.ListN.{length}
 use lib.Seq.{length-take-le}
-use Rattle.replay.specs.Counts.{Counts}
+use Rattle.text.specs.Counts.{Counts}
 
 pub counts : {A : Type 0} {n : ℕ} (xs : List A) → n ≤ length xs → Counts n xs
 counts xs h = (h, sym (length-take-le _ xs h))
