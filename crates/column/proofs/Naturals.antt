@@ -1,43 +1,36 @@
 -- Signed numbers and their tests, as natural numbers.
 -- Assumes nothing.
 use Prim.Native.Nat.{ℕ, _<_, _^_}
-use mathlib.Core.Bool.{true, false}
-use mathlib.Core.Path.{_≡_, refl}
+use mathlib.Core.Bool.{Bool, true, false, not}
+use mathlib.Core.Path.{_≡_, refl, ap, sym, _∙_}
 use native.Mathlib.Omega.{arith}
-use lib.Dec.{T}
+use lib.Dec.{T, ltb}
 use lib.IntN.{ℤ, pos, negsuc, natAbs}
 use lib.Signed.{leZ, ltZ, nonNeg}
-use borrow.Author.Tests.{le-leb, lt-leb, le-ltb, lt-ltb, ltb-true, ltb-false, leb-true, leb-false}
+use borrow.Author.Tests.{le-leb, lt-leb, ltb-true, ltb-false}
+use Rattle.num.proofs.Tests.{by-test}
 use mir.Syntax.{w64}
 use mir.Val.{toZ, ofZ, Fits, SFits}
 use Rattle.num.proofs.Bits.{end-nat, end-cast}
 use Rattle.column.specs.Runs.{magnitude}
 
--- ---- the two tests of an order
+-- ---- the two tests of an order: each is the other one's "no"
 
-pub lt-le : (a b : ℤ) → ltZ a b ≡ true → leZ b a ≡ false
-lt-le (pos a) (pos b) t = lt-leb b a (ltb-true a b t)
-lt-le (pos a) (negsuc b) t = cc
-lt-le (negsuc a) (pos b) t = refl
-lt-le (negsuc a) (negsuc b) t = lt-leb a b (ltb-true b a t)
+le-not : (a b : ℤ) → leZ b a ≡ not (ltZ a b)
+le-not (pos a) (pos b) = by-test (ltb a b) (λ t. rw t (lt-leb b a (ltb-true a b t))) (λ t. rw t (le-leb b a (ltb-false a b t)))
+le-not (pos a) (negsuc b) = refl
+le-not (negsuc a) (pos b) = refl
+le-not (negsuc a) (negsuc b) = by-test (ltb b a) (λ t. rw t (lt-leb a b (ltb-true b a t))) (λ t. rw t (le-leb a b (ltb-false b a t)))
 
-pub nlt-le : (a b : ℤ) → ltZ a b ≡ false → leZ b a ≡ true
-nlt-le (pos a) (pos b) t = le-leb b a (ltb-false a b t)
-nlt-le (pos a) (negsuc b) t = refl
-nlt-le (negsuc a) (pos b) t = cc
-nlt-le (negsuc a) (negsuc b) t = le-leb a b (ltb-false b a t)
+pub lt-le : (a b : ℤ) {x : Bool} → ltZ a b ≡ x → leZ b a ≡ not x
+lt-le a b t = le-not a b ∙ ap not t
 
-pub le-nlt : (a b : ℤ) → leZ a b ≡ true → ltZ b a ≡ false
-le-nlt (pos a) (pos b) t = le-ltb b a (leb-true a b t)
-le-nlt (pos a) (negsuc b) t = cc
-le-nlt (negsuc a) (pos b) t = refl
-le-nlt (negsuc a) (negsuc b) t = le-ltb a b (leb-true b a t)
-
-pub nle-lt : (a b : ℤ) → leZ a b ≡ false → ltZ b a ≡ true
-nle-lt (pos a) (pos b) t = lt-ltb b a (leb-false a b t)
-nle-lt (pos a) (negsuc b) t = refl
-nle-lt (negsuc a) (pos b) t = cc
-nle-lt (negsuc a) (negsuc b) t = lt-ltb a b (leb-false b a t)
+pub le-lt : (a b : ℤ) {x : Bool} → leZ a b ≡ x → ltZ b a ≡ not x
+le-lt a b t = sym (not-not (ltZ b a)) ∙ ap not (sym (le-not b a) ∙ t)
+  where
+    not-not : (x : Bool) → not (not x) ≡ x
+    not-not true = refl
+    not-not false = refl
 
 -- a number that is not negative is its magnitude
 pub natural : (z : ℤ) → ltZ z (pos 0) ≡ false → z ≡ pos (magnitude z)

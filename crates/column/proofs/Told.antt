@@ -16,7 +16,7 @@ use Rattle.column.specs.Asking.{Question, refusal, _unless_}
 use Rattle.column.specs.Questions.{agree, usedWithin, notNegative, fits, runByRun, longEnough, roomAt, room, both}
 use Rattle.column.specs.Runs.{magnitude}
 use Rattle.column.proofs.FirstNo.{AllYes, all-yes}
-use Rattle.column.proofs.Naturals.{le-nlt}
+use Rattle.column.proofs.Naturals.{le-lt}
 use Rattle.column.proofs.YesNo.{room-both}
 
 -- the test of a question that is one test
@@ -34,7 +34,7 @@ used-told used ends values e = leb-true used (min ends values) (told 2 _ (leb us
 
 pub negative-told : (i : ℕ) (run : ℤ) → notNegative i run ≡ none → ltZ run (pos 0) ≡ false
 unfolding notNegative
-negative-told i run e = le-nlt (pos 0) run (told 6 _ (leZ (pos 0) run) e)
+negative-told i run e = le-lt (pos 0) run (told 6 _ (leZ (pos 0) run) e)
 
 pub fits-told : (n : ℕ) → fits n ≡ none → n < 2 ^ 63
 unfolding fits

@@ -20,7 +20,7 @@ use Rattle.column.specs.Asking.{Question, refusal, firstNo}
 use Rattle.column.specs.Questions.{listed, startAndRise, lastOffset, offsetsRise, offsetsValid, distinctAt, intervalAt, side, isMissing, filled, endsFrom, notNegative, fits, runByRun, longEnough, roomAt, roomFrom, room, both}
 use Rattle.column.specs.Runs.{magnitude}
 use Rattle.column.proofs.FirstNo.{alone}
-use Rattle.column.proofs.Naturals.{lt-le, nlt-le, le-nlt, nle-lt}
+use Rattle.column.proofs.Naturals.{lt-le, le-lt}
 
 -- ---- 1
 
@@ -62,11 +62,11 @@ offsets-refused os n t e = rw (t, ne-eqb (lastOffset 0 os) n e)
 module _ (before : ℤ) (i : ℕ) (es : List ℤ) where
   pub ends-next : i < length es → leZ (getD es i (pos 0)) before ≡ false → endsFrom i before (drop i es) ≡ endsFrom (i + 1) (getD es i (pos 0)) (drop (i + 1) es)
   unfolding endsFrom
-  ends-next h t = rw (add-one, drop-cons es i (pos 0), nle-lt (getD es i (pos 0)) before t) (alone (endsFrom (suc i) (getD es i (pos 0)) (drop (suc i) es)))
+  ends-next h t = rw (add-one, drop-cons es i (pos 0), le-lt (getD es i (pos 0)) before t) (alone (endsFrom (suc i) (getD es i (pos 0)) (drop (suc i) es)))
 
   pub ends-refused : i < length es → leZ (getD es i (pos 0)) before ≡ true → endsFrom i before (drop i es) ≡ refusal 4 (pos i ∷ [])
   unfolding endsFrom
-  ends-refused h t = rw (drop-cons es i (pos 0), le-nlt (getD es i (pos 0)) before t)
+  ends-refused h t = rw (drop-cons es i (pos 0), le-lt (getD es i (pos 0)) before t)
 
   pub ends-end : length es ≤ i → endsFrom i before (drop i es) ≡ none
   unfolding endsFrom
@@ -76,7 +76,7 @@ module _ (before : ℤ) (i : ℕ) (es : List ℤ) where
 
 pub negative-yes : (i : ℕ) (run : ℤ) → ltZ run (pos 0) ≡ false → notNegative i run ≡ none
 unfolding notNegative
-negative-yes i run t = rw (nlt-le run (pos 0) t)
+negative-yes i run t = rw (lt-le run (pos 0) t)
 
 pub negative-refused : (i : ℕ) (run : ℤ) → ltZ run (pos 0) ≡ true → notNegative i run ≡ refusal 6 (pos i ∷ run ∷ [])
 unfolding notNegative
@@ -130,11 +130,11 @@ module _ (ends : List ℤ) (i : ℕ) (start : ℤ) {end : ℤ} (e : end ≡ getD
 
   pub interval-reversed : ltZ start (pos 0) ≡ false → ltZ end start ≡ true → intervalAt ends i start ≡ refusal 9 (pos i ∷ start ∷ end ∷ [])
   unfolding intervalAt
-  interval-reversed t u = rw (nlt-le start (pos 0) t, ← e, lt-le end start u)
+  interval-reversed t u = rw (lt-le start (pos 0) t, ← e, lt-le end start u)
 
   pub interval-yes : ltZ start (pos 0) ≡ false → ltZ end start ≡ false → intervalAt ends i start ≡ none
   unfolding intervalAt
-  interval-yes t u = rw (nlt-le start (pos 0) t, ← e, nlt-le end start u)
+  interval-yes t u = rw (lt-le start (pos 0) t, ← e, lt-le end start u)
 
 -- ---- 10, of two sides
 
@@ -159,7 +159,7 @@ module _ (a b : ℤ) (fa fb : Fill) {n : ℤ} (e : n ≡ largerOf a (largerOf b 
 
 pub long-yes : (requested present : ℤ) → ltZ requested present ≡ false → longEnough requested present ≡ none
 unfolding longEnough
-long-yes requested present t = rw (nlt-le requested present t)
+long-yes requested present t = rw (lt-le requested present t)
 
 pub long-refused : (requested present : ℤ) → ltZ requested present ≡ true → longEnough requested present ≡ refusal 11 (requested ∷ present ∷ [])
 unfolding longEnough
