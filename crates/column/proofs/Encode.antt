@@ -140,6 +140,27 @@ encode-next xs i h =
     ∙ encode-push (take i xs) 0 (getD xs i (pos 0))
     ∙ ap (λ (n : ℕ). pushMerged (encode (take i xs)) (n + 1) (getD xs i (pos 0))) (length-take-le i xs (omega arith))
 
+-- the last run has the last value
+pub encode-last : (xs : List ℤ) (i : ℕ) → i ≤ length xs → lastOf (getD xs 0 (pos 0)) (encode (take i xs)) ≡ getD xs (i - 1) (pos 0)
+unfolding encode encodeFrom lastOf
+encode-last xs zero h = refl
+encode-last xs (suc i) h =
+    ap (λ (k : ℕ). lastOf (getD xs 0 (pos 0)) (encode (take k xs))) (sym (add-one i))
+    ∙ ap (lastOf (getD xs 0 (pos 0))) (encode-next xs i (omega arith))
+    ∙ last-push (getD xs 0 (pos 0)) (encode (take i xs)) (i + 1) (getD xs i (pos 0))
+    ∙ (let n : i ≡ suc i - 1 = omega arith in ap (λ (k : ℕ). getD xs k (pos 0)) n)
+
+-- more values have no fewer runs
+pub encode-more : (xs : List ℤ) (i n : ℕ) → i + n ≤ length xs → length (encode (take i xs)) ≤ length (encode (take (i + n) xs))
+encode-more xs i zero h = rw add-zero (omega arith)
+encode-more xs i (suc n) h =
+    let e : i + suc n ≡ i + n + 1 = omega arith in
+    let m = encode-more xs i n (omega arith) in
+    let q = ap length (encode-next xs (i + n) (omega arith)) in
+    let l = length-push (encode (take (i + n) xs)) (i + n + 1) (getD xs (i + n) (pos 0)) in
+    let p = le-place (encode (take (i + n) xs)) (getD xs (i + n) (pos 0)) in
+    rw e (omega arith)
+
 -- one more stretch, up to e
 encode-up : (xs : List ℤ) (e : ℕ) (v : ℤ) → length xs < e → encode (xs ++ replicate (e - length xs) v) ≡ pushMerged (encode xs) e v
 encode-up xs e v h = go (e - length xs) (omega arith)

@@ -1,16 +1,18 @@
 // Workers that assume what the calls have asked.
 use column::inner::Writer;
 use column::sequence;
-ghost use Prim.Native.Nat.{_-_, _≤_, _<_};
+ghost use Prim.Native.Nat.{_+_, _-_, _≤_, _<_, _^_};
+ghost use mathlib.Core.Bool.{true, cond};
 ghost use mathlib.Core.List.{_++_};
 ghost use mathlib.Core.Option.{none};
 ghost use mathlib.Core.Path.{_≡_};
 ghost use lib.IntN.{pos};
 ghost use lib.ListN.{length, getD, take, drop, replicate};
+ghost use Rattle.num.specs.Numbers.{eqZ};
 ghost use Rattle.column.specs.Questions.{endsValid, runByRun};
 ghost use Rattle.column.specs.Runs.{sequence, runsOf, dense, encode, over, Filled};
 ghost use Rattle.rle.specs.Rle.{runsFrom, pushed, extended};
-ghost use Rattle.rle.specs.Workers.{PutRun, Pushable, Extendable};
+ghost use Rattle.rle.specs.Workers.{PutRun, Pushable, Extendable, Stretch, Encoded, Encodable};
 
 // A run up to `end` at entry n, unless its length is 0: how many entries there are then.
 fn put_run(
@@ -101,6 +103,74 @@ pub fn extend_to(
     next.at + 1
 }
 
+// As many values are compared at once: so many that short runs never fill a block, and the branch on it is predicted.
+const BLOCK: usize = 32;
+
+// One more if the values are equal.
+fn count_if_equal(count: usize, x: i64, y: i64) -> usize
+    requires { ⌜ count + 1 < 2 ^ 64 ⌝ }
+    ensures { λ r. ⌜ r ≡ cond (eqZ x y) (count + 1) count ⌝ }
+{
+    if x == y { count + 1 } else { count }
+}
+
+// It counts, as that becomes vector instructions, where a conjunction becomes a branch for each value.
+fn all_equal(values: &[i64], from: usize, to: usize, value: i64) -> bool
+    requires { ⌜ (from ≤ to) × (to ≤ length (now values)) ⌝ }
+    ensures { λ r. ⌜ (r ≡ true → Stretch (now (values .entry)) from to value) ⌝ }
+{
+    let mut count: usize = 0;
+    let mut i = from;
+    while i < to {
+        let x = values[i];
+        count = count_if_equal(count, x, value);
+        i += 1;
+    }
+    count == to - from
+}
+
+// The values from `from` up to `to`, one by one, with no branch on them.
+fn push_values(
+    writer: Writer,
+    values: &[i64],
+    from: usize,
+    to: usize,
+    out_ends: &mut [i64],
+    out_values: &mut [i64],
+) -> Writer
+    requires { ⌜ Encodable (now values) (now «out_ends») (now «out_values») writer from to ⌝ }
+    ensures { λ r. ⌜ Encoded (now (values .entry)) (now («out_ends» .entry)) (now («out_ends» .exit)) (now («out_values» .entry)) (now («out_values» .exit)) r to ⌝ }
+{
+    let mut next = writer;
+    let mut i = from;
+    while i < to {
+        let value = values[i];
+        i += 1;
+        next = column::inner::push_merged(next, out_ends, out_values, i as i64, value);
+    }
+    next
+}
+
+// The same, in one step where all of them go on with the last run.
+fn push_block(
+    writer: Writer,
+    values: &[i64],
+    from: usize,
+    to: usize,
+    out_ends: &mut [i64],
+    out_values: &mut [i64],
+) -> Writer
+    requires { ⌜ (from < to) × Encodable (now values) (now «out_ends») (now «out_values») writer from to ⌝ }
+    ensures { λ r. ⌜ Encoded (now (values .entry)) (now («out_ends» .entry)) (now («out_ends» .exit)) (now («out_values» .entry)) (now («out_values» .exit)) r to ⌝ }
+{
+    let last = writer.last;
+    if all_equal(values, from, to, last) {
+        column::inner::push_merged(writer, out_ends, out_values, to as i64, last)
+    } else {
+        push_values(writer, values, from, to, out_ends, out_values)
+    }
+}
+
 // The merged runs of values.
 pub fn from_dense(values: &[i64], out_ends: &mut [i64], out_values: &mut [i64]) -> usize
     requires { ⌜ (length (now values) ≤ length (now «out_ends»)) × (length (now values) ≤ length (now «out_values»)) ⌝ }
@@ -112,12 +182,13 @@ pub fn from_dense(values: &[i64], out_ends: &mut [i64], out_values: &mut [i64]) 
     let first = values[0];
     let mut writer = Writer { at: 0, last: first };
     let mut i: usize = 0;
-    while i < values.len() {
-        let value = values[i];
-        i += 1;
-        writer = column::inner::push_merged(writer, out_ends, out_values, i as i64, value);
+    while values.len() - i >= BLOCK {
+        let to = i + BLOCK;
+        writer = push_block(writer, values, i, to, out_ends, out_values);
+        i = to;
     }
-    writer.at + 1
+    let end = push_values(writer, values, i, values.len(), out_ends, out_values);
+    end.at + 1
 }
 
 // The entries from `from` up to `to` set to a value.
