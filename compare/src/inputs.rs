@@ -144,6 +144,13 @@ impl Column {
         self.runs.iter().scan(0, add).collect()
     }
 
+    /// The values shown, of a long run only the first positions.
+    fn dense(&self) -> Vec<i64> {
+        let runs = self.runs.iter().zip(&self.values);
+        runs.flat_map(|(&run, &value)| std::iter::repeat_n(value, run.min(100) as usize))
+            .collect()
+    }
+
     fn arg(&self, role: Role, rng: &mut Rng) -> Arg {
         let length: i64 = self.runs.iter().sum();
         let near = rng.below(5) as i64 - 2;
@@ -158,7 +165,8 @@ impl Column {
                 Arg::List(self.runs.iter().map(other).collect())
             }
             Role::Ends => Arg::List(self.ends()),
-            Role::Values | Role::Dense => Arg::List(self.values.clone()),
+            Role::Values => Arg::List(self.values.clone()),
+            Role::Dense => Arg::List(self.dense()),
             Role::Used => Arg::Count(self.runs.len()),
             Role::Run => Arg::Number(match rng.below(3) {
                 0 => (i64::MAX - length).wrapping_add(near),

@@ -15,7 +15,7 @@ use Rattle.column.proofs.Buffer.{length-over, over-over}
 use Rattle.column.proofs.Encode.{encode-pos, encode-none, encode-le, encode-last, encode-more, encode-stretch}
 use Rattle.column.proofs.Merging.{Merging, merge-start, merge-end, merge-at, merge-more, fill-none}
 use Rattle.column.proofs.Sequences.{length-ends, length-values}
-use Rattle.rle.specs.Workers.{Stretch, Encoded, Encodable}
+use Rattle.rle.specs.Workers.{Constant, Encoded, Encodable}
 
 -- what push_merged requires
 abbrev pub Room : Writer → ℤ → List ℤ → List ℤ → Type 0
@@ -33,10 +33,10 @@ module _ {A : Type 0} (xs b₀ : List A) {b : List A} (e : b ≡ over xs b₀) w
   over-on : (ys : List A) {b′ : List A} → b′ ≡ over ys b → length xs ≤ length ys → b′ ≡ over ys b₀
   over-on ys d h = d ∙ ap (over ys) e ∙ over-over ys xs b₀ h
 
-pub stretch-none : (xs : List ℤ) (i : ℕ) (x : ℤ) → Stretch xs i i x
+pub stretch-none : (xs : List ℤ) (i : ℕ) (x : ℤ) → Constant xs i i x
 stretch-none xs i x = let n : i - i ≡ 0 = omega arith in rw n (sym (append-nil (take i xs)))
 
-pub stretch-more : (xs : List ℤ) (i j : ℕ) (x : ℤ) → i ≤ j → j < length xs → x ≡ getD xs j (pos 0) → Stretch xs i j x → Stretch xs i (j + 1) x
+pub stretch-more : (xs : List ℤ) (i j : ℕ) (x : ℤ) → i ≤ j → j < length xs → x ≡ getD xs j (pos 0) → Constant xs i j x → Constant xs i (j + 1) x
 stretch-more xs i j x h k ex s =
     let n : j + 1 - i ≡ j - i + 1 = omega arith in
     ap (λ (m : ℕ). take m xs) (add-one j)
@@ -45,7 +45,7 @@ stretch-more xs i j x h k ex s =
     ∙ append-assoc (take i xs) (replicate (j - i) x) (x ∷ [])
     ∙ ap (λ (l : List ℤ). take i xs ++ l) (replicate-append-replicate (j - i) 1 x ∙ ap (λ (m : ℕ). replicate m x) (sym n))
 
-stretch-first : (xs : List ℤ) (i j : ℕ) (x : ℤ) → i < j → j ≤ length xs → Stretch xs i j x → getD xs i (pos 0) ≡ x
+stretch-first : (xs : List ℤ) (i j : ℕ) (x : ℤ) → i < j → j ≤ length xs → Constant xs i j x → getD xs i (pos 0) ≡ x
 stretch-first xs i j x h k s =
     let n : length (take i xs) + 0 ≡ i = omega (arith, length-take-le i xs (omega arith)) in
     sym (getD-take j xs i (pos 0) h)
@@ -109,7 +109,7 @@ module _ {xs e₀ v₀ e v : List ℤ} {w : Writer} {i : ℕ} (d : Encoded xs e�
       }
 
   -- a stretch of the value x from i up to j
-  module _ {j : ℕ} (x : ℤ) (h : i < j) (n : j ≤ length xs) (s : Stretch xs i j x) where
+  module _ {j : ℕ} (x : ℤ) (h : i < j) (n : j ≤ length xs) (s : Constant xs i j x) where
     start : length (encode (take i xs)) ≡ 0 → getD xs 0 (pos 0) ≡ x
     start z =
         let none : i ≡ 0 = sym (length-take-le i xs k) ∙ encode-none (take i xs) z in
@@ -130,7 +130,7 @@ module _ {xs e₀ v₀ e v : List ℤ} {w : Writer} {i : ℕ} (d : Encoded xs e�
 
   -- one value
   module _ (h : i < length xs) {x : ℤ} (ex : x ≡ getD xs i (pos 0)) where
-    alone : Stretch xs i (i + 1) x
+    alone : Constant xs i (i + 1) x
     alone = stretch-more xs i i x (omega arith) h ex (stretch-none xs i x)
 
     pub value-room : length xs < 2 ^ 63 → Room w x e v

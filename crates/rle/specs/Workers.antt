@@ -33,8 +33,8 @@ pub record Extendable (ends values : List ℤ) (n : ℕ) (requested : ℤ) : Typ
   pub long : longEnough requested (pos (presentLength n (sequence ends values))) ≡ none
 
 -- from i up to j all of xs are x
-abbrev pub Stretch : List ℤ → ℕ → ℕ → ℤ → Type 0
-Stretch xs i j x = take j xs ≡ take i xs ++ replicate (j - i) x
+abbrev pub Constant : List ℤ → ℕ → ℕ → ℤ → Type 0
+Constant xs i j x = take j xs ≡ take i xs ++ replicate (j - i) x
 
 -- the merged runs of the first i of xs written into the front of two buffers, each before and after, and the writer behind them
 pub record Encoded (xs e e′ v v′ : List ℤ) (w : Writer) (i : ℕ) : Type 0 where

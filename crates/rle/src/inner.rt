@@ -12,7 +12,7 @@ ghost use Rattle.num.specs.Numbers.{eqZ};
 ghost use Rattle.column.specs.Questions.{endsValid, runByRun};
 ghost use Rattle.column.specs.Runs.{sequence, runsOf, dense, encode, over, Filled};
 ghost use Rattle.rle.specs.Rle.{runsFrom, pushed, extended};
-ghost use Rattle.rle.specs.Workers.{PutRun, Pushable, Extendable, Stretch, Encoded, Encodable};
+ghost use Rattle.rle.specs.Workers.{PutRun, Pushable, Extendable, Constant, Encoded, Encodable};
 
 // A run up to `end` at entry n, unless its length is 0: how many entries there are then.
 fn put_run(
@@ -117,7 +117,7 @@ fn count_if_equal(count: usize, x: i64, y: i64) -> usize
 // It counts, as that becomes vector instructions, where a conjunction becomes a branch for each value.
 fn all_equal(values: &[i64], from: usize, to: usize, value: i64) -> bool
     requires { ⌜ (from ≤ to) × (to ≤ length (now values)) ⌝ }
-    ensures { λ r. ⌜ (r ≡ true → Stretch (now (values .entry)) from to value) ⌝ }
+    ensures { λ r. ⌜ (r ≡ true → Constant (now (values .entry)) from to value) ⌝ }
 {
     let mut count: usize = 0;
     let mut i = from;

@@ -12,7 +12,7 @@ use mir.Facts.{toZ-ofZ}
 use Rattle.num.specs.Numbers.{eqZ}
 use Rattle.num.proofs.Bits.{back}
 use Rattle.num.proofs.Tests.{by-test, eqZ-true}
-use Rattle.rle.specs.Workers.{Stretch}
+use Rattle.rle.specs.Workers.{Constant}
 use Rattle.rle.proofs.Encoding.{stretch-none, stretch-more}
 use borrow.Author.Needs.{needs}
 use Rattle.rle.proofs.inner.all_equal.Statement.{statement}
@@ -23,7 +23,7 @@ record Counted (xs : List ℤ) (from to : ℕ) (x : ℤ) (count i : ℕ) : Type 
   begun : from ≤ i
   before : i ≤ to
   few : count ≤ i - from
-  all : count ≡ i - from → Stretch xs from i x
+  all : count ≡ i - from → Constant xs from i x
 
 counted-none : (xs : List ℤ) (from to : ℕ) (x : ℤ) → from ≤ to → Counted xs from to x 0 from
 counted-none xs from to x h = record { begun = omega arith; before = h; few = omega arith; all = λ e. stretch-none xs from x }
