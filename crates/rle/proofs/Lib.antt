@@ -4,4 +4,5 @@ pub mod Encoding
 pub mod Examples
 pub mod Repeated
 pub mod Runwise
+pub mod Shown
 pub mod Yes
