@@ -1,20 +1,18 @@
 -- The merged runs of a list: one more stretch of equal values, and what the runs show.
 -- Assumes nothing.
 use Prim.Native.Nat.{ℕ, zero, suc, _+_, _-_, _≤_, _<_}
-use mathlib.Core.Bool.{true, false, cond}
+use mathlib.Core.Bool.{cond}
 use mathlib.Core.List.{List, [], _∷_, _++_, map, map-append, append-nil, append-assoc}
 use mathlib.Core.Path.{_≡_, refl, ap, sym, _∙_}
 use native.Mathlib.Nat.{suc-add, add-suc, zero-add, add-zero}
 use native.Mathlib.Numerals.{add-one}
 use native.Mathlib.Omega.{arith}
 use lib.IntN.{ℤ, pos}
-use lib.ListN.{length, set, take, getD, replicate, length-append, length-replicate}
-use lib.Seq.{length-take-le, take-suc, take-all}
-use Rattle.column.proofs.Buffer.{set-last}
+use lib.ListN.{length, take, getD, replicate, length-append, length-replicate}
+use lib.Seq.{length-take-le, take-suc}
 use Rattle.num.specs.Numbers.{eqZ}
 use Rattle.column.specs.Runs.{Run, Runs, joined, encodeFrom, encode, endsOf, valuesOf, denseFrom, dense, pushMerged}
 use Rattle.column.proofs.Rising.{Rising}
-use Rattle.column.proofs.Sequences.{length-ends, length-values}
 use Rattle.column.proofs.Pushed.{place, lastOf, pushAll}
 use Rattle.num.proofs.Tests.{eqZ-true, eqZ-refl, by-test}
 
@@ -193,34 +191,3 @@ push-all-from xs (r ∷ rs) h =
 pub push-all : (rs : Runs) → Rising 0 rs → pushAll [] rs ≡ encode (dense rs)
 unfolding encode encodeFrom dense
 push-all rs h = push-all-from [] rs h
-
--- ---- the two flat lists after a push, as a store or one entry more
-
-module _ (rs : Runs) (d : ℤ) (e : ℕ) (v : ℤ) (some : 0 < length rs) where
-  place-same : eqZ (lastOf d rs) v ≡ true → place rs v ≡ length rs - 1
-  place-same t = place-last d rs v (λ z. let n : ⊥ = omega arith in absurd n) ∙ rw t
-
-  place-new : eqZ (lastOf d rs) v ≡ false → place rs v ≡ length rs
-  place-new t = place-last d rs v (λ z. let n : ⊥ = omega arith in absurd n) ∙ rw t (omega arith)
-
-  pub ends-same : eqZ (lastOf d rs) v ≡ true → endsOf (pushMerged rs e v) ≡ set (endsOf rs) (length rs - 1) (pos e)
-  ends-same t =
-      ends-push rs e v
-      ∙ ap (λ (n : ℕ). take n (endsOf rs) ++ pos e ∷ []) (place-same t)
-      ∙ rw (← length-ends rs) (sym (set-last (endsOf rs) (pos e) (rw (length-ends rs) some)))
-
-  pub ends-new : eqZ (lastOf d rs) v ≡ false → endsOf (pushMerged rs e v) ≡ endsOf rs ++ pos e ∷ []
-  ends-new t =
-      ends-push rs e v
-      ∙ ap (λ (l : List ℤ). l ++ pos e ∷ []) (take-all (place rs v) (endsOf rs) (omega (arith, length-ends rs, place-new t)))
-
-  pub values-same : eqZ (lastOf d rs) v ≡ true → valuesOf (pushMerged rs e v) ≡ set (valuesOf rs) (length rs - 1) v
-  values-same t =
-      values-push rs e v
-      ∙ ap (λ (n : ℕ). take n (valuesOf rs) ++ v ∷ []) (place-same t)
-      ∙ rw (← length-values rs) (sym (set-last (valuesOf rs) v (rw (length-values rs) some)))
-
-  pub values-new : eqZ (lastOf d rs) v ≡ false → valuesOf (pushMerged rs e v) ≡ valuesOf rs ++ v ∷ []
-  values-new t =
-      values-push rs e v
-      ∙ ap (λ (l : List ℤ). l ++ v ∷ []) (take-all (place rs v) (valuesOf rs) (omega (arith, length-values rs, place-new t)))

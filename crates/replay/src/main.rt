@@ -12,11 +12,17 @@ const CALLS: usize = 9;
 // The most numbers that are read of a line, more than any case has.
 const NUMBERS: usize = 128;
 
-// Counts a line among the cases of its call, and among those that agreed; at 0 if it has no known call.
+// Counts a line among the cases of its call, and among those that agreed; at 0 if it has no known call or cannot be read.
 fn replay_line(line: &[u8], cases: &mut [u64; CALLS], agreed: &mut [u64; CALLS]) {
     let mut numbers = [0i64; NUMBERS];
-    let n = text::read(line, &mut numbers);
-    let call = case::known(row::entry(&numbers[..n], 0));
+    let read = text::read(line, &mut numbers);
+    let n = read.numbers;
+    let number = if read.valid {
+        row::entry(&numbers[..n], 0)
+    } else {
+        -1
+    };
+    let call = case::known(number);
     cases[call] = std::num::wrapping_add_u64(cases[call], 1);
     if case::agrees(&numbers[..n], call) {
         agreed[call] = std::num::wrapping_add_u64(agreed[call], 1);

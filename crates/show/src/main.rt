@@ -45,8 +45,13 @@ fn show_column(values: &[i64]) {
 
 fn show_line(line: &[u8]) {
     let mut values = [0i64; VALUES];
-    let n = text::read(line, &mut values);
-    show_column(&values[..n]);
+    let read = text::read(line, &mut values);
+    let n = read.numbers;
+    if read.valid {
+        show_column(&values[..n]);
+    } else {
+        io::write_all(STDOUT_FILENO, b"not a list of numbers\n");
+    }
 }
 
 fn show(input: &[u8]) {
@@ -61,5 +66,9 @@ fn show(input: &[u8]) {
 fn main() {
     let mut buffer = io::large_buffer();
     let n = io::read_full(STDIN_FILENO, &mut buffer);
-    show(&buffer[..n]);
+    if n == buffer.len() {
+        io::write_all(STDOUT_FILENO, b"more input than is read\n");
+    } else {
+        show(&buffer[..n]);
+    }
 }

@@ -17,70 +17,124 @@ pub fn line_end(text: &[u8], at: usize) -> usize
     end
 }
 
-// A number of the text, and the place behind it.
+// A number of the text and the place behind it. It is not valid without a digit, or beyond i64.
 struct Number {
     value: i64,
     next: usize,
+    valid: bool,
 }
 
+// Digits and the place behind them.
+struct Digits {
+    magnitude: u64,
+    next: usize,
+}
+
+// As many digits always fit a u64.
+const DIGITS: usize = 19;
+
 // The value of a digit; 10 for any other byte.
-fn digit(byte: u8) -> i64 {
+fn digit(byte: u8) -> u64 {
     if byte < b'0' {
         return 10;
     }
     if byte > b'9' {
         return 10;
     }
-    (byte - b'0') as i64
+    (byte - b'0') as u64
 }
 
-fn digits(line: &[u8], at: usize) -> Number
+fn read_digits(line: &[u8], at: usize) -> Digits
     requires { ⌜ at ≤ length (now line) ⌝ }
     ensures { λ r. ⌜ (at ≤ r .next) × (r .next ≤ length (now (line .entry))) ⌝ }
 {
-    let mut value = 0;
+    let mut magnitude = 0;
     let mut next = at;
     while next < line.len() {
         let digit = digit(line[next]);
         if digit > 9 {
-            return Number { value, next };
+            return Digits { magnitude, next };
         }
-        value = num::wrapping_add(num::wrapping_mul(value, 10), digit);
+        let product = num::full_product(magnitude, 10);
+        magnitude = std::num::wrapping_add_u64(product.low, digit);
         next += 1;
     }
-    Number { value, next }
+    Digits { magnitude, next }
 }
 
+// The number behind its sign; `limit` is the greatest magnitude that the sign allows.
+fn number_within(line: &[u8], at: usize, negative: bool, limit: u64) -> Number
+    requires { ⌜ at ≤ length (now line) ⌝ }
+    ensures { λ r. ⌜ (at ≤ r .next) × (r .next ≤ length (now (line .entry))) ⌝ }
+{
+    let read = read_digits(line, at);
+    let next = read.next;
+    let magnitude = read.magnitude;
+    let count = next - at;
+    let valid = 0 < count && count <= DIGITS && magnitude <= limit;
+    if negative {
+        let value = num::as_signed(std::num::wrapping_sub_u64(0, magnitude));
+        Number { value, next, valid }
+    } else {
+        let value = num::as_signed(magnitude);
+        Number { value, next, valid }
+    }
+}
+
+// A minus sign, if there is one, and digits.
 fn signed_number(line: &[u8], at: usize) -> Number
     requires { ⌜ at < length (now line) ⌝ }
     ensures { λ r. ⌜ (at ≤ r .next) × (r .next ≤ length (now (line .entry))) ⌝ }
 {
     if line[at] == b'-' {
-        let magnitude = digits(line, at + 1);
-        Number {
-            value: num::wrapping_sub(0, magnitude.value),
-            next: magnitude.next,
-        }
+        number_within(line, at + 1, true, 0x8000_0000_0000_0000)
     } else {
-        digits(line, at)
+        number_within(line, at, false, 0x7fff_ffff_ffff_ffff)
     }
 }
 
-// Reads a line's numbers, with a single byte between them, as far as there is room, and answers how many.
-pub fn read(line: &[u8], row: &mut [i64]) -> usize
-    ensures { λ r. ⌜ Counts r (now (row .exit)) ⌝ }
+// The numbers that were read of a line, and whether they are all that the line says.
+pub struct Line {
+    pub numbers: usize,
+    pub valid: bool,
+}
+
+// Reads a line's numbers, each behind a single blank. A line with anything else, or with more numbers than there is room, is not valid.
+pub fn read(line: &[u8], row: &mut [i64]) -> Line
+    ensures { λ r. ⌜ Counts (r .numbers) (now (row .exit)) ⌝ }
 {
     let mut n = 0;
     let mut at = 0;
     while at < line.len() {
         if n == row.len() {
-            return n;
+            return Line {
+                numbers: n,
+                valid: false,
+            };
         }
         let number = signed_number(line, at);
         let value = number.value;
+        let next = number.next;
         row[n] = value;
         n += 1;
-        at = number.next + 1;
+        if !number.valid {
+            return Line {
+                numbers: n,
+                valid: false,
+            };
+        }
+        if next < line.len() {
+            if line[next] != b' ' {
+                return Line {
+                    numbers: n,
+                    valid: false,
+                };
+            }
+        }
+        at = next + 1;
     }
-    n
+    Line {
+        numbers: n,
+        valid: true,
+    }
 }

@@ -1,14 +1,14 @@
 use Prim.Native.Nat.{_≤_, _-_}
 use lib.ListN.{length}
 use borrow.Author.Needs.{needs}
-use Rattle.text.proofs.digits.Statement.{statement}
-use Rattle.text.proofs.digits.Tie as tie
+use Rattle.text.proofs.read_digits.Statement.{statement}
+use Rattle.text.proofs.read_digits.Tie as tie
 
 abbrev Inv-loop : tie.InvT-loop
-Inv-loop line at value₀ next₀ value next = (at ≤ next) × (next ≤ length line)
+Inv-loop line at magnitude₀ next₀ magnitude next = (at ≤ next) × (next ≤ length line)
 
 abbrev μ-loop : tie.MeasureT-loop
-μ-loop line at value₀ next₀ value next = length line - next
+μ-loop line at magnitude₀ next₀ magnitude next = length line - next
 
 loop-holds : tie.Need-loop-holds Inv-loop μ-loop
 loop-holds c = search needs
@@ -22,11 +22,11 @@ digit-requires c κs = search needs
 returns : tie.Need-returns Inv-loop μ-loop
 returns c = search needs
 
-wrapping-mul-requires : tie.Need-wrapping-mul-requires Inv-loop μ-loop
-wrapping-mul-requires c κs = search needs
+full-product-requires : tie.Need-full-product-requires Inv-loop μ-loop
+full-product-requires c κs = search needs
 
-wrapping-add-requires : tie.Need-wrapping-add-requires Inv-loop μ-loop
-wrapping-add-requires c κs = search needs
+wrapping-add-u64-requires : tie.Need-wrapping-add-u64-requires Inv-loop μ-loop
+wrapping-add-u64-requires c κs = search needs
 
 add-next : tie.Need-add-next Inv-loop μ-loop
 add-next c = search needs
@@ -40,8 +40,8 @@ loop-again c = search needs
 returns-2 : tie.Need-returns-2 Inv-loop μ-loop
 returns-2 c = search needs
 
-pub digits-spec : {M : Type 1} → statement M
-digits-spec =
+pub read-digits-spec : {M : Type 1} → statement M
+read-digits-spec =
     tie.close
     (tie.spec
     Inv-loop
@@ -50,8 +50,8 @@ digits-spec =
     shared-slice-read-digit
     digit-requires
     returns
-    wrapping-mul-requires
-    wrapping-add-requires
+    full-product-requires
+    wrapping-add-u64-requires
     add-next
     loop-less
     loop-again
