@@ -1,6 +1,8 @@
--- What the contracts of several crates cite, to be read beside document 01 in this order: Runs, Paper, Asking, Questions; then Writing.
--- Lists has what is said of lists.
+-- What the contracts of several crates cite, to be read beside document 01 in this order: Runs, Paper, Asking, Questions, Combine, Flat; then
+-- Writing. Lists has what is said of lists.
 pub mod Asking
+pub mod Combine
+pub mod Flat
 pub mod Lists
 pub mod Paper
 pub mod Questions

@@ -1,5 +1,5 @@
--- Lists: a test over their entries, and parts of them.
-use Prim.Native.Nat.{ℕ, _-_}
+-- Lists: a test over their entries, their sum, and parts of them.
+use Prim.Native.Nat.{ℕ, _+_, _-_}
 use mathlib.Core.Bool.{Bool, false, _||_}
 use mathlib.Core.List.{List, [], _∷_}
 use lib.ListN.{take, drop}
@@ -8,6 +8,10 @@ use lib.ListN.{take, drop}
 abbrev pub any : {A : Type 0} → (A → Bool) → List A → Bool
 any f [] = false
 any f (x ∷ xs) = f x || any f xs
+
+abbrev pub total : List ℕ → ℕ
+total [] = 0
+total (n ∷ ns) = n + total ns
 
 -- the entries from a up to b
 abbrev pub part : {A : Type 0} → ℕ → ℕ → List A → List A

@@ -1,0 +1,47 @@
+-- Several sequences laid flat: "offsets and flat ends and values, as a batch without keys".
+use Prim.Native.Nat.{ℕ, _-_}
+use mathlib.Core.List.{List, [], _∷_, map}
+use lib.IntN.{ℤ}
+use lib.ListN.{length}
+use Rattle.column.specs.Asking.{Question}
+use Rattle.column.specs.Lists.{part}
+use Rattle.column.specs.Questions.{paired, offsetsValid, sequencesValid}
+use Rattle.column.specs.Runs.{Sequence, sequence, Runs, runs}
+
+pub record Flat : Type 0 where
+  pub offsets : List ℕ
+  pub ends : List ℤ
+  pub values : List ℤ
+
+abbrev pub flat : List ℕ → List ℤ → List ℤ → Flat
+flat os es vs = record { offsets = os; ends = es; values = vs }
+
+-- as many as there are offsets but the first
+abbrev pub count : Flat → ℕ
+count f = length (f .offsets) - 1
+
+-- "key k owns entries offsets[k] up to offsets[k+1]": the sequences, from an offset on
+unfoldable pub sequencesFrom : ℕ → List ℕ → List ℤ → List ℤ → List Sequence
+sequencesFrom a [] es vs = []
+sequencesFrom a (b ∷ os) es vs = sequence (part a b es) (part a b vs) ∷ sequencesFrom b os es vs
+
+abbrev pub sequencesAt : List ℕ → List ℤ → List ℤ → List Sequence
+sequencesAt [] es vs = []
+sequencesAt (a ∷ os) es vs = sequencesFrom a os es vs
+
+abbrev pub sequences : Flat → List Sequence
+sequences f = sequencesAt (f .offsets) (f .ends) (f .values)
+
+-- their runs
+unfoldable pub columns : Flat → List Runs
+columns f = map runs (sequences f)
+
+-- what 3, of all entries at once; 3; 4
+abbrev pub pairedFlat : Flat → Question
+pairedFlat f = paired (sequence (f .ends) (f .values))
+
+abbrev pub offsetsFlat : Flat → Question
+offsetsFlat f = offsetsValid (f .offsets) (length (f .ends))
+
+abbrev pub endsFlat : Flat → Question
+endsFlat f = sequencesValid (f .offsets) (f .ends)
