@@ -1,13 +1,13 @@
 -- Valid ends: natural numbers that rise, so that `omega` reads their order, and the runs that they make.
 -- Assumes nothing.
-use Prim.Native.Nat.{ℕ, suc, _<_}
+use Prim.Native.Nat.{ℕ, zero, suc, _<_}
 use mathlib.Core.Option.{none}
 use mathlib.Core.List.{List, [], _∷_}
 use mathlib.Core.Path.{_≡_, refl, sym, ap, ap₂, _∙_}
 use native.Mathlib.Omega.{arith}
 use lib.IntN.{ℤ, pos, negsuc}
 use lib.Dec.{ltb}
-use lib.ListN.{length}
+use lib.ListN.{length, getD}
 use borrow.Author.Tests.{ltb-true, lt-ltb}
 use Rattle.num.proofs.Tests.{by-test}
 use Rattle.column.specs.Asking.{Question, refusal, _unless_}
@@ -34,6 +34,15 @@ from-check p i (negsuc e ∷ es) h = absurd (let w : _≡_ {A = ℕ} 0 1 = cc in
 pub rising : (es : List ℤ) → endsValid es ≡ none → RisingEnds 0 es
 unfolding endsValid
 rising es h = from-check 0 0 es h
+
+natural-from : (p : ℕ) (es : List ℤ) (i : ℕ) → RisingEnds p es → i < length es → getD es i (pos 0) ≡ pos (magnitude (getD es i (pos 0)))
+natural-from p [] i r h = let z : ⊥ = omega arith in absurd z
+natural-from p (e ∷ es) zero r h = r .0
+natural-from p (e ∷ es) (suc i) r h = natural-from (magnitude e) es i (r .2) (omega arith)
+
+-- each of them is a natural number
+pub natural-end : (es : List ℤ) (i : ℕ) → endsValid es ≡ none → i < length es → getD es i (pos 0) ≡ pos (magnitude (getD es i (pos 0)))
+natural-end es i h l = natural-from 0 es i (rising es h) l
 
 -- and back: the ends of runs that rise are valid
 ends-yes : (i p : ℕ) (rs : Runs) → Rising p rs → endsFrom i (pos p) (endsOf rs) ≡ none

@@ -1,0 +1,4 @@
+pub mod Listing
+pub mod Segments
+pub mod Step
+pub mod Walking

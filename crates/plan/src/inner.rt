@@ -43,12 +43,21 @@ impl Segments {
                 let end = num::smaller(x, y);
                 return Segment {
                     end,
-                    next: Segments { i: stepped(i, x, end), j: stepped(j, y, end) },
+                    next: Segments {
+                        i: stepped(i, x, end),
+                        j: stepped(j, y, end),
+                    },
                 };
             }
-            return Segment { end: x, next: Segments { i: i + 1, j } };
+            return Segment {
+                end: x,
+                next: Segments { i: i + 1, j },
+            };
         }
         let y = b[j];
-        Segment { end: y, next: Segments { i, j: j + 1 } }
+        Segment {
+            end: y,
+            next: Segments { i, j: j + 1 },
+        }
     }
 }

@@ -10,4 +10,3 @@ ghost use lib.ListN.{length};
 ghost use Rattle.column.specs.Asking.{shownAsked};
 ghost use Rattle.plan.specs.Plan.{WritesPlan};
 ghost use Rattle.plan.specs.Plan as calls;
-

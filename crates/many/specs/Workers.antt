@@ -1,0 +1,1 @@
+-- What the workers of the many-way calls promise each other.
