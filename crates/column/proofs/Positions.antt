@@ -26,6 +26,11 @@ unfolding eachPosition
 eachPosition-add f p zero n = rw (zero-add, add-zero)
 eachPosition-add f p (suc m) n = rw (suc-add, eachPosition-add f (suc p) m n, suc-add, add-suc)
 
+pub eachPosition-length : (f : ℕ → ℤ) (p n : ℕ) → length (eachPosition f p n) ≡ n
+unfolding eachPosition
+eachPosition-length f p zero = refl
+eachPosition-length f p (suc n) = ap suc (eachPosition-length f (suc p) n)
+
 -- equal values at n positions
 pub eachPosition-const : (f : ℕ → ℤ) (p n : ℕ) (v : ℤ) → ((j : ℕ) → p ≤ j → j < p + n → f j ≡ v) → eachPosition f p n ≡ replicate n v
 unfolding eachPosition
