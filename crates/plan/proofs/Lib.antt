@@ -1,4 +1,7 @@
+pub mod Asks
 pub mod Listing
+pub mod Planning
+pub mod Raw
 pub mod Segments
 pub mod Step
 pub mod Walking
