@@ -167,11 +167,6 @@ long-refused requested present t = rw (lt-le requested present t)
 
 -- ---- 12
 
--- one question after the other
-pub room-next : (i n g : ℕ) (ns gs : List ℕ) → roomFrom i (n ∷ ns) (g ∷ gs) ≡ firstNo (roomAt i n g ∷ roomFrom (suc i) ns gs ∷ [])
-unfolding roomFrom
-room-next i n g ns gs = refl
-
 -- one question for each buffer
 abbrev pub roomsFrom : ℕ → List ℕ → List ℕ → List Question
 roomsFrom i [] given = []

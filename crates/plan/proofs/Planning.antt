@@ -1,13 +1,18 @@
 -- A walk that writes its segments: their ends, and the indexes of both columns.
 -- Assumes nothing.
 use Prim.Native.Nat.{ℕ, _+_, _≤_, _<_}
-use mathlib.Core.List.{List, [], _∷_}
+use mathlib.Core.Option.{none, some}
+use mathlib.Core.List.{List, []}
 use mathlib.Core.Path.{_≡_, refl, ap, _∙_}
 use native.Mathlib.Omega.{arith}
 use lib.IntN.{ℤ, pos}
 use lib.ListN.{length, getD, set}
+use Rattle.column.specs.declared.answer.Counted.{Counted}
+use Rattle.column.specs.declared.error.Refusal.{Refusal}
+use Rattle.column.specs.Asking.{Question, _otherwise_}
+use Rattle.column.specs.Paper.{answers, paper}
 use Rattle.column.proofs.Buffer.{Written, write-start, write-next}
-use Rattle.plan.specs.Plan.{Segment, segmentsOf}
+use Rattle.plan.specs.Plan.{Segment, segmentsOf, WritesPlan}
 use Rattle.plan.specs.Walk.{placesAt, Steps, PlanFilled}
 use Rattle.plan.proofs.Listing.{segmentAt}
 use Rattle.plan.proofs.Walking.{cursor, Walk, walk-start, walk-few, walk-next, walk-end}
@@ -50,3 +55,13 @@ module _ {a b e₀ : List ℤ} {x₀ y₀ : List ℕ} {e : List ℤ} {x y : List
   planning-end h =
       rw (walk-end a b (p .walk) h)
       (record { count = p .ends .count; ends = p .ends .entries; left = p .left .entries; right = p .right .entries })
+
+-- ---- what is promised
+
+pub plan-written : {q : Question} (ss : List Segment) {e e′ : List ℤ} {x x′ y y′ : List ℕ} {n : ℕ} → q ≡ none → PlanFilled ss e e′ x x′ y y′ n
+    → WritesPlan (q otherwise ss) (Counted.Count n) e e′ x x′ y y′
+plan-written ss h f = rw h (record { answer = ap answers (f .count); ends = f .ends; left = f .left; right = f .right })
+
+pub plan-refused : {q : Question} (ss : List Segment) {r : Refusal} {e : List ℤ} {x y : List ℕ} → q ≡ some (paper r)
+    → WritesPlan (q otherwise ss) (Counted.Refused r) e e x x y y
+plan-refused ss h = rw h (record { answer = refl; ends = refl; left = refl; right = refl })

@@ -1,11 +1,7 @@
+use Rattle.plan.proofs.Asks.{plan-asked}
 use borrow.Author.Needs.{needs}
 use Rattle.plan.proofs.plan_asks.Statement.{statement}
 use Rattle.plan.proofs.plan_asks.Tie as tie
-use Rattle.plan.proofs.plan_asks.Reads as reads
-use Rattle.plan.proofs.plan_asks.Lts as lts
-use Rattle.column.proofs.questions.ask_ends.Reads as ask-ends-reads
-use Rattle.column.proofs.questions.ask_room.Reads as ask-room-reads
-use Rattle.column.proofs.questions.first_no.Reads as first-no-reads
 
 add-needed : tie.Need-add-needed
 add-needed c = search needs
@@ -38,7 +34,9 @@ first-no-requires-4 : tie.Need-first-no-requires-4
 first-no-requires-4 c κs = search needs
 
 returns : tie.Need-returns
-returns c = ?
+returns c = plan-asked _ _ _ _ _ (c .first-no4 .ensures) (c .before .ask-ends2 .ensures) (c .before .before .first-no3 .ensures) (c .before .before .before .ask-ends .ensures)
+    (c .before .before .before .before .first-no2 .ensures) (c .before .before .before .before .before .ask-room3 .ensures)
+    (c .before .before .before .before .before .before .first-no .ensures) (c .before .before .before .before .before .before .before .before .ask-room .ensures) (c .before .before .before .before .before .before .before .ask-room2 .ensures)
 
 pub plan-asks-spec : {M : Type 1} → statement M
 plan-asks-spec =

@@ -1,4 +1,3 @@
-use mathlib.Core.Path.{_∙_}
 use native.Mathlib.Omega.{arith}
 use lib.IntN.{pos}
 use lib.ListN.{getD}
@@ -9,10 +8,6 @@ use Rattle.plan.proofs.Step.{step-both, step-left, step-right}
 use borrow.Author.Needs.{needs}
 use Rattle.plan.proofs.inner.Segments.next.Statement.{statement}
 use Rattle.plan.proofs.inner.Segments.next.Tie as tie
-use Rattle.plan.proofs.inner.Segments.next.Reads as reads
-use Rattle.plan.proofs.inner.Segments.next.Lts as lts
-use Rattle.num.proofs.smaller.Reads as smaller-reads
-use Rattle.plan.proofs.inner.stepped.Reads as stepped-reads
 
 mul-x : tie.Need-mul-x
 mul-x c = search needs
