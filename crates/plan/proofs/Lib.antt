@@ -5,3 +5,4 @@ pub mod Raw
 pub mod Segments
 pub mod Step
 pub mod Walking
+pub mod Zipping
