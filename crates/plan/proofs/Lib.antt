@@ -1,4 +1,5 @@
 pub mod Asks
+pub mod Columns
 pub mod Listing
 pub mod Planning
 pub mod Raw

@@ -67,6 +67,9 @@ module _ (op : ℤ → ℤ → ℤ) (cs : List Column) where
   unfolding mergedRuns
   merged-none done h = sym (length-map done (segmentRun op cs)) ∙ push-none (map (segmentRun op cs) done) h
 
+  pub zip-last : (done : List Segment) {first : ℤ} {e₀ v₀ e v : List ℤ} {w : Writer} → Merging (mergedRuns done) first e₀ v₀ e v w → w .at ≤ length done
+  zip-last done m = omega (arith, m .at-last, merged-few done)
+
   -- ---- the columns' own places to start from
 
   abbrev pub starts : List Place
