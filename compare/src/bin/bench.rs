@@ -6,7 +6,7 @@
 
 use compare::answer::Answer;
 use compare::inputs::Rng;
-use compare::library;
+use compare::library::{self, Counted};
 use runlength::{Result, Rle, RleLike, RleRef};
 use std::env;
 use std::ffi::c_int;
@@ -17,6 +17,9 @@ use std::time::{Duration, Instant};
 
 const RUNS: usize = 1_000_000;
 const POSITIONS: usize = 10_000_000;
+
+/// So many different values that neighbours hardly ever are equal.
+const DIFFERENT: usize = 1 << 40;
 
 /// The runs of a column that is built up by one call for each.
 const BUILT_UP: usize = 1000;
@@ -37,27 +40,31 @@ fn keep_memory() {
     assert_eq!(taken, [1, 1], "malloc has these settings");
 }
 
-/// A result of the original, as the lists that the library writes.
-trait Lists {
-    fn lists(&self) -> Vec<&[i64]>;
+/// A result of the original, to be compared with the library's counts and what it has written to
+/// the buffers lent.
+trait Reference<L> {
+    fn matches(&self, counts: &[usize], lent: &L) -> bool;
 }
 
-impl Lists for Rle<i64> {
-    fn lists(&self) -> Vec<&[i64]> {
-        vec![self.ends(), self.values()]
+type RunBuffers = (Vec<i64>, Vec<i64>);
+
+impl Reference<RunBuffers> for Rle<i64> {
+    fn matches(&self, counts: &[usize], (ends, values): &RunBuffers) -> bool {
+        counts == [self.num_runs()]
+            && ends.starts_with(self.ends())
+            && values.starts_with(self.values())
     }
 }
 
-impl Lists for Vec<i64> {
-    fn lists(&self) -> Vec<&[i64]> {
-        vec![self]
+impl Reference<Vec<i64>> for Vec<i64> {
+    fn matches(&self, counts: &[usize], list: &Vec<i64>) -> bool {
+        counts == [self.len()] && list.starts_with(self)
     }
 }
 
-/// The check of a sequence writes nothing.
-impl Lists for RleRef<'_, i64> {
-    fn lists(&self) -> Vec<&[i64]> {
-        Vec::new()
+impl Reference<()> for RleRef<'_, i64> {
+    fn matches(&self, counts: &[usize], (): &()) -> bool {
+        counts == [0]
     }
 }
 
@@ -66,33 +73,33 @@ struct Bench {
 }
 
 impl Bench {
-    /// Prints a row of the table: the time for each of a call's `units`, which are as many as the
-    /// entries that it needs. `given` makes, untimed, what a call of the original consumes.
-    fn measure<G, R: Lists>(
+    /// Prints a row of the table: the time for each of a call's `units`. `lend` makes the library's
+    /// buffers and `given` what a call of the original consumes, both untimed.
+    fn measure<L, A: Into<Answer>, G, R: Reference<L>>(
         &self,
         [call, input, unit]: [&str; 3],
         units: usize,
-        mut library: impl FnMut(&mut [i64], &mut [i64]) -> Answer,
+        lend: impl Fn() -> L,
+        mut library: impl FnMut(&mut L) -> A,
         mut given: impl FnMut() -> G,
         mut original: impl FnMut(G) -> Result<R>,
     ) {
-        let lent = || (vec![-1; units], vec![-1; units]);
-        let (mut first, mut second) = lent();
-        let answer = library(&mut first, &mut second);
+        let mut lent = lend();
+        let answer: Answer = library(&mut lent).into();
         assert_eq!(answer.refusal.number, 0, "the library answers");
         let result = original(given()).expect("the original answers");
-        for (buffer, list) in [&first, &second].into_iter().zip(result.lists()) {
-            assert!(buffer[..answer.count] == *list, "the results are equal");
-        }
-        drop((first, second, result));
+        assert!(
+            result.matches(&answer.counts, &lent),
+            "the results are equal"
+        );
+        drop((lent, result));
 
         let calls = TIMED.div_ceil(units);
         let (mut ours, mut theirs) = (Duration::MAX, Duration::MAX);
         for _ in 0..self.rounds.get() {
-            let (mut first, mut second) = lent();
-            let library = |()| library(&mut first, &mut second);
-            ours = ours.min(time(calls, || (), library));
-            drop((first, second));
+            let mut lent = lend();
+            ours = ours.min(time(calls, || (), |()| library(&mut lent)));
+            drop(lent);
             theirs = theirs.min(time(calls, &mut given, &mut original));
         }
         let each = |time: Duration| time.as_secs_f64() * 1e9 / (calls * units) as f64;
@@ -103,7 +110,7 @@ impl Bench {
 }
 
 fn print_row([call, input, unit]: [&str; 3], [library, original, ratio]: [&str; 3]) {
-    println!("| {call:10} | {input:33} | {unit:8} | {library:>7} | {original:>7} | {ratio:>10} |");
+    println!("| {call:12} | {input:33} | {unit:8} | {library:>7} | {original:>7} | {ratio:>10} |");
 }
 
 /// How long the calls take. What they give back is dropped after that.
@@ -117,13 +124,16 @@ fn time<G, R>(calls: usize, given: impl FnMut() -> G, mut call: impl FnMut(G) ->
     start.elapsed()
 }
 
-/// Runs of 1 to `2 * mean - 1`, with values of which neighbours hardly ever are equal.
-fn random_column(rng: &mut Rng, count: usize, mean: usize) -> Rle<i64> {
-    let (mut runs, mut values) = (Vec::new(), Vec::new());
-    for _ in 0..count {
-        runs.push(rng.below(2 * mean - 1) as i64 + 1);
-        values.push(rng.below(1 << 40) as i64);
-    }
+/// Buffers for a result of so many runs.
+fn run_buffers(runs: usize) -> RunBuffers {
+    (vec![-1; runs], vec![-1; runs])
+}
+
+/// Runs of 1 to `longest`, with one of so many values each.
+fn random_column(rng: &mut Rng, count: usize, longest: usize, values: usize) -> Rle<i64> {
+    let (runs, values): (Vec<i64>, Vec<i64>) = (0..count)
+        .map(|_| (rng.below(longest) as i64 + 1, rng.below(values) as i64))
+        .unzip();
     Rle::from_runs(&runs, values).expect("runs above 0 are a sequence")
 }
 
@@ -131,7 +141,8 @@ fn from_runs(bench: &Bench, input: &str, runs: &[i64], values: &[i64]) {
     bench.measure(
         ["from_runs", input, "run"],
         runs.len(),
-        |ends, out| library::from_runs(black_box(runs), black_box(values), ends, out),
+        || run_buffers(runs.len()),
+        |(ends, out)| library::from_runs(black_box(runs), black_box(values), ends, out),
         || values.to_vec(),
         |values| Rle::from_runs(black_box(runs), values),
     );
@@ -142,7 +153,8 @@ fn from_ends(bench: &Bench, input: &str, column: &Rle<i64>) {
     bench.measure(
         ["from_ends", input, "run"],
         ends.len(),
-        |_, _| library::from_ends(black_box(ends), black_box(values)).into(),
+        || (),
+        |()| library::from_ends(black_box(ends), black_box(values)),
         || (),
         |()| RleRef::from_ends(black_box(ends), black_box(values)),
     );
@@ -152,7 +164,8 @@ fn repeat(bench: &Bench, input: &str, length: i64) {
     bench.measure(
         ["repeat", input, "call"],
         1,
-        |ends, out| library::repeat(black_box(7), black_box(length), ends, out),
+        || run_buffers(1),
+        |(ends, out)| library::repeat(black_box(7), black_box(length), ends, out),
         || (),
         |()| Rle::repeat(black_box(7), black_box(length)),
     );
@@ -164,15 +177,16 @@ fn build_up(
     call: &str,
     list: &[i64],
     values: &[i64],
-    library: impl Fn(&mut [i64], &mut [i64], usize, i64, i64) -> Answer,
+    library: impl Fn(&mut [i64], &mut [i64], usize, i64, i64) -> Counted,
     original: impl Fn(&mut Rle<i64>, i64, i64) -> Result<()>,
 ) {
     let entries = || black_box(list).iter().zip(black_box(values));
     bench.measure(
         [call, "a column of 1000 runs", "call"],
         list.len(),
-        |ends, out| {
-            entries().fold(Answer::default(), |answer, (&entry, &value)| {
+        || run_buffers(list.len()),
+        |(ends, out)| {
+            entries().fold(Counted::default(), |answer, (&entry, &value)| {
                 library(ends, out, answer.count, entry, value)
             })
         },
@@ -189,7 +203,8 @@ fn from_dense(bench: &Bench, input: &str, values: &[i64]) {
     bench.measure(
         ["from_dense", input, "value"],
         values.len(),
-        |ends, out| library::from_dense(black_box(values), ends, out),
+        || run_buffers(values.len()),
+        |(ends, out)| library::from_dense(black_box(values), ends, out),
         || (),
         |()| Ok(Rle::from_dense(black_box(values).iter().copied())),
     );
@@ -197,10 +212,12 @@ fn from_dense(bench: &Bench, input: &str, values: &[i64]) {
 
 fn to_dense(bench: &Bench, input: &str, column: &Rle<i64>) {
     let (ends, values) = (column.ends(), column.values());
+    let length = column.len() as usize;
     bench.measure(
         ["to_dense", input, "position"],
-        column.len() as usize,
-        |out, _| library::to_dense(black_box(ends), black_box(values), out),
+        length,
+        || vec![-1; length],
+        |out| library::to_dense(black_box(ends), black_box(values), out),
         || (),
         |()| Ok(RleRef::from_ends(black_box(ends), black_box(values))?.to_dense()),
     );
@@ -217,7 +234,7 @@ fn main() -> ExitCode {
     print_row(["call", "input", "ns per"], ["ours", "Rust", "ours/Rust"]);
     print_row(["---"; 3], ["---"; 3]);
 
-    let column = random_column(rng, RUNS, 50);
+    let column = random_column(rng, RUNS, 99, DIFFERENT);
     let mut runs = column.runs();
     from_runs(&bench, "1M runs of 1 to 99", &runs, column.values());
     for run in &mut runs {
@@ -227,7 +244,7 @@ fn main() -> ExitCode {
     from_ends(&bench, "1M runs", &column);
     repeat(&bench, "length 31000", 31_000);
 
-    let column = random_column(rng, BUILT_UP, 50);
+    let column = random_column(rng, BUILT_UP, 99, DIFFERENT);
     let (runs, ends, values) = (&column.runs(), column.ends(), column.values());
     build_up(
         &bench,
@@ -246,20 +263,21 @@ fn main() -> ExitCode {
         Rle::extend_to,
     );
 
-    for (input, mean) in [
-        ("10M values, runs of about 3", 3),
-        ("10M values, nearly constant", 100_000),
+    for (input, count, longest) in [
+        ("10M values, runs of about 3", POSITIONS / 3, 5),
+        ("10M values, nearly constant", 100, 199_999),
     ] {
-        let column = random_column(rng, POSITIONS / mean, mean);
+        let column = random_column(rng, count, longest, DIFFERENT);
         from_dense(&bench, input, &column.to_dense());
     }
     let different: Vec<i64> = (0..POSITIONS as i64).collect();
     from_dense(&bench, "10M values, all different", &different);
-    for (input, mean) in [
-        ("10M positions, runs of about 10", 10),
-        ("10M positions, runs of about 1000", 1000),
+    for (input, count, longest) in [
+        ("10M positions, runs of about 10", POSITIONS / 10, 19),
+        ("10M positions, runs of about 1000", POSITIONS / 1000, 1999),
     ] {
-        to_dense(&bench, input, &random_column(rng, POSITIONS / mean, mean));
+        let column = random_column(rng, count, longest, DIFFERENT);
+        to_dense(&bench, input, &column);
     }
     ExitCode::SUCCESS
 }
