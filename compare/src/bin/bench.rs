@@ -1,13 +1,15 @@
 //! Times the library beside the original: bench ROUNDS
 //!
-//! Both sides take the same inputs and check them, on one thread. Their rounds alternate, and the
-//! best round of each counts. Results go to memory that has been written before: the allocator
-//! keeps what it is given back, and both sides' buffers come from it, round after round.
+//! Both sides take the same inputs, on one thread. They check them, except that the original's
+//! calls on several sequences take views or ends that have been checked before. Rounds alternate,
+//! and the best round of each side counts. Results go to memory that has been written before: the
+//! allocator keeps what it is given back, and both sides' buffers come from it, round after round.
 
 use compare::answer::Answer;
+use compare::call::Fill;
 use compare::inputs::Rng;
 use compare::library::{self, Counted};
-use runlength::{Result, Rle, RleLike, RleRef};
+use runlength::{Plan, PlanMany, Result, Rle, RleLike, RleRef};
 use std::env;
 use std::ffi::c_int;
 use std::hint::black_box;
@@ -17,6 +19,9 @@ use std::time::{Duration, Instant};
 
 const RUNS: usize = 1_000_000;
 const POSITIONS: usize = 10_000_000;
+
+/// The longest run of a column that is combined with others.
+const LONGEST: usize = 16;
 
 /// So many different values that neighbours hardly ever are equal.
 const DIFFERENT: usize = 1 << 40;
@@ -47,6 +52,8 @@ trait Reference<L> {
 }
 
 type RunBuffers = (Vec<i64>, Vec<i64>);
+type PlanBuffers = (Vec<i64>, Vec<usize>, Vec<usize>);
+type PlanManyBuffers = (Vec<i64>, Vec<usize>);
 
 impl Reference<RunBuffers> for Rle<i64> {
     fn matches(&self, counts: &[usize], (ends, values): &RunBuffers) -> bool {
@@ -65,6 +72,36 @@ impl Reference<Vec<i64>> for Vec<i64> {
 impl Reference<()> for RleRef<'_, i64> {
     fn matches(&self, counts: &[usize], (): &()) -> bool {
         counts == [0]
+    }
+}
+
+impl Reference<()> for bool {
+    fn matches(&self, counts: &[usize], (): &()) -> bool {
+        counts == [usize::from(*self)]
+    }
+}
+
+impl Reference<PlanBuffers> for Plan {
+    fn matches(&self, counts: &[usize], (ends, idx_a, idx_b): &PlanBuffers) -> bool {
+        counts == [self.num_segments()]
+            && ends.starts_with(&self.ends)
+            && idx_a.starts_with(&self.idx_a)
+            && idx_b.starts_with(&self.idx_b)
+    }
+}
+
+impl Reference<PlanManyBuffers> for PlanMany {
+    fn matches(&self, counts: &[usize], (ends, idx): &PlanManyBuffers) -> bool {
+        let (segments, columns) = (self.ends.len(), self.idx.len());
+        let mut places = idx.chunks(columns).take(segments).enumerate();
+        counts == [segments, segments * columns]
+            && ends.starts_with(&self.ends)
+            && places.all(|(s, places)| {
+                self.idx
+                    .iter()
+                    .map(|column| column[s])
+                    .eq(places.iter().copied())
+            })
     }
 }
 
@@ -135,6 +172,18 @@ fn random_column(rng: &mut Rng, count: usize, longest: usize, values: usize) -> 
         .map(|_| (rng.below(longest) as i64 + 1, rng.below(values) as i64))
         .unzip();
     Rle::from_runs(&runs, values).expect("runs above 0 are a sequence")
+}
+
+/// What the column shows, with most runs split in two.
+fn split(rng: &mut Rng, column: &Rle<i64>) -> Rle<i64> {
+    let parts = column.runs().into_iter().zip(column.values());
+    let (runs, values): (Vec<i64>, Vec<i64>) = parts
+        .flat_map(|(run, &value)| {
+            let first = rng.below(run as usize) as i64;
+            [(first, value), (run - first, value)]
+        })
+        .unzip();
+    Rle::from_runs(&runs, values).expect("runs not below 0 are a sequence")
 }
 
 fn from_runs(bench: &Bench, input: &str, runs: &[i64], values: &[i64]) {
@@ -223,6 +272,137 @@ fn to_dense(bench: &Bench, input: &str, column: &Rle<i64>) {
     );
 }
 
+fn equals(bench: &Bench, input: &str, a: &Rle<i64>, b: &Rle<i64>) {
+    bench.measure(
+        ["equals", input, "run"],
+        a.num_runs() + b.num_runs(),
+        || (),
+        |()| {
+            let (a, b) = (black_box(a), black_box(b));
+            library::equals(a.ends(), a.values(), b.ends(), b.values())
+        },
+        || (a.view(), b.view()),
+        |(a, b)| Ok(a.equals(&b)),
+    );
+}
+
+fn plan(bench: &Bench, input: &str, a: &[i64], b: &[i64]) {
+    let runs = a.len() + b.len();
+    bench.measure(
+        ["plan", input, "run"],
+        runs,
+        || (vec![-1; runs], vec![1; runs], vec![1; runs]),
+        |(ends, idx_a, idx_b)| library::plan(black_box(a), black_box(b), ends, idx_a, idx_b),
+        || (a, b),
+        |(a, b)| Ok(runlength::plan(a, b)),
+    );
+}
+
+fn add(x: &i64, y: &i64) -> i64 {
+    x.wrapping_add(*y)
+}
+
+/// The code of `add`.
+const ADD: u8 = 0;
+
+/// A fill for every shorter side.
+const FILL: Fill = Fill { given: 1, value: 0 };
+
+/// Rows of a table for zips of two columns, by the operation's code and by its closure.
+macro_rules! zips {
+    ($bench:expr, $columns:expr; $($call:ident, $input:expr, $code:expr => $operation:expr;)*) => {
+        let [a, b]: &[Rle<i64>; 2] = $columns;
+        let runs = a.num_runs() + b.num_runs();
+        $($bench.measure(
+            [stringify!($call), $input, "run"],
+            runs,
+            || run_buffers(runs),
+            |(ends, out)| {
+                let (a, b) = (black_box(a), black_box(b));
+                let (fill, code) = (black_box(FILL), black_box($code));
+                library::$call(
+                    a.ends(), a.values(), b.ends(), b.values(), fill, fill, code, ends, out,
+                )
+            },
+            || (a.view(), b.view(), Some(&FILL.value)),
+            |(a, b, fill)| runlength::$call(a, b, fill, fill, $operation),
+        );)*
+    };
+}
+
+/// Sequences laid flat.
+struct Flat {
+    offsets: Vec<usize>,
+    ends: Vec<i64>,
+    values: Vec<i64>,
+}
+
+impl Flat {
+    fn new(columns: &[Rle<i64>]) -> Self {
+        let mut flat = Flat {
+            offsets: vec![0],
+            ends: Vec::new(),
+            values: Vec::new(),
+        };
+        for column in columns {
+            flat.ends.extend(column.ends());
+            flat.values.extend(column.values());
+            flat.offsets.push(flat.ends.len());
+        }
+        flat
+    }
+}
+
+fn plan_many(bench: &Bench, input: &str, columns: &[Rle<i64>]) {
+    let flat = Flat::new(columns);
+    let runs = flat.ends.len();
+    let inputs: Vec<&[i64]> = columns.iter().map(RleLike::ends).collect();
+    bench.measure(
+        ["plan_many", input, "run"],
+        runs,
+        || (vec![-1; runs], vec![1; runs * columns.len()]),
+        |(ends, idx)| {
+            let flat = black_box(&flat);
+            library::plan_many(&flat.offsets, &flat.ends, &flat.values, ends, idx)
+        },
+        || &inputs,
+        |inputs| Ok(runlength::plan_many(inputs)),
+    );
+}
+
+/// The sums of all columns.
+fn zip_many(bench: &Bench, input: &str, columns: &[Rle<i64>]) {
+    let flat = Flat::new(columns);
+    let runs = flat.ends.len();
+    let views: Vec<RleRef<i64>> = columns.iter().map(RleLike::view).collect();
+    bench.measure(
+        ["zip_many", input, "run"],
+        runs,
+        || run_buffers(runs),
+        |(ends, out)| {
+            let (flat, fill, code) = (black_box(&flat), black_box(FILL), black_box(ADD));
+            library::zip_many(
+                &flat.offsets,
+                &flat.ends,
+                &flat.values,
+                fill,
+                code,
+                ends,
+                out,
+            )
+        },
+        || (&views, Some(&FILL.value)),
+        |(views, fill)| {
+            let sum = |values: &[&i64]| {
+                values
+                    .iter()
+                    .fold(0, |sum: i64, value| sum.wrapping_add(**value))
+            };
+            runlength::zip_many(views, fill, sum)
+        },
+    );
+}
+
 fn main() -> ExitCode {
     let Some(Ok(rounds)) = env::args().nth(1).map(|word| word.parse()) else {
         eprintln!("usage: bench ROUNDS");
@@ -279,5 +459,29 @@ fn main() -> ExitCode {
         let column = random_column(rng, count, longest, DIFFERENT);
         to_dense(&bench, input, &column);
     }
+
+    let shown = random_column(rng, RUNS / 2, LONGEST, DIFFERENT);
+    let (a, b) = (&split(rng, &shown), &split(rng, &shown));
+    equals(&bench, "2 x 0.9M runs, equal", a, b);
+    let mut pair = |values| [(); 2].map(|()| random_column(rng, RUNS, LONGEST, values));
+    let columns = &pair(DIFFERENT);
+    plan(&bench, "2 x 1M runs", columns[0].ends(), columns[1].ends());
+    zips! { bench, columns;
+        zip_with, "2 x 1M runs, smaller, 2^40 values", 3 => |x, y| *x.min(y);
+        zip_with, "2 x 1M runs, add, 2^40 values", ADD => add;
+        zip_with_raw, "2 x 1M runs, add, 2^40 values", ADD => add;
+    }
+    zips! { bench, &pair(4); zip_with, "2 x 1M runs, add, 4 values", ADD => add; }
+    zips! { bench, &pair(1); zip_with, "2 x 1M runs, add, 1 value", ADD => add; }
+
+    let mut many = |number: usize, count: usize| -> Vec<Rle<i64>> {
+        (0..number)
+            .map(|_| random_column(rng, count, LONGEST, 4))
+            .collect()
+    };
+    let columns = many(16, 100_000);
+    plan_many(&bench, "16 x 100k runs", &columns);
+    zip_many(&bench, "16 x 100k runs, add, 4 values", &columns);
+    zip_many(&bench, "100 x 20k runs, add, 4 values", &many(100, 20_000));
     ExitCode::SUCCESS
 }
