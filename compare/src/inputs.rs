@@ -96,9 +96,13 @@ fn small_args(index: usize, parameter: &Parameter) -> Vec<Arg> {
         Role::Length => numbers(&[MIN, -1, 0, 1, 2, 3, 4, MAX - 1, MAX]),
         Role::Value => numbers(&[7, -2]),
         Role::EndsA | Role::EndsB => lists(&[0, 1, 2, 3, MAX], 2),
-        Role::Fill => [0, 1]
-            .map(|given| Arg::Fill(Fill { given, value: 7 }))
-            .to_vec(),
+        Role::Fill => {
+            // Two fills that stand side by side differ.
+            let value = [7, -2][index % 2];
+            [0, 1]
+                .map(|given| Arg::Fill(Fill { given, value }))
+                .to_vec()
+        }
         Role::Code => [0, 3, 6, 8, 10].map(Arg::Code).to_vec(),
         Role::Room => (0..=6)
             .map(|length| Arg::List((0..length).map(|entry| held(index, entry)).collect()))
@@ -149,9 +153,15 @@ fn list(entries: &[i64]) -> Arg {
     Arg::List(entries.to_vec())
 }
 
-/// Up to three small sequences and nearly or more than 128, laid flat, and damaged ones.
+/// Up to three small sequences and about 128 alike, laid flat, and damaged ones.
 fn small_flat() -> Vec<Vec<Arg>> {
     const ENDS: &[&[i64]] = &[&[], &[1], &[2], &[1, 2]];
+    // 129 sequences, of which the last alone has a run.
+    const TOO_MANY: &[usize] = &{
+        let mut offsets = [0; 130];
+        offsets[129] = 1;
+        offsets
+    };
     const DAMAGED: &[(&[usize], &[i64], &[i64])] = &[
         (&[], &[], &[]),
         (&[], &[1], &[7]),
@@ -170,6 +180,7 @@ fn small_flat() -> Vec<Vec<Arg>> {
         (&[0, 1, 2], &[1, 0], &[7, 7]),
         (&[0, 2, 3], &[2, 2, 0], &[7, 7, 7]),
         (&[0, 1, 3], &[MAX, 1, 1], &[7, 7, 7]),
+        (TOO_MANY, &[0], &[7]),
     ];
     let small: Vec<Column> = ENDS.iter().flat_map(|ends| with_values(ends)).collect();
     let few = (0..=3).flat_map(|number| combinations(vec![small.clone(); number]));
