@@ -1,3 +1,5 @@
+pub mod inner;
+
 use column::error::Refusal;
 
 // The answer of `plan_many`: how many segments, and how many indexes, one for each column of each.

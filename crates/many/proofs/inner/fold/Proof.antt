@@ -1,0 +1,92 @@
+use borrow.Author.Needs.{needs}
+use Rattle.many.proofs.inner.fold.Statement.{statement}
+use Rattle.many.proofs.inner.fold.Tie as tie
+use Rattle.many.proofs.inner.fold.Reads as reads
+use Rattle.many.proofs.inner.fold.Lts as lts
+use Rattle.many.proofs.inner.value_at.Reads as value-at-reads
+use Rattle.num.proofs.apply.Reads as apply-reads
+
+abbrev Inv-loop : tie.InvT-loop
+Inv-loop code offsets values places fill value₀ c₀ value c = ?
+
+abbrev μ-loop : tie.MeasureT-loop
+μ-loop code offsets values places fill value₀ c₀ value c = ?
+
+shared-slice-read-value-at : tie.Need-shared-slice-read-value-at Inv-loop μ-loop
+shared-slice-read-value-at c = search needs
+
+shared-slice-read-value-at-2 : tie.Need-shared-slice-read-value-at-2 Inv-loop μ-loop
+shared-slice-read-value-at-2 c = search needs
+
+shared-slice-read-value-at-3 : tie.Need-shared-slice-read-value-at-3 Inv-loop μ-loop
+shared-slice-read-value-at-3 c = search needs
+
+value-at-requires : tie.Need-value-at-requires Inv-loop μ-loop
+value-at-requires c κs = search needs
+
+loop-holds : tie.Need-loop-holds Inv-loop μ-loop
+loop-holds c = search needs
+
+mul-value-at : tie.Need-mul-value-at Inv-loop μ-loop
+mul-value-at c = search needs
+
+shared-slice-read-value-at-4 : tie.Need-shared-slice-read-value-at-4 Inv-loop μ-loop
+shared-slice-read-value-at-4 c = search needs
+
+add-value-at : tie.Need-add-value-at Inv-loop μ-loop
+add-value-at c = search needs
+
+mul-value-at-2 : tie.Need-mul-value-at-2 Inv-loop μ-loop
+mul-value-at-2 c = search needs
+
+shared-slice-read-value-at-5 : tie.Need-shared-slice-read-value-at-5 Inv-loop μ-loop
+shared-slice-read-value-at-5 c = search needs
+
+mul-value-at-3 : tie.Need-mul-value-at-3 Inv-loop μ-loop
+mul-value-at-3 c = search needs
+
+shared-slice-read-value-at-6 : tie.Need-shared-slice-read-value-at-6 Inv-loop μ-loop
+shared-slice-read-value-at-6 c = search needs
+
+value-at-requires-2 : tie.Need-value-at-requires-2 Inv-loop μ-loop
+value-at-requires-2 c κs = search needs
+
+apply-requires : tie.Need-apply-requires Inv-loop μ-loop
+apply-requires c κs = search needs
+
+add-c : tie.Need-add-c Inv-loop μ-loop
+add-c c = search needs
+
+loop-less : tie.Need-loop-less Inv-loop μ-loop
+loop-less c = search needs
+
+loop-again : tie.Need-loop-again Inv-loop μ-loop
+loop-again c = search needs
+
+returns : tie.Need-returns Inv-loop μ-loop
+returns c = search needs
+
+pub fold-spec : {M : Type 1} → statement M
+fold-spec =
+    tie.close
+    (tie.spec
+    Inv-loop
+    μ-loop
+    shared-slice-read-value-at
+    shared-slice-read-value-at-2
+    shared-slice-read-value-at-3
+    value-at-requires
+    loop-holds
+    mul-value-at
+    shared-slice-read-value-at-4
+    add-value-at
+    mul-value-at-2
+    shared-slice-read-value-at-5
+    mul-value-at-3
+    shared-slice-read-value-at-6
+    value-at-requires-2
+    apply-requires
+    add-c
+    loop-less
+    loop-again
+    returns)

@@ -1,0 +1,17 @@
+use borrow.Author.Needs.{needs}
+use Rattle.many.proofs.inner.stepped.Statement.{statement}
+use Rattle.many.proofs.inner.stepped.Tie as tie
+use Rattle.many.proofs.inner.stepped.Reads as reads
+use Rattle.many.proofs.inner.stepped.Lts as lts
+
+add-result : tie.Need-add-result
+add-result c = search needs
+
+returns : tie.Need-returns
+returns c = ?
+
+returns-2 : tie.Need-returns-2
+returns-2 c = ?
+
+pub stepped-spec : {M : Type 1} → statement M
+stepped-spec = tie.close (tie.spec add-result returns returns-2)
