@@ -1,5 +1,7 @@
+pub mod All
 pub mod Buffer
 pub mod Canonical
+pub mod Cover
 pub mod Dense
 pub mod Encode
 pub mod Encoded
@@ -9,6 +11,7 @@ pub mod Lists
 pub mod Merging
 pub mod Naturals
 pub mod Parts
+pub mod Positions
 pub mod Promised
 pub mod Pushed
 pub mod Rest

@@ -1,4 +1,5 @@
 pub mod Listing
+pub mod Raw
 pub mod Segments
 pub mod Step
 pub mod Walking

@@ -4,5 +4,6 @@ pub mod Encoding
 pub mod Examples
 pub mod Repeated
 pub mod Runwise
+pub mod Same
 pub mod Shown
 pub mod Yes

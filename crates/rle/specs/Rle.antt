@@ -1,10 +1,11 @@
 -- rle.rs: sequences made from runs, from values, and run by run.
 use Prim.Native.Nat.{ℕ, _+_}
-use mathlib.Core.Bool.{cond}
+use mathlib.Core.Bool.{Bool, true, false, cond, _&&_}
 use mathlib.Core.List.{List, [], _∷_, _++_}
 use lib.IntN.{ℤ, pos}
 use lib.ListN.{length, take}
 use lib.Dec.{eqb}
+use Rattle.num.specs.Numbers.{eqZ}
 use Rattle.column.specs.Asking.{Question, firstNo, _otherwise_}
 use Rattle.column.specs.Paper.{Outcome}
 use Rattle.column.specs.Questions.{agree, paired, usedWithin, endsValid, notNegative, fits, runByRun, longEnough, room, both}
@@ -98,3 +99,12 @@ toDenseAsked s buffers = firstNo (paired s ∷ endsValid (s .ends) ∷ room (len
 
 unfoldable pub toDense : Sequence → List ℕ → Outcome (List ℤ)
 toDense s buffers = toDenseAsked s buffers otherwise dense (runs s)
+
+-- ---- equals
+
+-- are two lists of values equal, position by position
+abbrev pub same : List ℤ → List ℤ → Bool
+same [] [] = true
+same [] (y ∷ ys) = false
+same (x ∷ xs) [] = false
+same (x ∷ xs) (y ∷ ys) = eqZ x y && same xs ys
