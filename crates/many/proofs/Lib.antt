@@ -1,0 +1,4 @@
+pub mod Columns
+pub mod Folding
+pub mod Places
+pub mod Stepping

@@ -66,6 +66,13 @@ valuesAt [] columns fill = []
 valuesAt (i ∷ is) [] fill = []
 valuesAt (i ∷ is) (vs ∷ columns) fill = getD vs i fill ∷ valuesAt is columns fill
 
+-- columns whose values can be folded where they stand
+pub record Foldable (os : List ℕ) (vs : List ℤ) (is : List ℕ) : Type 0 where
+  pub offsets : offsetsValid os (length vs) ≡ none
+  pub count : length os ≡ length is + 1
+  pub some : 0 < length is
+  pub within : Within is (parts os vs)
+
 -- valid columns, each at its first run
 pub record Walkable (os : List ℕ) (es : List ℤ) (is : List ℕ) : Type 0 where
   pub offsets : offsetsValid os (length es) ≡ none

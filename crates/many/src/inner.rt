@@ -12,7 +12,7 @@ ghost use Rattle.column.specs.Lists.{part, parts};
 ghost use Rattle.column.specs.Questions.{endsValid, offsetsValid, sequencesValid};
 ghost use Rattle.column.specs.Runs.{magnitude, over, Filled};
 ghost use Rattle.plan.specs.Plan.{segments};
-ghost use Rattle.many.specs.Workers.{InColumn, EndAt, Placed, Stepped, Within, valuesAt, Walkable, PlanManyFilled};
+ghost use Rattle.many.specs.Workers.{InColumn, EndAt, Placed, Stepped, valuesAt, Foldable, Walkable, PlanManyFilled};
 
 // No end is as large: it stands where no run is left.
 const NONE: usize = usize::MAX;
@@ -76,7 +76,7 @@ fn value_at(values: &[i64], from: usize, to: usize, place: usize, fill: i64) -> 
 
 // The values where the columns stand, folded from the first column.
 fn fold(code: u8, offsets: &[usize], values: &[i64], places: &[usize], fill: i64) -> i64
-    requires { ⌜ (offsetsValid (now offsets) (length (now values)) ≡ none) × (length (now offsets) ≡ length (now places) + 1) × (0 < length (now places)) × Within (now places) (parts (now offsets) (now values)) ⌝ }
+    requires { ⌜ Foldable (now offsets) (now values) (now places) ⌝ }
     ensures { λ r. ⌜ r ≡ folded (operation code) (valuesAt (now (places .entry)) (parts (now (offsets .entry)) (now (values .entry))) fill) ⌝ }
 {
     let mut value = value_at(values, offsets[0], offsets[1], places[0], fill);

@@ -1,3 +1,13 @@
+use Prim.Native.Nat.{_-_}
+use mathlib.Core.Path.{_∙_}
+use native.Mathlib.Omega.{arith}
+use lib.ListN.{length}
+use mir.Syntax.{w64}
+use mir.Val.{toZ}
+use mir.Facts.{toZ-ofZ}
+use Rattle.num.specs.Numbers.{operation}
+use Rattle.num.proofs.Bits.{back}
+use Rattle.many.proofs.Folding.{Folding, fold-first, fold-start, fold-at, fold-next, fold-end}
 use borrow.Author.Needs.{needs}
 use Rattle.many.proofs.inner.fold.Statement.{statement}
 use Rattle.many.proofs.inner.fold.Tie as tie
@@ -7,13 +17,13 @@ use Rattle.many.proofs.inner.value_at.Reads as value-at-reads
 use Rattle.num.proofs.apply.Reads as apply-reads
 
 abbrev Inv-loop : tie.InvT-loop
-Inv-loop code offsets values places fill value₀ c₀ value c = ?
+Inv-loop code offsets values places fill value₀ c₀ value c = Folding (operation code) offsets values places (toZ w64 fill) (toZ w64 value) c
 
 abbrev μ-loop : tie.MeasureT-loop
-μ-loop code offsets values places fill value₀ c₀ value c = ?
+μ-loop code offsets values places fill value₀ c₀ value c = length places - c
 
 shared-slice-read-value-at : tie.Need-shared-slice-read-value-at Inv-loop μ-loop
-shared-slice-read-value-at c = search needs
+shared-slice-read-value-at c = omega (arith, c .before .before .before .pre .count)
 
 shared-slice-read-value-at-2 : tie.Need-shared-slice-read-value-at-2 Inv-loop μ-loop
 shared-slice-read-value-at-2 c = search needs
@@ -22,10 +32,10 @@ shared-slice-read-value-at-3 : tie.Need-shared-slice-read-value-at-3 Inv-loop μ
 shared-slice-read-value-at-3 c = search needs
 
 value-at-requires : tie.Need-value-at-requires Inv-loop μ-loop
-value-at-requires c κs = search needs
+value-at-requires c κs = fold-first _ _ _ (c .before .before .before .before .before .pre)
 
 loop-holds : tie.Need-loop-holds Inv-loop μ-loop
-loop-holds c = search needs
+loop-holds c = fold-start (c .before .before .before .before .before .before .pre) (back _ (c .value-at .ok) ∙ c .value-at .ensures)
 
 mul-value-at : tie.Need-mul-value-at Inv-loop μ-loop
 mul-value-at c = search needs
@@ -49,7 +59,7 @@ shared-slice-read-value-at-6 : tie.Need-shared-slice-read-value-at-6 Inv-loop μ
 shared-slice-read-value-at-6 c = search needs
 
 value-at-requires-2 : tie.Need-value-at-requires-2 Inv-loop μ-loop
-value-at-requires-2 c κs = search needs
+value-at-requires-2 c κs = let l = c .before .before .before .before in fold-at (l .loop .inv) (l .before .before .before .before .before .before .before .pre) (c .before .before .before .loop-test .taken)
 
 apply-requires : tie.Need-apply-requires Inv-loop μ-loop
 apply-requires c κs = search needs
@@ -58,13 +68,13 @@ add-c : tie.Need-add-c Inv-loop μ-loop
 add-c c = search needs
 
 loop-less : tie.Need-loop-less Inv-loop μ-loop
-loop-less c = search needs
+loop-less c = omega arith
 
 loop-again : tie.Need-loop-again Inv-loop μ-loop
-loop-again c = search needs
+loop-again c = let l = c .before .before .before .before .before .before in fold-next (l .loop .inv) (l .before .before .before .before .before .before .before .pre) (c .before .before .before .before .before .loop-test .taken) (back _ (c .before .value-at2 .ok) ∙ c .before .value-at2 .ensures) (back _ (c .apply .ok) ∙ c .apply .ensures)
 
 returns : tie.Need-returns Inv-loop μ-loop
-returns c = search needs
+returns c = rw (toZ-ofZ (c .before .before .before .before .before .before .before .before .fits .fill)) at (fold-end (c .before .loop .inv) (c .loop-test .left))
 
 pub fold-spec : {M : Type 1} → statement M
 fold-spec =

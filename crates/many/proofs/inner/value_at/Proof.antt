@@ -1,3 +1,7 @@
+use Rattle.many.proofs.Columns.{value-some, value-none}
+use mathlib.Core.Path.{_∙_}
+use Rattle.num.proofs.Bits.{back}
+use mir.Facts.{toZ-ofZ}
 use borrow.Author.Needs.{needs}
 use Rattle.many.proofs.inner.value_at.Statement.{statement}
 use Rattle.many.proofs.inner.value_at.Tie as tie
@@ -14,10 +18,10 @@ shared-slice-copy-out-result : tie.Need-shared-slice-copy-out-result
 shared-slice-copy-out-result c = search needs
 
 returns : tie.Need-returns
-returns c = ?
+returns c = back _ (c .result .given) ∙ value-some _ _ _ _ (c .before .before .pre) _ (c .before .if1 .taken)
 
 returns-2 : tie.Need-returns-2
-returns-2 c = ?
+returns-2 c = toZ-ofZ (c .before .fits .fill) ∙ value-none _ _ _ _ (c .before .pre) _ (c .if1 .left)
 
 pub value-at-spec : {M : Type 1} → statement M
 value-at-spec =
