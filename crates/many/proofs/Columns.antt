@@ -52,13 +52,15 @@ module _ (xs : List ℤ) (a b i : ℕ) (q : InColumn xs a b i) where
         record {
           current = e ∙ ap magnitude (sym (part-at a b xs i (pos 0) h)) ∙ ap currentEnd (sym (ahead-some (part a b xs) i (inside h)));
           small = λ z. omega (arith, magnitude-below (getD xs (a + i) (pos 0)) f);
+          some = λ z. omega (arith, magnitude-below (getD xs (a + i) (pos 0)) f);
         }
 
     pub end-none : b ≤ a + i → EndAt (map magnitude (drop i (part a b xs))) (2 ^ 64 - 1)
     end-none h = let n = ahead-none (part a b xs) i (spent h) in
         record {
           current = ap currentEnd (sym n);
-          small = λ z. absurd (let y : ⊥ = omega (arith, ap length n, z) in y);
+          small = λ z. let y : ⊥ = omega arith in absurd y;
+          some = λ z. let y : ⊥ = omega (arith, ap length n) in absurd y;
         }
 
 -- ---- a step of a column
@@ -91,14 +93,11 @@ module _ (m : ℕ) (es : List ℤ) (i : ℕ) where
 abbrev pub earlier : ℕ → Option ℕ → Option ℕ
 earlier l o = cond (ltb l (2 ^ 64 - 1)) (some (least l o)) o
 
-pub earlier-none : (l : ℕ) → earlier l none ≡ endFound l
-earlier-none l = refl
-
 pub earlier-next : (l : ℕ) {e : ℕ} (rest : List ℕ) (o : Option ℕ) → EndAt rest e → l < 2 ^ 64 → earlier l (withOthers rest o) ≡ earlier (min l e) o
 earlier-next l {e} [] o q h = let n : min l e ≡ l = omega (arith, q .current) in rw n
 earlier-next l {e} (d ∷ ds) o q h =
     let c : e ≡ d = q .current in
-    let s : d < 2 ^ 64 - 1 = omega (arith, q .small (omega arith)) in
+    let s : d < 2 ^ 64 - 1 = omega (arith, q .some (omega arith)) in
     rw c
     (by-test (ltb l (2 ^ 64 - 1))
     (λ t. rw (t, lt-ltb (min l d) (2 ^ 64 - 1) (omega (arith, ltb-true l (2 ^ 64 - 1) t))) (both o))
@@ -107,3 +106,9 @@ earlier-next l {e} (d ∷ ds) o q h =
     both : (x : Option ℕ) → some (least l (some (least d x))) ≡ some (least (min l d) x)
     both none = refl
     both (some y) = let n : min l (min d y) ≡ min (min l d) y = omega arith in ap some n
+
+pub earlier-small : (l : ℕ) {e : ℕ} (rest : List ℕ) → EndAt rest e → (l < 2 ^ 64 - 1 → l < 2 ^ 63) → min l e < 2 ^ 64 - 1 → min l e < 2 ^ 63
+earlier-small l {e} rest q f h =
+    by-test (ltb l e)
+    (λ t. omega (arith, f (omega (arith, ltb-true l e t))))
+    (λ t. omega (arith, q .small (omega (arith, ltb-false l e t))))

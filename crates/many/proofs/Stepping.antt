@@ -22,7 +22,7 @@ use Rattle.plan.proofs.Segments.{withOthers, least-cons}
 use Rattle.plan.proofs.Step.{ahead}
 use Rattle.plan.proofs.Walking.{place-within}
 use Rattle.many.specs.Workers.{placesFor, placesOf, Within, InColumn, EndAt, endFound, Placed, Stepped}
-use Rattle.many.proofs.Columns.{place-moves, earlier, earlier-none, earlier-next}
+use Rattle.many.proofs.Columns.{place-moves, earlier, earlier-next, earlier-small}
 use Rattle.many.proofs.Places.{columnAt, placesFrom, places-cons, within-cons, valid-cons, places-again}
 
 module _ (os : List ℕ) (es : List ℤ) (m : ℕ) (is : List ℕ) where
@@ -37,6 +37,7 @@ module _ (os : List ℕ) (es : List ℤ) (m : ℕ) (is : List ℕ) where
     pub steps : indexes (stepped m (placesOf os es is)) ≡ done ++ indexes (rest c)
     pub least : leastEnd (rests (stepped m (placesOf os es is))) ≡ earlier l (leastEnd (rests (rest c)))
     pub bounded : l < 2 ^ 64
+    pub small : l < 2 ^ 64 - 1 → l < 2 ^ 63
     pub within : Within (drop c is) (partsAt c os es)
     pub valid : AllValid (partsAt c os es)
 
@@ -51,6 +52,7 @@ module _ (os : List ℕ) (es : List ℤ) (m : ℕ) (is : List ℕ) where
         steps = rw p;
         least = rw p;
         bounded = omega arith;
+        small = λ z. let y : ⊥ = omega arith in absurd y;
         within = rw p at (q .within);
         valid = rw p at (sequences-told os es (q .valid));
       }
@@ -66,6 +68,7 @@ module _ {os : List ℕ} {es : List ℤ} {m : ℕ} {is is′ : List ℕ} {l c : 
       record {
         next = n;
         found = ap (λ (l : List ℕ). leastEnd (rests (placesOf os es l))) n ∙ ap (λ (ps : List Place). leastEnd (rests ps)) (places-again m is (parts os es)) ∙ (rw none-left at (s .least));
+        small = s .small;
       }
 
   -- the next column, at its place i
@@ -127,6 +130,7 @@ module _ {os : List ℕ} {es : List ℤ} {m : ℕ} {is is′ : List ℕ} {l c : 
                 ∙ earlier-next l (map magnitude (drop n column)) (leastEnd (rests others)) b (s .bounded)
                 ∙ ap (λ (x : ℕ). earlier x (leastEnd (rests others))) (sym el));
             bounded = omega (arith, s .bounded);
+            small = rw el (earlier-small l (map magnitude (drop n column)) b (s .small));
             within = within-cons os es is c h some-offset (s .within) .1;
             valid = valid-cons os es is c h some-offset (s .valid) .1;
           }

@@ -13,7 +13,7 @@ use Rattle.column.specs.Runs.{over}
 use Rattle.plan.specs.Plan.{Place, Segment, leastEnd, rests, indexes, stepped, segmentEnds}
 use Rattle.plan.specs.Walk.{placeAt}
 use Rattle.many.specs.declared.inner.Counts.{Counts}
-use Rattle.many.specs.Many.{allIndexes}
+use Rattle.many.specs.Many.{mostColumns, allIndexes}
 
 -- where columns stand, by the index of each one's current run
 abbrev pub placesFor : List ℕ → List (List ℤ) → List Place
@@ -42,7 +42,8 @@ currentEnd (e ∷ es) = e
 
 pub record EndAt (rest : List ℕ) (r : ℕ) : Type 0 where
   pub current : r ≡ currentEnd rest
-  pub small : 0 < length rest → r < 2 ^ 64 - 1
+  pub small : r < 2 ^ 64 - 1 → r < 2 ^ 63
+  pub some : 0 < length rest → r < 2 ^ 64 - 1
 
 -- an end as it is found, or none
 abbrev pub endFound : ℕ → Option ℕ
@@ -59,6 +60,7 @@ pub record Placed (os : List ℕ) (es : List ℤ) (is : List ℕ) : Type 0 where
 pub record Stepped (os : List ℕ) (es : List ℤ) (start : ℕ) (is is′ : List ℕ) (end : ℕ) : Type 0 where
   pub next : is′ ≡ indexes (stepped start (placesOf os es is))
   pub found : leastEnd (rests (placesOf os es is′)) ≡ endFound end
+  pub small : end < 2 ^ 64 - 1 → end < 2 ^ 63
 
 -- the values of the runs where columns stand, or the fill where one is spent
 abbrev pub valuesAt : List ℕ → List (List ℤ) → ℤ → List ℤ
@@ -78,7 +80,14 @@ pub record Walkable (os : List ℕ) (es : List ℤ) (is : List ℕ) : Type 0 whe
   pub offsets : offsetsValid os (length es) ≡ none
   pub valid : sequencesValid os es ≡ none
   pub first : is ≡ replicate (length os - 1) 0
-  pub some-offset : 0 < length os
+
+-- every question of plan_many answered "yes"
+pub record Plannable (os : List ℕ) (es e : List ℤ) (x : List ℕ) : Type 0 where
+  pub offsets : offsetsValid os (length es) ≡ none
+  pub valid : sequencesValid os es ≡ none
+  pub columns : length os - 1 ≤ mostColumns
+  pub room-ends : length es ≤ length e
+  pub room-indexes : length es * (length os - 1) ≤ length x
 
 -- the segments in two buffers, each before and after, and how many entries each got
 pub record PlanManyFilled (ss : List Segment) (e e′ : List ℤ) (x x′ : List ℕ) (r : Counts) : Type 0 where

@@ -12,7 +12,7 @@ ghost use Rattle.column.specs.Lists.{part, parts};
 ghost use Rattle.column.specs.Questions.{endsValid, offsetsValid, sequencesValid};
 ghost use Rattle.column.specs.Runs.{magnitude, over, Filled};
 ghost use Rattle.plan.specs.Plan.{segments};
-ghost use Rattle.many.specs.Workers.{InColumn, EndAt, Placed, Stepped, valuesAt, Foldable, Walkable, PlanManyFilled};
+ghost use Rattle.many.specs.Workers.{InColumn, EndAt, Placed, Stepped, valuesAt, Foldable, Walkable, Plannable, PlanManyFilled};
 
 // No end is as large: it stands where no run is left.
 const NONE: usize = usize::MAX;
@@ -111,7 +111,7 @@ fn plan_walk(
     out_ends: &mut [i64],
     out_idx: &mut [usize],
 ) -> Counts
-    requires { ⌜ Walkable (now offsets) (now ends) (now places) × (length (now ends) ≤ length (now «out_ends»)) × (length (now ends) * length (now places) ≤ length (now «out_idx»)) ⌝ }
+    requires { ⌜ Walkable (now offsets) (now ends) (now places) × (length (now ends) ≤ length (now «out_ends»)) × (length (now ends) * (length (now offsets) - 1) ≤ length (now «out_idx»)) ⌝ }
     ensures { λ r. ⌜ PlanManyFilled (segments (map (map magnitude) (parts (now (offsets .entry)) (now (ends .entry))))) (now («out_ends» .entry)) (now («out_ends» .exit)) (now («out_idx» .entry)) (now («out_idx» .exit)) r ⌝ }
 {
     let mut n: usize = 0;
@@ -135,8 +135,7 @@ pub fn plan_many(
     out_ends: &mut [i64],
     out_idx: &mut [usize],
 ) -> Counts
-    requires { ⌜ (offsetsValid (now offsets) (length (now ends)) ≡ none) × (sequencesValid (now offsets) (now ends) ≡ none) × (length (now offsets) - 1 ≤ 128)
-        × (length (now ends) ≤ length (now «out_ends»)) × (length (now ends) * (length (now offsets) - 1) ≤ length (now «out_idx»)) ⌝ }
+    requires { ⌜ Plannable (now offsets) (now ends) (now «out_ends») (now «out_idx») ⌝ }
     ensures { λ r. ⌜ PlanManyFilled (segments (map (map magnitude) (parts (now (offsets .entry)) (now (ends .entry))))) (now («out_ends» .entry)) (now («out_ends» .exit)) (now («out_idx» .entry)) (now («out_idx» .exit)) r ⌝ }
 {
     let k = offsets.len() - 1;
