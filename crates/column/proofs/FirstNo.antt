@@ -15,6 +15,11 @@ pub alone : (q : Question) → firstNo (q ∷ []) ≡ q
 alone none = refl
 alone (some r) = refl
 
+-- those behind a question, put as one
+pub first-rest : (q : Question) (qs : List Question) → firstNo (q ∷ firstNo qs ∷ []) ≡ firstNo (q ∷ qs)
+first-rest none qs = alone (firstNo qs)
+first-rest (some r) qs = refl
+
 -- two questions put as one
 pub first-two : (q q′ : Question) (qs : List Question) → firstNo (q ∷ q′ ∷ qs) ≡ firstNo (firstNo (q ∷ q′ ∷ []) ∷ qs)
 first-two none none qs = refl

@@ -19,7 +19,7 @@ use Rattle.column.specs.Lists.{any}
 use Rattle.column.specs.Asking.{Question, refusal, firstNo}
 use Rattle.column.specs.Questions.{listed, startAndRise, lastOffset, offsetsRise, offsetsValid, distinctAt, intervalAt, side, isMissing, filled, endsFrom, notNegative, fits, runByRun, longEnough, roomAt, roomFrom, room, both}
 use Rattle.column.specs.Runs.{magnitude}
-use Rattle.column.proofs.FirstNo.{alone}
+use Rattle.column.proofs.FirstNo.{alone, first-rest}
 use Rattle.column.proofs.Naturals.{lt-le, le-lt}
 
 -- ---- 1
@@ -167,24 +167,22 @@ long-refused requested present t = rw (lt-le requested present t)
 
 -- ---- 12
 
--- one question after the other
-pub room-next : (i n g : ℕ) (ns gs : List ℕ) → roomFrom i (n ∷ ns) (g ∷ gs) ≡ firstNo (roomAt i n g ∷ roomFrom (suc i) ns gs ∷ [])
+-- one question for each buffer
+abbrev pub roomsFrom : ℕ → List ℕ → List ℕ → List Question
+roomsFrom i [] given = []
+roomsFrom i (n ∷ ns) given = roomAt i n (getD given 0 0) ∷ roomsFrom (suc i) ns (drop 1 given)
+
+rooms-from : (i : ℕ) (ns given : List ℕ) → roomFrom i ns given ≡ firstNo (roomsFrom i ns given)
 unfolding roomFrom
-room-next i n g ns gs = refl
+rooms-from i [] given = refl
+rooms-from i (n ∷ ns) given = rw (rooms-from (suc i) ns (drop 1 given)) (first-rest (roomAt i n (getD given 0 0)) (roomsFrom (suc i) ns (drop 1 given)))
+
+pub room-each : (ns given : List ℕ) → room ns given ≡ firstNo (roomsFrom 0 ns given)
+unfolding room
+room-each ns given = rooms-from 0 ns given
 
 pub room-one : (n g : ℕ) → room (n ∷ []) (g ∷ []) ≡ roomAt 0 n g
-unfolding room roomFrom
-room-one n g = split (roomAt 0 n g)
-  where
-    split : (q : Question) → firstNo (q ∷ none ∷ []) ≡ q
-    split none = refl
-    split (some r) = refl
+room-one n g = room-each (n ∷ []) (g ∷ []) ∙ alone (roomAt 0 n g)
 
 pub room-both : (n e v : ℕ) → room (both n) (e ∷ v ∷ []) ≡ firstNo (roomAt 0 n e ∷ roomAt 1 n v ∷ [])
-unfolding room roomFrom
-room-both n e v = split (roomAt 0 n e) (roomAt 1 n v)
-  where
-    split : (p q : Question) → firstNo (p ∷ firstNo (q ∷ none ∷ []) ∷ []) ≡ firstNo (p ∷ q ∷ [])
-    split none none = refl
-    split none (some r) = refl
-    split (some r) q = refl
+room-both n e v = room-each (both n) (e ∷ v ∷ [])

@@ -1,4 +1,6 @@
 use crate::error::Refusal;
+ghost use mathlib.Core.Path.{_≡_};
+ghost use Rattle.column.specs.Combine.{valueOf};
 
 // What a question is answered.
 pub enum Asked {
@@ -10,6 +12,18 @@ pub enum Asked {
 pub enum Fill {
     Value(i64),
     Missing,
+}
+
+impl Fill {
+    // What stands there; 0 where nothing does.
+    pub fn value(self) -> i64
+        ensures { λ r. ⌜ r ≡ valueOf self ⌝ }
+    {
+        match self {
+            Fill::Value(v) => v,
+            Fill::Missing => 0,
+        }
+    }
 }
 
 // The answer of a call that only checks.

@@ -1,5 +1,9 @@
+pub mod Asks
+pub mod Columns
 pub mod Listing
+pub mod Planning
 pub mod Raw
 pub mod Segments
 pub mod Step
 pub mod Walking
+pub mod Zipping

@@ -5,14 +5,14 @@ use mathlib.Core.Option.{none}
 use mathlib.Core.List.{List, [], _∷_, _++_, append-nil, map}
 use mathlib.Core.Path.{_≡_, refl, sym, ap, _∙_}
 use native.Mathlib.Omega.{arith}
-use lib.IntN.{ℤ, pos}
+use lib.IntN.{ℤ}
 use lib.ListN.{length, length-append}
 use lib.Seq.{append-snoc}
 use Rattle.column.specs.Lists.{total}
 use Rattle.column.specs.Runs.{magnitude}
 use Rattle.plan.specs.Plan.{Place, Segment, leastEnd, rests, indexes, firstPlaces, segmentsFrom, segments}
 use Rattle.plan.specs.Walk.{Steps}
-use Rattle.plan.proofs.Segments.{left, left-less, none-left, segments-step, segments-end}
+use Rattle.plan.proofs.Segments.{left, left-less, segments-step, segments-end}
 
 pub record Listing (start : List Place) (done : List Segment) (ps : List Place) : Type 0 where
   pub bound : ℕ

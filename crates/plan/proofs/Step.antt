@@ -2,9 +2,8 @@
 -- Assumes nothing.
 use Prim.Native.Nat.{ℕ, suc, _+_, _≤_, _<_, min}
 use mathlib.Core.Bool.{cond}
-use mathlib.Core.Option.{some}
 use mathlib.Core.List.{List, [], _∷_, map}
-use mathlib.Core.Path.{_≡_, refl, ap, sym, _∙_}
+use mathlib.Core.Path.{_≡_, refl, ap, _∙_}
 use native.Mathlib.Nat.{add-zero}
 use native.Mathlib.Numerals.{add-one}
 use native.Mathlib.Omega.{arith}
@@ -17,7 +16,7 @@ use Rattle.num.specs.Numbers.{eqZ, smallerOf}
 use Rattle.num.proofs.Tests.{by-test, eqZ-refl}
 use Rattle.column.specs.Runs.{magnitude}
 use Rattle.plan.specs.declared.inner.Segments.{Segments}
-use Rattle.plan.specs.Plan.{Place, steppedOn}
+use Rattle.plan.specs.Plan.{steppedOn}
 use Rattle.plan.specs.Walk.{placeAt, placesAt, Steps}
 
 -- ---- a column

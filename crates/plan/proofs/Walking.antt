@@ -2,7 +2,7 @@
 -- Assumes nothing.
 use Prim.Native.Nat.{ℕ, _+_, _-_, _≤_, _<_}
 use mathlib.Core.List.{List, [], _∷_, _++_, map}
-use mathlib.Core.Path.{_≡_, refl, ap, sym, _∙_}
+use mathlib.Core.Path.{_≡_, refl, ap, _∙_}
 use native.Mathlib.Omega.{arith}
 use lib.Dec.{eqb}
 use lib.IntN.{ℤ}
@@ -44,7 +44,7 @@ module _ (a b : List ℤ) where
     pub in-b : j ≤ length b
     pub listing : Listing (placesAt a b (cursor 0 0)) done (placesAt a b (cursor i j))
 
-  left-at : (c : Segments) → left (placesAt a b c) ≡ length a - c .i + (length b - c .j)
+  pub left-at : (c : Segments) → left (placesAt a b c) ≡ length a - c .i + (length b - c .j)
   left-at c = omega (arith, length-ahead a (c .i), length-ahead b (c .j))
 
   pub walk-start : Walk [] 0 0
@@ -59,18 +59,6 @@ module _ (a b : List ℤ) where
     walk-end h =
         segments-first (map magnitude a ∷ map magnitude b ∷ [])
         ∙ list-end (w .listing) (none-left (placesAt a b (cursor i j)) (omega (arith, left-at (cursor i j), w .in-a, w .in-b)))
-
-    -- where nothing was passed, no segment
-    pub walk-begun : length done ≡ 0 → (i ≡ 0) × (j ≡ 0)
-    walk-begun h = let e = w .listing .begun h in (ap first e, ap second e)
-      where
-        first : List Place → ℕ
-        first [] = 0
-        first (p ∷ ps) = p .index
-
-        second : List Place → ℕ
-        second [] = 0
-        second (p ∷ ps) = first ps
 
     module _ {e : ℤ} {i′ j′ : ℕ} (s : Steps (placesAt a b (cursor i j)) e (placesAt a b (cursor i′ j′))) where
       first-place : placeAt a i′ ≡ steppedOn (magnitude e) i (map magnitude (drop i a))

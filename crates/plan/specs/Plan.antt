@@ -69,6 +69,10 @@ segments ends = segmentsFrom (total (map length ends)) (firstPlaces ends)
 
 -- ---- plan
 
+-- the segments of two columns, from their ends as they are handed in
+abbrev pub segmentsOf : List ℤ → List ℤ → List Segment
+segmentsOf a b = segments (map magnitude a ∷ map magnitude b ∷ [])
+
 -- "`plan` needs na + nb entries per buffer"; it takes ends alone
 unfoldable pub planAsked : List ℤ → List ℤ → List ℕ → Question
 planAsked a b buffers =
@@ -76,7 +80,7 @@ planAsked a b buffers =
     firstNo (endsValid a ∷ endsValid b ∷ room (n ∷ n ∷ n ∷ []) buffers ∷ [])
 
 unfoldable pub plan : List ℤ → List ℤ → List ℕ → Outcome (List Segment)
-plan a b buffers = planAsked a b buffers otherwise segments (map magnitude a ∷ map magnitude b ∷ [])
+plan a b buffers = planAsked a b buffers otherwise segmentsOf a b
 
 -- what is written of segments: their ends, and the index of column c in each
 abbrev pub segmentEnds : List Segment → List ℤ

@@ -6,7 +6,8 @@ ghost use mathlib.Core.Path.{_≡_};
 ghost use lib.ListN.{length};
 ghost use Rattle.num.specs.Numbers.{eqZ};
 ghost use Rattle.column.specs.Questions.{endsValid};
-ghost use Rattle.plan.specs.Walk.{placesAt, Steps};
+ghost use Rattle.plan.specs.Walk.{placesAt, Steps, Walkable, PlanFilled};
+ghost use Rattle.plan.specs.Plan.{segmentsOf};
 
 // Where a walk stands: the next run of each column, or its run count where it is spent.
 pub struct Segments {
@@ -31,7 +32,7 @@ fn stepped(index: usize, current: i64, end: i64) -> usize
 impl Segments {
     // The next segment. Where both columns have runs left no branch tells which of them ends first.
     pub fn next(self, a: &[i64], b: &[i64]) -> Segment
-        requires { ⌜ (endsValid (now a) ≡ none) × (endsValid (now b) ≡ none) × (self .i ≤ length (now a)) × (self .j ≤ length (now b)) × (self .i + self .j < length (now a) + length (now b)) ⌝ }
+        requires { ⌜ Walkable (now a) (now b) self ⌝ }
         ensures { λ r. ⌜ Steps (placesAt (now (a .entry)) (now (b .entry)) self) (r .end) (placesAt (now (a .entry)) (now (b .entry)) (r .next)) ⌝ }
     {
         let i = self.i;
@@ -60,4 +61,35 @@ impl Segments {
             next: Segments { i, j: j + 1 },
         }
     }
+}
+
+pub fn plan(
+    a: &[i64],
+    b: &[i64],
+    out_ends: &mut [i64],
+    out_idx_a: &mut [usize],
+    out_idx_b: &mut [usize],
+) -> usize
+    requires { ⌜ (endsValid (now a) ≡ none) × (endsValid (now b) ≡ none)
+        × (length (now a) + length (now b) ≤ length (now «out_ends»)) × (length (now a) + length (now b) ≤ length (now «out_idx_a»)) × (length (now a) + length (now b) ≤ length (now «out_idx_b»)) ⌝ }
+    ensures { λ r. ⌜ PlanFilled (segmentsOf (now (a .entry)) (now (b .entry)))
+        (now («out_ends» .entry)) (now («out_ends» .exit)) (now («out_idx_a» .entry)) (now («out_idx_a» .exit)) (now («out_idx_b» .entry)) (now («out_idx_b» .exit)) r ⌝ }
+{
+    let total = a.len() + b.len();
+    let mut n: usize = 0;
+    let mut i: usize = 0;
+    let mut j: usize = 0;
+    while i + j < total {
+        let here = Segments { i, j };
+        let segment = here.next(a, b);
+        let end = segment.end;
+        let next = segment.next;
+        out_ends[n] = end;
+        out_idx_a[n] = i;
+        out_idx_b[n] = j;
+        n += 1;
+        i = next.i;
+        j = next.j;
+    }
+    n
 }

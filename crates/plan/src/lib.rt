@@ -10,3 +10,39 @@ ghost use lib.ListN.{length};
 ghost use Rattle.column.specs.Asking.{shownAsked};
 ghost use Rattle.plan.specs.Plan.{WritesPlan};
 ghost use Rattle.plan.specs.Plan as calls;
+
+fn plan_asks(a: &[i64], b: &[i64], out_ends: usize, out_idx_a: usize, out_idx_b: usize) -> Asked
+    ensures { λ r. ⌜ shownAsked r ≡ calls.planAsked (now (a .entry)) (now (b .entry)) («out_ends» ∷ «out_idx_a» ∷ «out_idx_b» ∷ []) ⌝ }
+{
+    let needed = a.len() + b.len();
+    let last = questions::first_no(
+        questions::ask_room(1, needed, out_idx_a),
+        questions::ask_room(2, needed, out_idx_b),
+    );
+    let room = questions::first_no(questions::ask_room(0, needed, out_ends), last);
+    let right = questions::first_no(questions::ask_ends(b), room);
+    questions::first_no(questions::ask_ends(a), right)
+}
+
+// The segments of two columns, from their ends alone: where each ends, and the run of each column that covers it, or the column's run
+// count where it is spent.
+pub fn plan(
+    a: &[i64],
+    b: &[i64],
+    out_ends: &mut [i64],
+    out_idx_a: &mut [usize],
+    out_idx_b: &mut [usize],
+) -> Counted
+    ensures { λ r. ⌜ WritesPlan
+        (calls.plan (now (a .entry)) (now (b .entry)) (length (now («out_ends» .entry)) ∷ length (now («out_idx_a» .entry)) ∷ length (now («out_idx_b» .entry)) ∷ [])) r
+        (now («out_ends» .entry)) (now («out_ends» .exit)) (now («out_idx_a» .entry)) (now («out_idx_a» .exit)) (now («out_idx_b» .entry)) (now («out_idx_b» .exit)) ⌝ }
+{
+    let asked = plan_asks(a, b, out_ends.len(), out_idx_a.len(), out_idx_b.len());
+    match asked {
+        Asked::Yes => {
+            let n = inner::plan(a, b, out_ends, out_idx_a, out_idx_b);
+            Counted::Count(n)
+        }
+        Asked::No(r) => Counted::Refused(r),
+    }
+}

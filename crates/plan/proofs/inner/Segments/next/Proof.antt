@@ -1,4 +1,3 @@
-use mathlib.Core.Path.{_∙_}
 use native.Mathlib.Omega.{arith}
 use lib.IntN.{pos}
 use lib.ListN.{getD}
@@ -9,10 +8,6 @@ use Rattle.plan.proofs.Step.{step-both, step-left, step-right}
 use borrow.Author.Needs.{needs}
 use Rattle.plan.proofs.inner.Segments.next.Statement.{statement}
 use Rattle.plan.proofs.inner.Segments.next.Tie as tie
-use Rattle.plan.proofs.inner.Segments.next.Reads as reads
-use Rattle.plan.proofs.inner.Segments.next.Lts as lts
-use Rattle.num.proofs.smaller.Reads as smaller-reads
-use Rattle.plan.proofs.inner.stepped.Reads as stepped-reads
 
 mul-x : tie.Need-mul-x
 mul-x c = search needs
@@ -45,7 +40,7 @@ returns c = let y = c .before .before .before in
     let ee = back (c .before .before .smaller .result) (c .before .before .smaller .ok) in
     rw ee
     (step-both (now (s .a)) (now (s .b)) (s .self) (x .before .if1 .taken) (y .before .if2 .taken)
-    (natural-end (now (s .a)) (s .self .i) (q .0) (x .before .if1 .taken)) (natural-end (now (s .b)) (s .self .j) (q .1) (y .before .if2 .taken))
+    (natural-end (now (s .a)) (s .self .i) (q .valid-a) (x .before .if1 .taken)) (natural-end (now (s .b)) (s .self .j) (q .valid-b) (y .before .if2 .taken))
     (rw (ex, ey) at (c .before .before .smaller .ensures))
     (rw (ex, ee) at (c .before .stepped .ensures))
     (rw (ey, ee) at (c .stepped2 .ensures)))
@@ -56,7 +51,7 @@ add-t12 c = search needs
 returns-2 : tie.Need-returns-2
 returns-2 c = let s = c .before .before .before .args in
     rw (back (getD (now (s .a)) (s .self .i) (pos 0)) (c .before .x .given))
-    (step-left (now (s .a)) (now (s .b)) (s .self) (c .before .before .if1 .taken) (c .if2 .left) (natural-end (now (s .a)) (s .self .i) (c .before .before .before .pre .0) (c .before .before .if1 .taken)))
+    (step-left (now (s .a)) (now (s .b)) (s .self) (c .before .before .if1 .taken) (c .if2 .left) (natural-end (now (s .a)) (s .self .i) (c .before .before .before .pre .valid-a) (c .before .before .if1 .taken)))
 
 mul-y-2 : tie.Need-mul-y-2
 mul-y-2 c = search needs
@@ -70,7 +65,7 @@ add-t10 c = search needs
 returns-3 : tie.Need-returns-3
 returns-3 c = let s = c .before .before .args in
     rw (back (getD (now (s .b)) (s .self .j) (pos 0)) (c .y2 .given))
-    (step-right (now (s .a)) (now (s .b)) (s .self) (c .before .if1 .left) (omega arith) (natural-end (now (s .b)) (s .self .j) (c .before .before .pre .1) (omega arith)))
+    (step-right (now (s .a)) (now (s .b)) (s .self) (c .before .if1 .left) (omega arith) (natural-end (now (s .b)) (s .self .j) (c .before .before .pre .valid-b) (omega arith)))
 
 pub next-spec : {M : Type 1} → statement M
 next-spec =

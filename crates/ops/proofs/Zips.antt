@@ -1,0 +1,124 @@
+-- The loops of both zips: the walk of two columns, with a run written for each segment, merged or not.
+-- Assumes nothing.
+use Prim.Native.Nat.{ℕ, _+_, _≤_, _<_, _^_}
+use mathlib.Core.List.{List, [], _∷_, map-map}
+use mathlib.Core.Path.{_≡_, ap, sym, _∙_}
+use native.Mathlib.Omega.{arith}
+use lib.IntN.{ℤ, pos}
+use lib.ListN.{length, getD, set, length-map}
+use Rattle.column.specs.declared.answer.Fill.the-variants.{Value}
+use Rattle.column.specs.declared.inner.Writer.{Writer}
+use Rattle.column.specs.Combine.{Column, two, combined}
+use Rattle.column.specs.Runs.{Run, sequence, runsOf, endsOf, valuesOf, over, Filled}
+use Rattle.column.specs.Writing.{nextPlace, PushedMerged}
+use Rattle.column.proofs.Buffer.{Written, write-start, write-next}
+use Rattle.column.proofs.Merging.{Merging, merge-start}
+use Rattle.column.proofs.Pushed.{pushAll}
+use Rattle.plan.specs.Plan.{Segment, segmentRun, segmentRuns}
+use Rattle.plan.specs.Walk.{placesAt, Steps}
+use Rattle.plan.proofs.Columns.{ends-in, both-valid, both-start, both-shown}
+use Rattle.plan.proofs.Listing.{Listing, segmentAt}
+use Rattle.plan.proofs.Segments.{left, none-left}
+use Rattle.plan.proofs.Walking.{cursor, Walk, left-at, walk-start, walk-few, walk-next, walk-end}
+use Rattle.plan.proofs.Zipping.{starts, shownAt, mergedRuns, zip-none, zip-at, zip-last, zip-more, zip-end}
+use Rattle.ops.specs.Workers.{Zippable}
+
+module _ (op : ℤ → ℤ → ℤ) (fa fb : ℤ) (ae av be bv e₀ v₀ : List ℤ) where
+  abbrev pub cs : List Column
+  cs = two (Value fa) (Value fb) (runsOf ae av) (runsOf be bv)
+
+  -- what a run of each shows, as the code reads it
+  abbrev pub value : ℕ → ℕ → ℤ
+  value i j = op (getD av i fa) (getD bv j fb)
+
+  -- ---- zip_with
+
+  pub record Zipped (e v : List ℤ) (w : Writer) (i j : ℕ) : Type 0 where
+    pub done : List Segment
+    pub walk : Walk ae be done i j
+    pub merging : Merging (mergedRuns op cs done) (shownAt op cs (0 ∷ 0 ∷ [])) e₀ v₀ e v w
+
+  pub zipped-last : {e v : List ℤ} {w : Writer} {i j : ℕ} → Zipped e v w i j → w .at ≤ length ae + length be
+  zipped-last z = omega (arith, zip-last op cs (z .done) (z .merging), walk-few ae be (z .walk), z .walk .in-a, z .walk .in-b)
+
+  -- ---- zip_with_raw
+
+  abbrev runEnd : Segment → ℤ
+  runEnd s = pos (s .end)
+
+  abbrev runValue : Segment → ℤ
+  runValue s = shownAt op cs (s .indexes)
+
+  pub record Listed (e v : List ℤ) (n i j : ℕ) : Type 0 where
+    pub done : List Segment
+    pub walk : Walk ae be done i j
+    pub ends : Written runEnd done e₀ e n
+    pub values : Written runValue done v₀ v n
+
+  pub listed-start : Listed e₀ v₀ 0 0 0
+  listed-start = record { done = []; walk = walk-start ae be; ends = write-start runEnd e₀; values = write-start runValue v₀ }
+
+  module _ (q : Zippable (sequence ae av) (sequence be bv) e₀ v₀) where
+    started : starts op cs ≡ placesAt ae be (cursor 0 0)
+    started = both-start op (Value fa) (Value fb) ae av be bv (q .paired-a) (q .paired-b)
+
+    shown : (i j : ℕ) → shownAt op cs (i ∷ j ∷ []) ≡ value i j
+    shown = both-shown op (Value fa) (Value fb) ae av be bv (q .paired-a) (q .paired-b)
+
+    total : left (starts op cs) ≡ length ae + length be
+    total = let l : left (placesAt ae be (cursor 0 0)) ≡ length ae + length be = omega (arith, left-at ae be (cursor 0 0)) in ap left started ∙ l
+
+    pub zipped-none : length ae + length be ≡ 0 → Filled (combined op cs) e₀ e₀ v₀ v₀ 0
+    zipped-none h = zip-none op cs (both-valid op (Value fa) (Value fb) ae av be bv (q .valid-a) (q .valid-b)) (total ∙ h) e₀ v₀
+
+    pub zipped-start : {first : ℤ} → first ≡ value 0 0 → Zipped e₀ v₀ (record { at = 0; last = first }) 0 0
+    unfolding mergedRuns pushAll
+    zipped-start h = rw (h, ← shown 0 0) (record { done = []; walk = walk-start ae be; merging = merge-start _ e₀ v₀ })
+
+    module _ {e v : List ℤ} {w : Writer} {i j : ℕ} (z : Zipped e v w i j) where
+      pub zipped-end : length ae + length be ≤ i + j → 0 < length ae + length be → Filled (combined op cs) e₀ e v₀ v (w .at + 1)
+      zipped-end h k =
+          let l : Listing (starts op cs) (z .done) (placesAt ae be (cursor i j)) = rw started (z .walk .listing) in
+          zip-end op cs (both-valid op (Value fa) (Value fb) ae av be bv (q .valid-a) (q .valid-b)) l (z .merging)
+          (none-left (placesAt ae be (cursor i j)) (omega (arith, left-at ae be (cursor i j), z .walk .in-a, z .walk .in-b)))
+          (omega (arith, total))
+
+      module _ {x : ℤ} (ex : x ≡ value i j) (h : i + j < length ae + length be) where
+        pub zipped-room : length ae + length be < 2 ^ 64 → (w .at + 1 < 2 ^ 64) × (nextPlace w x < length e) × (nextPlace w x < length v)
+        zipped-room k =
+            let p = zip-at op cs (z .walk .listing) (z .merging) (ex ∙ sym (shown i j)) in
+            let f = walk-few ae be (z .walk) in
+            (omega (arith, zip-last op cs (z .done) (z .merging)), omega (arith, q .room-ends, z .merging .long-ends), omega (arith, q .room-values, z .merging .long-values))
+
+        pub zipped-more : {t t′ : ℤ} {i′ j′ : ℕ} {e′ v′ : List ℤ} {next : Writer} → Steps (placesAt ae be (cursor i j)) t (placesAt ae be (cursor i′ j′)) → t′ ≡ t
+            → PushedMerged w t′ x e e′ v v′ next → Zipped e′ v′ next i′ j′
+        zipped-more {e′ = e′} {v′ = v′} {next = next} s et d =
+            record {
+              done = _;
+              walk = walk-next ae be (z .walk) s;
+              merging = zip-more op cs (z .walk .listing) (z .merging) (ex ∙ sym (shown i j)) s (rw et at d)
+                  (omega (arith, q .room-ends, left-at ae be (cursor 0 0))) (omega (arith, q .room-values, left-at ae be (cursor 0 0)));
+            }
+
+    -- ---- zip_with_raw
+
+    module _ {e v : List ℤ} {n i j : ℕ} (z : Listed e v n i j) where
+      pub listed-few : n ≤ i + j
+      listed-few = omega (arith, walk-few ae be (z .walk), z .ends .count)
+
+      pub listed-next : {t t′ x : ℤ} {i′ j′ : ℕ} → Steps (placesAt ae be (cursor i j)) t (placesAt ae be (cursor i′ j′)) → t′ ≡ t → x ≡ value i j
+          → i + j < length ae + length be → Listed (set e n t′) (set v n x) (n + 1) i′ j′
+      listed-next {t} s et ex h =
+          record {
+            done = _;
+            walk = walk-next ae be (z .walk) s;
+            ends = write-next runEnd (z .ends) (omega (arith, listed-few, q .room-ends)) (segmentAt (placesAt ae be (cursor i j)) t) (et ∙ s .natural);
+            values = write-next runValue (z .values) (omega (arith, listed-few, q .room-values)) (segmentAt (placesAt ae be (cursor i j)) t) (ex ∙ sym (shown i j));
+          }
+
+      pub listed-end : length ae + length be ≤ i + j → Filled (segmentRuns op cs) e₀ e v₀ v n
+      unfolding segmentRuns endsOf valuesOf
+      listed-end h =
+          let all = walk-end ae be (z .walk) h in
+          rw (ends-in ae av (q .paired-a), ends-in be bv (q .paired-b), all)
+          (record { count = z .ends .count ∙ sym (length-map (z .done) (segmentRun op cs)); ends = z .ends .entries ∙ ap (λ (l : List ℤ). over l e₀) (sym (map-map (λ (r : Run). pos (r .end)) (segmentRun op cs) (z .done))); values = z .values .entries ∙ ap (λ (l : List ℤ). over l v₀) (sym (map-map (λ (r : Run). r .value) (segmentRun op cs) (z .done))) })

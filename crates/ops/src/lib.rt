@@ -1,0 +1,139 @@
+pub mod inner;
+
+use column::answer::Asked;
+use column::answer::Counted;
+use column::answer::Fill;
+use column::questions;
+use column::sequence;
+ghost use mathlib.Core.List.{[], _∷_};
+ghost use mathlib.Core.Path.{_≡_};
+ghost use lib.ListN.{length};
+ghost use Rattle.column.specs.Asking.{shownAsked};
+ghost use Rattle.column.specs.Paper.{WritesRuns};
+ghost use Rattle.column.specs.Runs.{sequence};
+ghost use Rattle.ops.specs.Ops as calls;
+
+fn zip_asks(
+    a_ends: &[i64],
+    a_values: &[i64],
+    b_ends: &[i64],
+    b_values: &[i64],
+    fill_a: Fill,
+    fill_b: Fill,
+    code: u8,
+    out_ends: usize,
+    out_values: usize,
+) -> Asked
+    ensures { λ r. ⌜ shownAsked r ≡ calls.zipAsked (sequence (now («a_ends» .entry)) (now («a_values» .entry))) (sequence (now («b_ends» .entry)) (now («b_values» .entry)))
+        «fill_a» «fill_b» code («out_ends» ∷ «out_values» ∷ []) ⌝ }
+{
+    let room = questions::ask_both(a_ends.len() + b_ends.len(), out_ends, out_values);
+    let left = sequence::length(a_ends);
+    let right = sequence::length(b_ends);
+    let filled = questions::first_no(questions::ask_fills(left, right, fill_a, fill_b), room);
+    let valid_b = questions::first_no(questions::ask_ends(b_ends), filled);
+    let valid_a = questions::first_no(questions::ask_ends(a_ends), valid_b);
+    let paired_b = questions::first_no(
+        questions::ask_lengths(3, b_ends.len(), b_values.len()),
+        valid_a,
+    );
+    let paired_a = questions::first_no(
+        questions::ask_lengths(3, a_ends.len(), a_values.len()),
+        paired_b,
+    );
+    questions::first_no(questions::ask_code(0, 9, code), paired_a)
+}
+
+// Two columns combined position by position, merged.
+pub fn zip_with(
+    a_ends: &[i64],
+    a_values: &[i64],
+    b_ends: &[i64],
+    b_values: &[i64],
+    fill_a: Fill,
+    fill_b: Fill,
+    code: u8,
+    out_ends: &mut [i64],
+    out_values: &mut [i64],
+) -> Counted
+    ensures { λ r. ⌜ WritesRuns
+        (calls.zipWith (sequence (now («a_ends» .entry)) (now («a_values» .entry))) (sequence (now («b_ends» .entry)) (now («b_values» .entry)))
+        «fill_a» «fill_b» code (length (now («out_ends» .entry)) ∷ length (now («out_values» .entry)) ∷ [])) r
+        (now («out_ends» .entry)) (now («out_ends» .exit)) (now («out_values» .entry)) (now («out_values» .exit)) ⌝ }
+{
+    let asked = zip_asks(
+        a_ends,
+        a_values,
+        b_ends,
+        b_values,
+        fill_a,
+        fill_b,
+        code,
+        out_ends.len(),
+        out_values.len(),
+    );
+    match asked {
+        Asked::Yes => {
+            let n = inner::zip_with(
+                a_ends,
+                a_values,
+                b_ends,
+                b_values,
+                fill_a.value(),
+                fill_b.value(),
+                code,
+                out_ends,
+                out_values,
+            );
+            Counted::Count(n)
+        }
+        Asked::No(r) => Counted::Refused(r),
+    }
+}
+
+// Two columns combined, with a run for each of their segments, not merged.
+pub fn zip_with_raw(
+    a_ends: &[i64],
+    a_values: &[i64],
+    b_ends: &[i64],
+    b_values: &[i64],
+    fill_a: Fill,
+    fill_b: Fill,
+    code: u8,
+    out_ends: &mut [i64],
+    out_values: &mut [i64],
+) -> Counted
+    ensures { λ r. ⌜ WritesRuns
+        (calls.zipWithRaw (sequence (now («a_ends» .entry)) (now («a_values» .entry))) (sequence (now («b_ends» .entry)) (now («b_values» .entry)))
+        «fill_a» «fill_b» code (length (now («out_ends» .entry)) ∷ length (now («out_values» .entry)) ∷ [])) r
+        (now («out_ends» .entry)) (now («out_ends» .exit)) (now («out_values» .entry)) (now («out_values» .exit)) ⌝ }
+{
+    let asked = zip_asks(
+        a_ends,
+        a_values,
+        b_ends,
+        b_values,
+        fill_a,
+        fill_b,
+        code,
+        out_ends.len(),
+        out_values.len(),
+    );
+    match asked {
+        Asked::Yes => {
+            let n = inner::zip_with_raw(
+                a_ends,
+                a_values,
+                b_ends,
+                b_values,
+                fill_a.value(),
+                fill_b.value(),
+                code,
+                out_ends,
+                out_values,
+            );
+            Counted::Count(n)
+        }
+        Asked::No(r) => Counted::Refused(r),
+    }
+}

@@ -1,0 +1,40 @@
+-- Two sequences as columns: their ends, where a walk over them starts, and what they show together at runs of both.
+-- Assumes nothing.
+use Prim.Native.Nat.{ℕ}
+use mathlib.Core.Option.{none}
+use mathlib.Core.List.{List, [], _∷_, map}
+use mathlib.Core.Path.{_≡_, refl, ap, ap₂, _∙_}
+use native.Mathlib.Omega.{arith}
+use lib.IntN.{ℤ}
+use lib.ListN.{length, getD}
+use Rattle.column.specs.declared.answer.Fill.{Fill}
+use Rattle.column.specs.Combine.{Column, two, valueOf}
+use Rattle.column.specs.Questions.{endsValid}
+use Rattle.column.specs.Runs.{magnitude, runsOf}
+use Rattle.column.proofs.All.{All}
+use Rattle.column.proofs.Ends.{rising, runs-rise, values-runs}
+use Rattle.column.proofs.Rising.{Valid}
+use Rattle.plan.specs.Plan.{endsIn, firstPlaces}
+use Rattle.plan.specs.Walk.{placesAt}
+use Rattle.plan.proofs.Walking.{cursor}
+use Rattle.plan.proofs.Zipping.{starts, shownAt}
+
+pub ends-in : (es vs : List ℤ) → length es ≡ length vs → endsIn (runsOf es vs) ≡ map magnitude es
+unfolding runsOf
+ends-in [] vs l = refl
+ends-in (e ∷ es) [] l = let z : ⊥ = omega arith in absurd z
+ends-in (e ∷ es) (v ∷ vs) l = ap {B = List ℕ} (λ r. magnitude e ∷ r) (ends-in es vs (omega arith))
+
+module _ (op : ℤ → ℤ → ℤ) (fa fb : Fill) (ae av be bv : List ℤ) where
+  abbrev pub both : List Column
+  both = two fa fb (runsOf ae av) (runsOf be bv)
+
+  pub both-valid : endsValid ae ≡ none → endsValid be ≡ none → All (λ (c : Column). Valid (c .runs)) both
+  both-valid va vb = (runs-rise 0 ae av (rising ae va), (runs-rise 0 be bv (rising be vb), tt))
+
+  module _ (la : length ae ≡ length av) (lb : length be ≡ length bv) where
+    pub both-start : starts op both ≡ placesAt ae be (cursor 0 0)
+    both-start = rw (ends-in ae av la, ends-in be bv lb)
+
+    pub both-shown : (i j : ℕ) → shownAt op both (i ∷ j ∷ []) ≡ op (getD av i (valueOf fa)) (getD bv j (valueOf fb))
+    both-shown i j = rw (values-runs ae av la, values-runs be bv lb)
