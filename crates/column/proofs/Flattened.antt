@@ -11,17 +11,27 @@ use lib.Dec.{eqb, leb}
 use lib.IntN.{ℤ, pos}
 use lib.ListN.{length, getD, length-map}
 use borrow.Author.Tests.{leb-true, eqb-true}
-use Rattle.column.specs.Asking.{Question, eachFrom, inKey}
-use Rattle.column.specs.Flat.{flat, sequencesFrom, columns}
+use Rattle.column.specs.Asking.{Question, firstNo, eachFrom, inKey}
+use Rattle.column.specs.Flat.{flat, sequencesFrom, columns, flatAsked}
 use Rattle.column.specs.Lists.{total, part, partsFrom, parts}
-use Rattle.column.specs.Questions.{endsValid, sequenceAt, sequencesValid, offsetsValid, rise, startAndRise, lastOffset}
+use Rattle.column.specs.Questions.{agree, paired, endsValid, sequenceAt, sequencesValid, offsetsValid, rise, startAndRise, lastOffset}
 use Rattle.column.specs.Runs.{Sequence, Runs, runsOf, runs, lengthOf, lengthOfEnds}
 use Rattle.column.proofs.All.{All}
 use Rattle.column.proofs.Ends.{length-of-ends, rising, runs-rise}
-use Rattle.column.proofs.FirstNo.{first-yes, rest-yes}
+use Rattle.column.proofs.FirstNo.{first-yes, rest-yes, asked-next, asked-last}
 use Rattle.column.proofs.Parts.{length-part, part-paired}
 use Rattle.column.proofs.Rising.{Valid}
 use Rattle.column.proofs.Told.{both-true, offsets-told}
+
+-- ---- the questions, as the code joins them
+
+pub flat-asked : (os : List ℕ) (es vs : List ℤ) {r a b c d : Question} → r ≡ firstNo (a ∷ b ∷ []) → a ≡ agree 3 (length es) (length vs) → b ≡ firstNo (c ∷ d ∷ [])
+    → c ≡ offsetsValid os (length es) → d ≡ sequencesValid os es → r ≡ firstNo (flatAsked (flat os es vs))
+unfolding paired
+flat-asked os es vs hr ha hb hc hd =
+    let o = offsetsValid os (length es) in
+    let s = sequencesValid os es in
+    asked-next (agree 3 (length es) (length vs)) (o ∷ s ∷ []) hr ha (λ p. asked-last o hb hc (λ y. hd))
 
 -- ---- offsets, from a on
 

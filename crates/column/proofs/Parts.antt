@@ -54,6 +54,10 @@ module _ (k : ℕ) (os : List ℕ) (es : List ℤ) where
   unfolding partsAt partsFrom
   parts-cons h = let m : k + 1 + 1 ≡ suc (k + 1) = omega arith in ap (λ (l : List ℕ). partsFrom (getD os k 0) l es) (drop-cons os (k + 1) 0 h) ∙ rw m
 
+  pub parts-end : length os ≤ k + 1 → partsAt k os es ≡ []
+  unfolding partsAt partsFrom
+  parts-end h = rw (drop-of-length-le os {i = k + 1} h)
+
   pub sequences-next : k + 1 < length os → sequenceAt k (part (getD os k 0) (getD os (k + 1) 0) es) ≡ none
       → eachFrom sequenceAt k (partsAt k os es) ≡ eachFrom sequenceAt (k + 1) (partsAt (k + 1) os es)
   unfolding eachFrom
@@ -65,5 +69,5 @@ module _ (k : ℕ) (os : List ℕ) (es : List ℤ) where
   sequences-refused h e = rw (parts-cons h, e)
 
   pub sequences-end : length os ≤ k + 1 → eachFrom sequenceAt k (partsAt k os es) ≡ none
-  unfolding eachFrom partsAt partsFrom
-  sequences-end h = rw (drop-of-length-le os {i = k + 1} h)
+  unfolding eachFrom
+  sequences-end h = rw (parts-end h)

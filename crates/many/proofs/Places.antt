@@ -20,7 +20,7 @@ use Rattle.plan.specs.Walk.{placeAt}
 use Rattle.plan.proofs.Step.{ahead}
 use Rattle.plan.proofs.Walking.{place-within}
 use Rattle.many.specs.Workers.{placesFor, placesOf, Within, Placed}
-use Rattle.many.proofs.Columns.{place-again}
+use Rattle.many.proofs.Entries.{place-again}
 
 -- ---- all columns
 

@@ -68,7 +68,7 @@ module _ {os : List ℕ} {es e₀ : List ℤ} {x₀ is : List ℕ} {e : List ℤ
         → Stepped os es end is is′ end′ → Planning os es e₀ x₀ is′ (set e n z) x′ (n + 1) m′ end′
     planning-next ez em el ex s =
         let i : allIndexes (p .done ++ segmentAt (placesOf os es is) (pos end) ∷ []) ≡ allIndexes (p .done) ++ is =
-            all-append (p .done) (segmentAt (placesOf os es is) (pos end)) ∙ ap (λ (l : List ℕ). allIndexes (p .done) ++ l) (walk-indexes (p .walk)) in
+        all-append (p .done) (segmentAt (placesOf os es is) (pos end)) ∙ ap (λ (l : List ℕ). allIndexes (p .done) ++ l) (walk-indexes (p .walk)) in
         record {
           done = p .done ++ segmentAt (placesOf os es is) (pos end) ∷ [];
           walk = walk-next (p .walk) h s;

@@ -22,7 +22,7 @@ use Rattle.plan.proofs.Segments.{withOthers, least-cons}
 use Rattle.plan.proofs.Step.{ahead}
 use Rattle.plan.proofs.Walking.{place-within}
 use Rattle.many.specs.Workers.{placesFor, placesOf, Within, InColumn, EndAt, endFound, Placed, Stepped}
-use Rattle.many.proofs.Columns.{place-moves, earlier, earlier-next, earlier-small}
+use Rattle.many.proofs.Entries.{place-moves, earlier, earlier-next, earlier-small}
 use Rattle.many.proofs.Places.{columnAt, placesFrom, places-cons, within-cons, valid-cons, places-again}
 
 module _ (os : List ℕ) (es : List ℤ) (m : ℕ) (is : List ℕ) where

@@ -79,7 +79,7 @@ module _ (os : List ℕ) (es : List ℤ) where
     pub walk-start : {is′ : List ℕ} {end : ℕ} → Stepped os es 0 is is′ end → Walk [] is′ end
     walk-start {is′} s =
         let p : placesOf os es is′ ≡ firstPlaces (endsOfParts os es) =
-            ap (λ (l : List ℕ). placesOf os es l) (s .next) ∙ places-again 0 is (parts os es) ∙ ap (stepped 0) begin ∙ first-stays (parts os es) (sequences-told os es (q .valid)) in
+        ap (λ (l : List ℕ). placesOf os es l) (s .next) ∙ places-again 0 is (parts os es) ∙ ap (stepped 0) begin ∙ first-stays (parts os es) (sequences-told os es (q .valid)) in
         record {
           placed = rw (s .next) (placed-next 0 walk-placed);
           listing = rw p (list-start (firstPlaces (endsOfParts os es)));

@@ -1,4 +1,5 @@
 // Workers that assume what the calls have asked, and the walk over the segments of many columns. The ends are valid.
+use column::inner::Writer;
 ghost use Prim.Native.Nat.{_+_, _*_, _-_, _≤_, _<_, _^_};
 ghost use mathlib.Core.Bool.{cond};
 ghost use mathlib.Core.List.{_++_, map};
@@ -7,12 +8,14 @@ ghost use mathlib.Core.Path.{_≡_};
 ghost use lib.Dec.{eqb};
 ghost use lib.ListN.{length, getD, take, drop};
 ghost use Rattle.num.specs.Numbers.{operation};
-ghost use Rattle.column.specs.Combine.{folded};
+ghost use Rattle.column.specs.declared.answer.Fill.the-variants.{Value};
+ghost use Rattle.column.specs.Combine.{many, folded, combined};
+ghost use Rattle.column.specs.Flat.{flat, columns};
 ghost use Rattle.column.specs.Lists.{part, parts};
 ghost use Rattle.column.specs.Questions.{endsValid, offsetsValid, sequencesValid};
 ghost use Rattle.column.specs.Runs.{magnitude, over, Filled};
 ghost use Rattle.plan.specs.Plan.{segments};
-ghost use Rattle.many.specs.Workers.{InColumn, EndAt, Placed, Stepped, valuesAt, Foldable, Walkable, Plannable, PlanManyFilled};
+ghost use Rattle.many.specs.Workers.{InColumn, EndAt, Placed, Stepped, valuesAt, Foldable, Walkable, Foldings, Plannable, Zippable, PlanManyFilled};
 
 // No end is as large: it stands where no run is left.
 const NONE: usize = usize::MAX;
@@ -141,4 +144,60 @@ pub fn plan_many(
     let k = offsets.len() - 1;
     let mut places = [0usize; rle::Rle::MAX_COLUMNS];
     plan_walk(offsets, ends, &mut places[..k], out_ends, out_idx)
+}
+
+// What the columns show together, merged, with the columns' places in a lent buffer.
+fn zip_walk(
+    offsets: &[usize],
+    ends: &[i64],
+    values: &[i64],
+    fill: i64,
+    code: u8,
+    places: &mut [usize],
+    out_ends: &mut [i64],
+    out_values: &mut [i64],
+) -> usize
+    requires { ⌜ Foldings (now offsets) (now ends) (now values) (now places) (now «out_ends») (now «out_values») ⌝ }
+    ensures { λ r. ⌜ Filled (combined (operation code) (many (Value fill) (columns (flat (now (offsets .entry)) (now (ends .entry)) (now (values .entry))))))
+        (now («out_ends» .entry)) (now («out_ends» .exit)) (now («out_values» .entry)) (now («out_values» .exit)) r ⌝ }
+{
+    if ends.len() == 0 {
+        return 0;
+    }
+    let mut end = step(offsets, ends, places, 0);
+    let first = fold(code, offsets, values, places, fill);
+    let mut writer = Writer { at: 0, last: first };
+    while end < NONE {
+        let value = fold(code, offsets, values, places, fill);
+        writer = column::inner::push_merged(writer, out_ends, out_values, end as i64, value);
+        end = step(offsets, ends, places, end);
+    }
+    writer.at + 1
+}
+
+pub fn zip_many(
+    offsets: &[usize],
+    ends: &[i64],
+    values: &[i64],
+    fill: i64,
+    code: u8,
+    out_ends: &mut [i64],
+    out_values: &mut [i64],
+) -> usize
+    requires { ⌜ Zippable (now offsets) (now ends) (now values) (now «out_ends») (now «out_values») ⌝ }
+    ensures { λ r. ⌜ Filled (combined (operation code) (many (Value fill) (columns (flat (now (offsets .entry)) (now (ends .entry)) (now (values .entry))))))
+        (now («out_ends» .entry)) (now («out_ends» .exit)) (now («out_values» .entry)) (now («out_values» .exit)) r ⌝ }
+{
+    let k = offsets.len() - 1;
+    let mut places = [0usize; rle::Rle::MAX_COLUMNS];
+    zip_walk(
+        offsets,
+        ends,
+        values,
+        fill,
+        code,
+        &mut places[..k],
+        out_ends,
+        out_values,
+    )
 }

@@ -1,4 +1,4 @@
-use Rattle.many.proofs.Columns.{end-natural, end-some, end-none}
+use Rattle.many.proofs.Entries.{end-natural, end-some, end-none}
 use Rattle.num.proofs.Bits.{end-nat, end-cast}
 use borrow.Author.Needs.{needs}
 use Rattle.many.proofs.inner.end_at.Statement.{statement}

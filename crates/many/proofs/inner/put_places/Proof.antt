@@ -11,7 +11,6 @@ use mathlib.Core.Path.{_≡_}
 use native.Mathlib.Omega.{arith}
 use lib.ListN.{length}
 use lib.Seq.{paste}
-
 use borrow.Author.Needs.{needs}
 use Rattle.many.proofs.inner.put_places.Statement.{statement}
 use Rattle.many.proofs.inner.put_places.Tie as tie
@@ -37,11 +36,13 @@ module _ {d : List ℕ} {at : ℕ} {s out : List ℕ} {c : ℕ} (p : Pasting d a
   paste-end : length s ≤ c → (at + c ≡ at + length s) × (out ≡ take at d ++ over s (drop at d))
   unfolding over
   paste-end h =
-      let n : c ≡ length s = omega (arith, p .inside) in
-      (omega arith, p .entries ∙ rw n
-      (ap (λ (l : List ℕ). take at d ++ l ++ drop (at + length s) d) (take-all (length s) s (omega arith))
-      ∙ append-assoc (take at d) s (drop (at + length s) d)
-      ∙ ap (λ (l : List ℕ). take at d ++ (s ++ l)) (sym (drop-drop (length s) at d))))
+      let n : c ≡ length s = omega (arith, p .inside) in (
+        omega arith,
+        p .entries ∙ rw n
+            (ap (λ (l : List ℕ). take at d ++ l ++ drop (at + length s) d) (take-all (length s) s (omega arith))
+            ∙ append-assoc (take at d) s (drop (at + length s) d)
+            ∙ ap (λ (l : List ℕ). take at d ++ (s ++ l)) (sym (drop-drop (length s) at d))),
+      )
 
 abbrev Inv-loop : tie.InvT-loop
 Inv-loop places out₀ at c₀ out c = Pasting out₀ at places out c

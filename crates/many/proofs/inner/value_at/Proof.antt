@@ -1,4 +1,4 @@
-use Rattle.many.proofs.Columns.{value-some, value-none}
+use Rattle.many.proofs.Entries.{value-some, value-none}
 use mathlib.Core.Path.{_∙_}
 use Rattle.num.proofs.Bits.{back}
 use mir.Facts.{toZ-ofZ}
