@@ -6,3 +6,4 @@ pub mod Planning
 pub mod Ranging
 pub mod Stepping
 pub mod Walking
+pub mod Zips

@@ -9,7 +9,7 @@ use lib.IntN.{ℤ, pos}
 use lib.ListN.{length, take, replicate, length-map, length-replicate}
 use borrow.Author.Tests.{lt-ltb, le-ltb, ne-eqb}
 use Rattle.column.specs.Lists.{total, parts}
-use Rattle.column.specs.Questions.{endsValid}
+use Rattle.column.specs.Questions.{endsValid, offsetsValid}
 use Rattle.column.specs.Runs.{magnitude}
 use Rattle.column.proofs.Ends.{rising}
 use Rattle.column.proofs.Flattened.{AllValid, offsets-some, length-parts, total-parts, sequences-told}
@@ -52,6 +52,10 @@ total-lengths : (ess : List (List ℤ)) → total (map length (map (map magnitud
 total-lengths [] = refl
 total-lengths (es ∷ ess) = ap₂ _+_ (length-map es magnitude) (total-lengths ess)
 
+-- they have all runs left
+pub first-total : (os : List ℕ) (es : List ℤ) → offsetsValid os (length es) ≡ none → left (firstPlaces (endsOfParts os es)) ≡ length es
+first-total os es o = left-first (endsOfParts os es) ∙ total-lengths (parts os es) ∙ total-parts os es o
+
 -- ---- the walk
 
 module _ (os : List ℕ) (es : List ℤ) where
@@ -88,8 +92,11 @@ module _ (os : List ℕ) (es : List ℤ) where
         }
 
 module _ {os : List ℕ} {es : List ℤ} {done : List Segment} {is : List ℕ} {end : ℕ} (w : Walk os es done is end) where
+  pub walk-none : 2 ^ 64 - 1 ≤ end → leastEnd (rests (placesOf os es is)) ≡ none
+  walk-none h = w .found ∙ rw (le-ltb end (2 ^ 64 - 1) h)
+
   pub walk-end : 2 ^ 64 - 1 ≤ end → segments (endsOfParts os es) ≡ done
-  walk-end h = segments-first (endsOfParts os es) ∙ list-end (w .listing) (w .found ∙ rw (le-ltb end (2 ^ 64 - 1) h))
+  walk-end h = segments-first (endsOfParts os es) ∙ list-end (w .listing) (walk-none h)
 
   pub walk-indexes : indexes (placesOf os es is) ≡ is
   walk-indexes = indexes-places is (parts os es) (placed-paired (w .placed))
@@ -102,7 +109,7 @@ module _ {os : List ℕ} {es : List ℤ} {done : List Segment} {is : List ℕ} {
     pub walk-few : length done < length es
     walk-few =
         let s : Steps (placesOf os es is) (pos end) (stepped end (placesOf os es is)) = record { natural = refl; ends = ends; next = refl } in
-        omega (arith, w .listing .few, step-less s, left-first (endsOfParts os es), total-lengths (parts os es), total-parts os es (w .placed .offsets))
+        omega (arith, w .listing .few, step-less s, first-total os es (w .placed .offsets))
 
     module _ {is′ : List ℕ} {end′ : ℕ} (s : Stepped os es end is is′ end′) where
       pub walk-steps : Steps (placesOf os es is) (pos end) (placesOf os es is′)
