@@ -4,18 +4,18 @@ use Prim.Native.Nat.{ℕ, zero, suc, _+_, _-_, _≤_, _<_}
 use mathlib.Core.Bool.{true}
 use mathlib.Core.Option.{none, some}
 use mathlib.Core.List.{List, [], _∷_, map}
-use mathlib.Core.Path.{_≡_, refl, ap, ap₂, sym, _∙_}
+use mathlib.Core.Path.{_≡_, refl, ap, ap₂, sym}
 use native.Mathlib.Numerals.{add-one}
 use native.Mathlib.Omega.{arith}
 use lib.Dec.{eqb, leb}
 use lib.IntN.{ℤ, pos}
-use lib.ListN.{length, getD, length-map}
+use lib.ListN.{length, getD}
 use borrow.Author.Tests.{leb-true, eqb-true}
 use Rattle.column.specs.Asking.{Question, firstNo, eachFrom, inKey}
 use Rattle.column.specs.Flat.{flat, sequencesFrom, columns, flatAsked}
 use Rattle.column.specs.Lists.{total, part, partsFrom, parts}
-use Rattle.column.specs.Questions.{agree, paired, endsValid, sequenceAt, sequencesValid, offsetsValid, rise, startAndRise, lastOffset}
-use Rattle.column.specs.Runs.{Sequence, Runs, runsOf, runs, lengthOf, lengthOfEnds}
+use Rattle.column.specs.Questions.{agree, paired, endsValid, sequenceAt, sequencesValid, offsetsValid, rise, lastOffset}
+use Rattle.column.specs.Runs.{Runs, runsOf, runs, lengthOf, lengthOfEnds}
 use Rattle.column.proofs.All.{All}
 use Rattle.column.proofs.Ends.{length-of-ends, rising, runs-rise}
 use Rattle.column.proofs.FirstNo.{first-yes, rest-yes, asked-next, asked-last}

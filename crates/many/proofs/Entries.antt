@@ -10,7 +10,7 @@ use native.Mathlib.Numerals.{add-one}
 use native.Mathlib.Omega.{arith}
 use lib.Dec.{eqb, ltb}
 use lib.IntN.{ℤ, pos}
-use lib.ListN.{length, getD, drop, length-map, length-drop, List·getD-eq-default}
+use lib.ListN.{length, getD, drop, List·getD-eq-default}
 use borrow.Author.Tests.{ltb-true, ltb-false, lt-ltb, ne-eqb}
 use mir.Syntax.{w64}
 use mir.Val.{SFits}
@@ -26,7 +26,7 @@ use Rattle.plan.specs.Plan.{Place, steppedOn, least}
 use Rattle.plan.specs.Walk.{placeAt}
 use Rattle.plan.proofs.Segments.{withOthers}
 use Rattle.plan.proofs.Step.{ahead, ahead-some, ahead-none, place-stays}
-use Rattle.many.specs.Workers.{InColumn, currentEnd, EndAt, endFound}
+use Rattle.many.specs.Workers.{InColumn, currentEnd, EndAt}
 
 -- ---- an entry of a column
 

@@ -3,9 +3,9 @@
 use Prim.Native.Nat.{ℕ, _+_, _<_}
 use mathlib.Core.Option.{none}
 use mathlib.Core.List.{List, [], _∷_, map, map-map}
-use mathlib.Core.Path.{_≡_, refl, ap, ap₂, sym, _∙_}
+use mathlib.Core.Path.{_≡_, refl, ap, ap₂, _∙_}
 use native.Mathlib.Omega.{arith}
-use lib.IntN.{ℤ, pos}
+use lib.IntN.{ℤ}
 use lib.ListN.{length, getD}
 use Rattle.column.specs.declared.answer.Fill.{Fill}
 use Rattle.column.specs.declared.answer.Fill.the-variants.{Value}
@@ -13,10 +13,10 @@ use Rattle.column.specs.Combine.{Column, many, valueOf, valueAt, greatestLength
 use Rattle.column.specs.Flat.{flat, sequencesFrom, columns}
 use Rattle.column.specs.Lists.{total, part, partsFrom, parts}
 use Rattle.column.specs.Questions.{sequencesValid}
-use Rattle.column.specs.Runs.{Runs, runs, magnitude, runsOf, valuesOf, encode}
+use Rattle.column.specs.Runs.{Runs, runs, magnitude, encode, Filled}
 use Rattle.column.proofs.All.{All}
 use Rattle.column.proofs.Ends.{values-runs}
-use Rattle.column.proofs.Flattened.{AllValid, columns-by-ends, columns-valid, sequences-told, total-parts}
+use Rattle.column.proofs.Flattened.{columns-by-ends, columns-valid, sequences-told, total-parts}
 use Rattle.column.proofs.Parts.{part-paired}
 use Rattle.column.proofs.Positions.{eachPosition-cong}
 use Rattle.column.proofs.Rising.{Valid}
@@ -100,9 +100,13 @@ module _ (f g : Fill) (e : valueOf f ≡ valueOf g) where
   same-length [] = refl
   same-length (c ∷ cs) = rw (same-length cs)
 
-  pub same-combined : (op : ℤ → ℤ → ℤ) (cs : List Runs) → combined op (many f cs) ≡ combined op (many g cs)
+  same-combined : (op : ℤ → ℤ → ℤ) (cs : List Runs) → combined op (many f cs) ≡ combined op (many g cs)
   unfolding combined table rowAt
   same-combined op cs =
       ap encode
       (rw (same-length cs)
       (eachPosition-cong (rowAt op (many f cs)) (rowAt op (many g cs)) 0 0 (greatestLength (many g cs)) (λ i h. ap (folded op) (same-values (0 + i) cs))))
+
+pub combined-filled : (op : ℤ → ℤ → ℤ) (fill : Fill) (cs : List Runs) {x : ℤ} {e e′ v v′ : List ℤ} {n : ℕ} → x ≡ valueOf fill
+    → Filled (combined op (many (Value x) cs)) e e′ v v′ n → Filled (combined op (many fill cs)) e e′ v v′ n
+combined-filled op fill cs {x} ex f = rw (same-combined (Value x) fill ex op cs) at f

@@ -1,3 +1,4 @@
+pub mod Asks
 pub mod Entries
 pub mod Flats
 pub mod Folding

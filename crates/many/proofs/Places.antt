@@ -1,9 +1,9 @@
 -- The places of columns, one for each, and where they stand behind a step.
 -- Assumes nothing.
-use Prim.Native.Nat.{ℕ, suc, _+_, _-_, _≤_, _<_, _^_}
+use Prim.Native.Nat.{ℕ, suc, _+_, _≤_, _<_}
 use mathlib.Core.Option.{none}
-use mathlib.Core.List.{List, [], _∷_, map}
-use mathlib.Core.Path.{_≡_, refl, ap, ap₂, sym, _∙_}
+use mathlib.Core.List.{List, [], _∷_}
+use mathlib.Core.Path.{_≡_, refl, ap, ap₂}
 use native.Mathlib.Numerals.{add-one}
 use native.Mathlib.Omega.{arith}
 use lib.IntN.{ℤ}
@@ -11,8 +11,6 @@ use lib.ListN.{length, getD, drop}
 use lib.Seq.{drop-cons}
 use Rattle.column.specs.Lists.{part, parts}
 use Rattle.column.specs.Questions.{endsValid}
-use Rattle.column.specs.Runs.{magnitude}
-use Rattle.column.proofs.All.{All}
 use Rattle.column.proofs.Flattened.{AllValid, length-parts}
 use Rattle.column.proofs.Parts.{partsAt, parts-cons}
 use Rattle.plan.specs.Plan.{Place, steppedOn, indexes, stepped}

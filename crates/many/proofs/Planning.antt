@@ -1,19 +1,17 @@
 -- The loop of `plan_many`: the segments of the walk so far are written, with an index for each column.
 -- Assumes nothing.
 use Prim.Native.Nat.{ℕ, _+_, _*_, _-_, _≤_, _<_, _^_}
-use mathlib.Core.List.{List, [], _∷_, _++_, map, append-nil, append-assoc}
+use mathlib.Core.List.{List, [], _∷_, _++_, append-nil, append-assoc}
 use mathlib.Core.Path.{_≡_, refl, ap, sym, _∙_}
 use native.Mathlib.Nat.{suc-mul, zero-mul, mul-le-mul-right}
 use native.Mathlib.Numerals.{add-one}
 use native.Mathlib.Omega.{arith}
 use lib.IntN.{ℤ, pos}
 use lib.ListN.{length, take, drop, set, length-append}
-use Rattle.column.specs.Lists.{parts}
 use Rattle.column.specs.Runs.{over}
 use Rattle.column.proofs.Buffer.{Written, write-start, write-next, over-rest}
-use Rattle.plan.specs.Plan.{Segment, indexes, segments, segmentEnds}
+use Rattle.plan.specs.Plan.{Segment, indexes, segments}
 use Rattle.plan.proofs.Listing.{segmentAt}
-use Rattle.many.specs.declared.inner.Counts.{Counts}
 use Rattle.many.specs.Many.{allIndexes}
 use Rattle.many.specs.Workers.{placesOf, Stepped, Walkable, PlanManyFilled}
 use Rattle.many.proofs.Walking.{Walk, endsOfParts, walk-start, walk-end, walk-indexes, walk-few, walk-next}

@@ -1,27 +1,24 @@
 -- The least and the greatest length of columns: one column after another, as natural numbers, and what they tell of 10.
 -- Assumes nothing.
-use Prim.Native.Nat.{ℕ, suc, _+_, _≤_, _<_, min, max}
+use Prim.Native.Nat.{ℕ, _+_, _≤_, _<_, min, max}
 use mathlib.Core.Bool.{Bool, true, false, not, _&&_, _||_}
-use mathlib.Core.Option.{none}
 use mathlib.Core.List.{List, [], _∷_, map}
-use mathlib.Core.Path.{_≡_, refl, ap, ap₂, sym, _∙_}
+use mathlib.Core.Path.{_≡_, refl, ap, sym, _∙_}
 use native.Mathlib.Omega.{arith}
 use lib.Dec.{ltb}
 use lib.IntN.{ℤ, pos}
 use lib.ListN.{length, getD}
-use lib.Signed.{ltZ}
 use borrow.Author.Tests.{lt-ltb, le-ltb, ltb-true, ltb-false}
 use Rattle.num.specs.Numbers.{smallerOf, largerOf}
 use Rattle.num.proofs.Tests.{by-test}
 use Rattle.column.specs.declared.answer.Fill.{Fill}
-use Rattle.column.specs.Asking.{Question, refusal, _unless_}
-use Rattle.column.specs.Combine.{Column, many, greatestLength, sideOf, allFilled}
+use Rattle.column.specs.Asking.{refusal, _unless_}
+use Rattle.column.specs.Combine.{many, greatestLength, sideOf, allFilled}
 use Rattle.column.specs.Lists.{any, part, parts}
 use Rattle.column.specs.Questions.{side, isMissing, longest, lacking, filled}
 use Rattle.column.specs.Runs.{Runs, lengthOf, lengthOfEnds}
 use Rattle.column.proofs.Naturals.{smaller-naturals, larger-naturals}
 use Rattle.column.proofs.Parts.{partsAt, parts-start, parts-cons, parts-end}
-use Rattle.many.specs.declared.Lengths.{Lengths}
 use Rattle.many.specs.Many.{leastLength}
 use Rattle.many.specs.Workers.{leastFrom, greatestFrom, fromFirst, LengthsOf}
 

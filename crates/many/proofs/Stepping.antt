@@ -3,12 +3,12 @@
 use Prim.Native.Nat.{ℕ, suc, _+_, _-_, _≤_, _<_, _^_, min}
 use mathlib.Core.Bool.{cond}
 use mathlib.Core.Option.{none}
-use mathlib.Core.List.{List, [], _∷_, _++_, map, append-nil}
+use mathlib.Core.List.{List, [], _∷_, _++_, map}
 use mathlib.Core.Path.{_≡_, refl, ap, sym, _∙_}
 use native.Mathlib.Numerals.{add-one}
 use native.Mathlib.Omega.{arith}
 use lib.Dec.{eqb}
-use lib.IntN.{ℤ, pos}
+use lib.IntN.{ℤ}
 use lib.ListN.{length, getD, drop, set, length-append, length-drop, drop-of-length-le}
 use lib.Seq.{drop-cons, set-at, getD-at, append-snoc}
 use Rattle.column.specs.Lists.{parts}
@@ -18,10 +18,10 @@ use Rattle.column.proofs.Flattened.{AllValid, offset-within, sequences-told}
 use Rattle.column.proofs.Parts.{partsAt, parts-start, length-part}
 use Rattle.plan.specs.Plan.{Place, leastEnd, steppedOn, rests, indexes, stepped}
 use Rattle.plan.specs.Walk.{placeAt}
-use Rattle.plan.proofs.Segments.{withOthers, least-cons}
+use Rattle.plan.proofs.Segments.{least-cons}
 use Rattle.plan.proofs.Step.{ahead}
 use Rattle.plan.proofs.Walking.{place-within}
-use Rattle.many.specs.Workers.{placesFor, placesOf, Within, InColumn, EndAt, endFound, Placed, Stepped}
+use Rattle.many.specs.Workers.{placesOf, Within, InColumn, EndAt, Placed, Stepped}
 use Rattle.many.proofs.Entries.{place-moves, earlier, earlier-next, earlier-small}
 use Rattle.many.proofs.Places.{columnAt, placesFrom, places-cons, within-cons, valid-cons, places-again}
 

@@ -1,12 +1,11 @@
 -- The loop of `zip_many`: the merged runs of the segments so far are written.
 -- Assumes nothing.
 use Prim.Native.Nat.{ℕ, _+_, _≤_, _<_, _^_, _-_}
-use mathlib.Core.List.{List, [], _∷_, _++_, map}
+use mathlib.Core.List.{List, []}
 use mathlib.Core.Path.{_≡_, refl, ap, sym, _∙_}
 use native.Mathlib.Omega.{arith}
 use lib.IntN.{ℤ, pos}
 use lib.ListN.{length}
-use borrow.Author.Tests.{le-ltb}
 use Rattle.column.specs.declared.answer.Fill.the-variants.{Value}
 use Rattle.column.specs.declared.inner.Writer.{Writer}
 use Rattle.column.specs.Combine.{Column, many, folded, combined}
@@ -22,7 +21,7 @@ use Rattle.plan.specs.Plan.{Place, Segment, indexes, firstPlaces}
 use Rattle.plan.proofs.Listing.{Listing}
 use Rattle.plan.proofs.Segments.{left}
 use Rattle.plan.proofs.Zipping.{starts, shownAt, mergedRuns, zip-none, zip-at, zip-last, zip-more, zip-end}
-use Rattle.many.specs.Workers.{placesOf, valuesAt, Stepped, Walkable, Foldings}
+use Rattle.many.specs.Workers.{placesOf, valuesAt, Stepped, Combinable}
 use Rattle.many.proofs.Flats.{ends-many, many-valid, values-columns}
 use Rattle.many.proofs.Walking.{endsOfParts, first-total, Walk, walk-start, walk-none, walk-indexes, walk-few, walk-steps, walk-next}
 
@@ -45,7 +44,7 @@ module _ (op : ℤ → ℤ → ℤ) (fill : ℤ) (os : List ℕ) (es vs e₀ v�
   pub zipped-last : {is : List ℕ} {e v : List ℤ} {w : Writer} {end : ℕ} → Zipped is e v w end → w .at ≤ length es
   zipped-last z = omega (arith, zip-last op cs (z .done) (z .merging), z .walk .listing .few, first-total os es (z .walk .placed .offsets))
 
-  module _ {is₀ : List ℕ} (q : Foldings os es vs is₀ e₀ v₀) where
+  module _ {is₀ : List ℕ} (q : Combinable os es vs is₀ e₀ v₀) where
     started : starts op cs ≡ first
     started = ap firstPlaces (ends-many os es vs (q .paired) (q .walkable .valid) (Value fill))
 

@@ -8,8 +8,8 @@ use lib.Dec.{ltb}
 use lib.IntN.{ℤ, pos}
 use lib.ListN.{length, getD, replicate}
 use Rattle.num.specs.Numbers.{smallerOf, largerOf}
-use Rattle.column.specs.Lists.{part, parts}
-use Rattle.column.specs.Questions.{endsValid, offsetsValid, sequencesValid}
+use Rattle.column.specs.Lists.{parts}
+use Rattle.column.specs.Questions.{offsetsValid, sequencesValid}
 use Rattle.column.specs.Runs.{over}
 use Rattle.plan.specs.Plan.{Place, Segment, leastEnd, rests, indexes, stepped, segmentEnds}
 use Rattle.plan.specs.Walk.{placeAt}
@@ -37,17 +37,18 @@ pub record InColumn (xs : List ℤ) (a b i : ℕ) : Type 0 where
   pub inside : b ≤ length xs
   pub place : a + i ≤ b
 
--- the first of the ends that a column has left, which no end is as large as where it has none
+-- the first of the ends that a column has left; where it has none, the greatest number, which is no end
 abbrev pub currentEnd : List ℕ → ℕ
 currentEnd [] = 2 ^ 64 - 1
 currentEnd (e ∷ es) = e
 
+-- and what tells the two apart
 pub record EndAt (rest : List ℕ) (r : ℕ) : Type 0 where
   pub current : r ≡ currentEnd rest
   pub small : r < 2 ^ 64 - 1 → r < 2 ^ 63
   pub some : 0 < length rest → r < 2 ^ 64 - 1
 
--- an end as it is found, or none
+-- the end that such a number stands for, or none
 abbrev pub endFound : ℕ → Option ℕ
 endFound e = cond (ltb e (2 ^ 64 - 1)) (some e) none
 
@@ -84,7 +85,7 @@ pub record Walkable (os : List ℕ) (es : List ℤ) (is : List ℕ) : Type 0 whe
   pub first : is ≡ replicate (length os - 1) 0
 
 -- and as many values as ends, and two buffers with room for a run of each of their segments
-pub record Foldings (os : List ℕ) (es vs : List ℤ) (is : List ℕ) (e v : List ℤ) : Type 0 where
+pub record Combinable (os : List ℕ) (es vs : List ℤ) (is : List ℕ) (e v : List ℤ) : Type 0 where
   pub walkable : Walkable os es is
   pub paired : length es ≡ length vs
   pub room-ends : length es ≤ length e

@@ -12,10 +12,10 @@ ghost use Rattle.column.specs.declared.answer.Fill.the-variants.{Value};
 ghost use Rattle.column.specs.Combine.{many, folded, combined};
 ghost use Rattle.column.specs.Flat.{flat, columns};
 ghost use Rattle.column.specs.Lists.{part, parts};
-ghost use Rattle.column.specs.Questions.{endsValid, offsetsValid, sequencesValid};
+ghost use Rattle.column.specs.Questions.{endsValid};
 ghost use Rattle.column.specs.Runs.{magnitude, over, Filled};
 ghost use Rattle.plan.specs.Plan.{segments};
-ghost use Rattle.many.specs.Workers.{InColumn, EndAt, Placed, Stepped, valuesAt, Foldable, Walkable, Foldings, Plannable, Zippable, PlanManyFilled};
+ghost use Rattle.many.specs.Workers.{InColumn, EndAt, Placed, Stepped, valuesAt, Foldable, Walkable, Combinable, Plannable, Zippable, PlanManyFilled};
 
 // No end is as large: it stands where no run is left.
 const NONE: usize = usize::MAX;
@@ -157,7 +157,7 @@ fn zip_walk(
     out_ends: &mut [i64],
     out_values: &mut [i64],
 ) -> usize
-    requires { ⌜ Foldings (now offsets) (now ends) (now values) (now places) (now «out_ends») (now «out_values») ⌝ }
+    requires { ⌜ Combinable (now offsets) (now ends) (now values) (now places) (now «out_ends») (now «out_values») ⌝ }
     ensures { λ r. ⌜ Filled (combined (operation code) (many (Value fill) (columns (flat (now (offsets .entry)) (now (ends .entry)) (now (values .entry))))))
         (now («out_ends» .entry)) (now («out_ends» .exit)) (now («out_values» .entry)) (now («out_values» .exit)) r ⌝ }
 {

@@ -3,7 +3,7 @@
 use Prim.Native.Nat.{ℕ}
 use mathlib.Core.Option.{none}
 use mathlib.Core.List.{List, [], _∷_, map}
-use mathlib.Core.Path.{_≡_, refl, ap, ap₂, _∙_}
+use mathlib.Core.Path.{_≡_, refl, ap}
 use native.Mathlib.Omega.{arith}
 use lib.IntN.{ℤ}
 use lib.ListN.{length, getD}
@@ -14,7 +14,7 @@ use Rattle.column.specs.Runs.{magnitude, runsOf}
 use Rattle.column.proofs.All.{All}
 use Rattle.column.proofs.Ends.{rising, runs-rise, values-runs}
 use Rattle.column.proofs.Rising.{Valid}
-use Rattle.plan.specs.Plan.{endsIn, firstPlaces}
+use Rattle.plan.specs.Plan.{endsIn}
 use Rattle.plan.specs.Walk.{placesAt}
 use Rattle.plan.proofs.Walking.{cursor}
 use Rattle.plan.proofs.Zipping.{starts, shownAt}

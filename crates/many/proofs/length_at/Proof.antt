@@ -1,10 +1,9 @@
+use mathlib.Core.Path.{_∙_, ap}
+use Rattle.num.proofs.Bits.{back}
+use Rattle.column.specs.Runs.{lengthOfEnds}
 use borrow.Author.Needs.{needs}
 use Rattle.many.proofs.length_at.Statement.{statement}
 use Rattle.many.proofs.length_at.Tie as tie
-use Rattle.many.proofs.length_at.Reads as reads
-use Rattle.many.proofs.length_at.Lts as lts
-use Rattle.column.proofs.sequence.length.Reads as length-reads
-use Rattle.column.proofs.sequence.part.Reads as part-reads
 
 mul-from : tie.Need-mul-from
 mul-from c = search needs
@@ -28,7 +27,7 @@ length-requires : tie.Need-length-requires
 length-requires c κs = search needs
 
 returns : tie.Need-returns
-returns c = ?
+returns c = back _ (c .length .ok) ∙ c .length .ensures ∙ ap lengthOfEnds (c .before .part .ensures)
 
 pub length-at-spec : {M : Type 1} → statement M
 length-at-spec =

@@ -1,10 +1,9 @@
+use Rattle.column.proofs.Promised.{asked-yes, asked-no}
+use Rattle.many.specs.Many.{planMany}
+use Rattle.many.proofs.Asks.{plan-many-yes, plan-many-segments, plan-many-written, plan-many-refused}
 use borrow.Author.Needs.{needs}
 use Rattle.many.proofs.plan_many.Statement.{statement}
 use Rattle.many.proofs.plan_many.Tie as tie
-use Rattle.many.proofs.plan_many.Reads as reads
-use Rattle.many.proofs.plan_many.Lts as lts
-use Rattle.many.proofs.inner.plan_many.Reads as plan-many-reads
-use Rattle.many.proofs.plan_many_asks.Reads as plan-many-asks-reads
 
 plan-many-asks-requires : tie.Need-plan-many-asks-requires
 plan-many-asks-requires c κs = search needs
@@ -13,7 +12,7 @@ enum-told : tie.Need-enum-told
 enum-told c = search needs
 
 plan-many-requires : tie.Need-plan-many-requires
-plan-many-requires c κs = ?
+plan-many-requires c κs = plan-many-yes _ _ _ _ _ (asked-yes (c .before .before .before .before .plan-many-asks .ensures) (c .before .before .enum-told .given .1))
 
 enum-known-asked : tie.Need-enum-known-asked
 enum-known-asked c = search needs
@@ -25,10 +24,12 @@ same-length-2 : tie.Need-same-length-2
 same-length-2 c = search needs
 
 returns : tie.Need-returns
-returns c = ?
+unfolding planMany
+returns c = let y = asked-yes (c .before .before .before .before .before .before .before .before .plan-many-asks .ensures) (c .before .before .before .before .before .before .enum-told .given .1) in plan-many-written y (plan-many-segments _ _ _ _ y) (c .before .before .before .plan-many .ensures)
 
 returns-2 : tie.Need-returns-2
-returns-2 c = ?
+unfolding planMany
+returns-2 c = plan-many-refused _ (asked-no _ (c .before .before .before .plan-many-asks .ensures) (c .before .asked .given .1))
 
 pub plan-many-spec : {M : Type 1} → statement M
 plan-many-spec =

@@ -1,14 +1,7 @@
+use Rattle.many.proofs.Asks.{plan-many-asked}
 use borrow.Author.Needs.{needs}
 use Rattle.many.proofs.plan_many_asks.Statement.{statement}
 use Rattle.many.proofs.plan_many_asks.Tie as tie
-use Rattle.many.proofs.plan_many_asks.Reads as reads
-use Rattle.many.proofs.plan_many_asks.Lts as lts
-use Rattle.column.proofs.questions.ask_columns.Reads as ask-columns-reads
-use Rattle.column.proofs.questions.ask_flat.Reads as ask-flat-reads
-use Rattle.column.proofs.questions.ask_room.Reads as ask-room-reads
-use Rattle.column.proofs.questions.first_no.Reads as first-no-reads
-use Rattle.many.proofs.columns.Reads as columns-reads
-use Rattle.num.proofs.saturating_mul.Reads as saturating-mul-reads
 
 columns-requires : tie.Need-columns-requires
 columns-requires c κs = search needs
@@ -38,7 +31,7 @@ first-no-requires-3 : tie.Need-first-no-requires-3
 first-no-requires-3 c κs = search needs
 
 returns : tie.Need-returns
-returns c = ?
+returns c = plan-many-asked _ _ _ _ _ (c .before .before .before .before .before .before .before .before .before .before .pre) (c .first-no3 .ensures) (c .before .ask-flat .ensures) (c .before .before .first-no2 .ensures) (c .before .before .before .ask-columns .ensures) (c .before .before .before .before .before .before .before .before .columns .ensures) (c .before .before .before .before .first-no .ensures) (c .before .before .before .before .before .before .before .ask-room .ensures) (c .before .before .before .before .before .ask-room2 .ensures) (c .before .before .before .before .before .before .saturating-mul .ensures)
 
 pub plan-many-asks-spec : {M : Type 1} → statement M
 plan-many-asks-spec =

@@ -2,12 +2,6 @@ use Rattle.column.proofs.Flattened.{flat-asked}
 use borrow.Author.Needs.{needs}
 use Rattle.column.proofs.questions.ask_flat.Statement.{statement}
 use Rattle.column.proofs.questions.ask_flat.Tie as tie
-use Rattle.column.proofs.questions.ask_flat.Reads as reads
-use Rattle.column.proofs.questions.ask_flat.Lts as lts
-use Rattle.column.proofs.questions.ask_lengths.Reads as ask-lengths-reads
-use Rattle.column.proofs.questions.ask_offsets.Reads as ask-offsets-reads
-use Rattle.column.proofs.questions.ask_sequences.Reads as ask-sequences-reads
-use Rattle.column.proofs.questions.first_no.Reads as first-no-reads
 
 ask-offsets-requires : tie.Need-ask-offsets-requires
 ask-offsets-requires c κs = search needs

@@ -3,8 +3,6 @@ use Rattle.num.proofs.Bits.{end-nat, end-cast}
 use borrow.Author.Needs.{needs}
 use Rattle.many.proofs.inner.end_at.Statement.{statement}
 use Rattle.many.proofs.inner.end_at.Tie as tie
-use Rattle.many.proofs.inner.end_at.Reads as reads
-use Rattle.many.proofs.inner.end_at.Lts as lts
 
 add-at : tie.Need-add-at
 add-at c = search needs

@@ -11,10 +11,6 @@ use Rattle.many.proofs.Folding.{Folding, fold-first, fold-start, fold-a
 use borrow.Author.Needs.{needs}
 use Rattle.many.proofs.inner.fold.Statement.{statement}
 use Rattle.many.proofs.inner.fold.Tie as tie
-use Rattle.many.proofs.inner.fold.Reads as reads
-use Rattle.many.proofs.inner.fold.Lts as lts
-use Rattle.many.proofs.inner.value_at.Reads as value-at-reads
-use Rattle.num.proofs.apply.Reads as apply-reads
 
 abbrev Inv-loop : tie.InvT-loop
 Inv-loop code offsets values places fill value₀ c₀ value c = Folding (operation code) offsets values places (toZ w64 fill) (toZ w64 value) c

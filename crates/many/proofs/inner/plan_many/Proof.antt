@@ -6,9 +6,6 @@ use Rattle.many.proofs.Walking.{take-zeros}
 use borrow.Author.Needs.{needs}
 use Rattle.many.proofs.inner.plan_many.Statement.{statement}
 use Rattle.many.proofs.inner.plan_many.Tie as tie
-use Rattle.many.proofs.inner.plan_many.Reads as reads
-use Rattle.many.proofs.inner.plan_many.Lts as lts
-use Rattle.many.proofs.inner.plan_walk.Reads as plan-walk-reads
 
 sub-k : tie.Need-sub-k
 sub-k c = omega (arith, offsets-some _ _ (c .before .before .pre .offsets))

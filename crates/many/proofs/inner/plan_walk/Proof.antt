@@ -5,13 +5,8 @@ use Rattle.plan.proofs.Segments.{left}
 use Rattle.many.specs.Workers.{placesOf}
 use Rattle.many.proofs.Walking.{walk-placed, walk-less}
 use Rattle.many.proofs.Planning.{Planning, planning-start, planning-end, planning-ends, planning-indexes, planning-next}
-use borrow.Author.Needs.{needs}
 use Rattle.many.proofs.inner.plan_walk.Statement.{statement}
 use Rattle.many.proofs.inner.plan_walk.Tie as tie
-use Rattle.many.proofs.inner.plan_walk.Reads as reads
-use Rattle.many.proofs.inner.plan_walk.Lts as lts
-use Rattle.many.proofs.inner.put_places.Reads as put-places-reads
-use Rattle.many.proofs.inner.step.Reads as step-reads
 
 abbrev Inv-loop : tie.InvT-loop
 Inv-loop offsets ends places₀ out-ends₀ out-idx₀ n₀ m₀ end₀ places out-ends out-idx n m end = Planning offsets ends out-ends₀ out-idx₀ places out-ends out-idx n m end

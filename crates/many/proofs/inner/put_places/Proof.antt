@@ -1,21 +1,14 @@
-use denote.Ref.{now}
-use Prim.Native.Nat.{ℕ, _<_}
+use Prim.Native.Nat.{ℕ, _<_, _+_, _-_, _≤_}
 use mathlib.Core.List.{List, _++_, append-assoc}
-use mathlib.Core.Path.{ap, ap₂, sym, _∙_}
+use mathlib.Core.Path.{ap, sym, _∙_, _≡_}
 use native.Mathlib.Numerals.{add-one}
-use lib.ListN.{take, drop, set, getD}
-use lib.Seq.{take-all, drop-drop, paste-zero, paste-suc, length-paste}
+use lib.ListN.{take, drop, set, getD, length}
+use lib.Seq.{take-all, drop-drop, paste-zero, paste-suc, length-paste, paste}
 use Rattle.column.specs.Runs.{over}
-use Prim.Native.Nat.{_+_, _-_, _≤_}
-use mathlib.Core.Path.{_≡_}
 use native.Mathlib.Omega.{arith}
-use lib.ListN.{length}
-use lib.Seq.{paste}
 use borrow.Author.Needs.{needs}
 use Rattle.many.proofs.inner.put_places.Statement.{statement}
 use Rattle.many.proofs.inner.put_places.Tie as tie
-use Rattle.many.proofs.inner.put_places.Reads as reads
-use Rattle.many.proofs.inner.put_places.Lts as lts
 
 -- the first c places are written
 record Pasting (d : List ℕ) (at : ℕ) (s out : List ℕ) (c : ℕ) : Type 0 where

@@ -5,11 +5,6 @@ use Rattle.many.proofs.Stepping.{Stepping, step-start, step-long, step-
 use borrow.Author.Needs.{needs}
 use Rattle.many.proofs.inner.step.Statement.{statement}
 use Rattle.many.proofs.inner.step.Tie as tie
-use Rattle.many.proofs.inner.step.Reads as reads
-use Rattle.many.proofs.inner.step.Lts as lts
-use Rattle.many.proofs.inner.end_at.Reads as end-at-reads
-use Rattle.many.proofs.inner.stepped.Reads as stepped-reads
-use Rattle.num.proofs.smaller_count.Reads as smaller-count-reads
 
 abbrev Inv-loop : tie.InvT-loop
 Inv-loop offsets ends places₀ start least₀ c₀ places least c = Stepping offsets ends start places₀ places least c

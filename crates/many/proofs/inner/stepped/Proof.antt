@@ -4,8 +4,6 @@ use mathlib.Core.Path.{sym}
 use borrow.Author.Needs.{needs}
 use Rattle.many.proofs.inner.stepped.Statement.{statement}
 use Rattle.many.proofs.inner.stepped.Tie as tie
-use Rattle.many.proofs.inner.stepped.Reads as reads
-use Rattle.many.proofs.inner.stepped.Lts as lts
 
 add-result : tie.Need-add-result
 add-result c = search needs

@@ -5,8 +5,6 @@ use mir.Facts.{toZ-ofZ}
 use borrow.Author.Needs.{needs}
 use Rattle.many.proofs.inner.value_at.Statement.{statement}
 use Rattle.many.proofs.inner.value_at.Tie as tie
-use Rattle.many.proofs.inner.value_at.Reads as reads
-use Rattle.many.proofs.inner.value_at.Lts as lts
 
 add-at : tie.Need-add-at
 add-at c = search needs

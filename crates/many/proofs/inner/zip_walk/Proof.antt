@@ -10,14 +10,8 @@ use Rattle.plan.proofs.Segments.{left}
 use Rattle.many.specs.Workers.{placesOf}
 use Rattle.many.proofs.Walking.{walk-placed, walk-start, walk-less}
 use Rattle.many.proofs.Zips.{Zipped, zipped-none, zipped-start, zipped-last, zipped-end, zipped-room, zipped-more}
-use borrow.Author.Needs.{needs}
 use Rattle.many.proofs.inner.zip_walk.Statement.{statement}
 use Rattle.many.proofs.inner.zip_walk.Tie as tie
-use Rattle.many.proofs.inner.zip_walk.Reads as reads
-use Rattle.many.proofs.inner.zip_walk.Lts as lts
-use Rattle.column.proofs.inner.push_merged.Reads as push-merged-reads
-use Rattle.many.proofs.inner.fold.Reads as fold-reads
-use Rattle.many.proofs.inner.step.Reads as step-reads
 
 abbrev Inv-loop : tie.InvT-loop
 Inv-loop offsets ends values fill code places₀ out-ends₀ out-values₀ end₀ first writer₀ places out-ends out-values end writer = Zipped (operation code) (toZ w64 fill) offsets ends values out-ends₀ out-values₀ places out-ends out-values writer end
