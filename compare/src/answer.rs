@@ -70,35 +70,21 @@ impl Refusal {
     }
 }
 
-/// A refusal and a count, one of which is zero.
-#[repr(C)]
-#[derive(Clone, Copy, Default, PartialEq, Eq)]
+/// A refusal and counts, which are zero with a refusal. A yes or no is the count 1 or 0.
+#[derive(PartialEq, Eq)]
 pub struct Answer {
     pub refusal: Refusal,
-    pub count: usize,
+    pub counts: Vec<usize>,
 }
 
-impl Answer {
-    pub fn counted(count: usize) -> Self {
-        Answer {
-            count,
-            ..Answer::default()
-        }
-    }
-}
-
-impl From<Refusal> for Answer {
-    fn from(refusal: Refusal) -> Self {
-        Answer { refusal, count: 0 }
-    }
-}
-
-/// The refusal's six numbers and the count.
+/// The refusal's six numbers and the counts.
 impl fmt::Display for Answer {
     fn fmt(&self, f: &mut fmt::Formatter<'_>) -> fmt::Result {
-        for number in self.refusal.numbers() {
-            write!(f, "{number} ")?;
-        }
-        write!(f, "{}", self.count)
+        let [number, values @ ..] = self.refusal.numbers();
+        write!(f, "{number}")?;
+        values.iter().try_for_each(|value| write!(f, " {value}"))?;
+        self.counts
+            .iter()
+            .try_for_each(|count| write!(f, " {count}"))
     }
 }

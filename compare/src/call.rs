@@ -5,12 +5,46 @@ use crate::inputs::Role;
 use crate::{naive, original};
 use std::fmt;
 
-/// An argument: a list or lent buffer, an i64, or a used count.
-#[derive(Clone)]
+/// An optional fill: none is given with 0. Its value then stands for nothing.
+#[repr(C)]
+#[derive(Clone, Copy, PartialEq, Eq)]
+pub struct Fill {
+    pub given: u64,
+    pub value: i64,
+}
+
+impl Fill {
+    pub fn option(self) -> Option<i64> {
+        (self.given != 0).then_some(self.value)
+    }
+}
+
+/// An argument: a list or lent buffer, also of offsets or indexes, an i64, a used count, a fill, or
+/// an operation's code.
+#[derive(Clone, PartialEq, Eq)]
 pub enum Arg {
     List(Vec<i64>),
+    Places(Vec<usize>),
     Number(i64),
     Count(usize),
+    Fill(Fill),
+    Code(u8),
+}
+
+impl Arg {
+    /// A buffer after these entries have been written to its front.
+    fn written_to(self, buffer: &Arg) -> Arg {
+        match (self, buffer) {
+            (Arg::List(list), Arg::List(held)) => Arg::List(in_front(list, held)),
+            (Arg::Places(list), Arg::Places(held)) => Arg::Places(in_front(list, held)),
+            (list, _) => panic!("not what the buffer holds: {list}"),
+        }
+    }
+}
+
+fn in_front<T: Copy>(mut list: Vec<T>, held: &[T]) -> Vec<T> {
+    list.extend(held.iter().skip(list.len()));
+    list
 }
 
 macro_rules! taken_from {
@@ -29,22 +63,29 @@ macro_rules! taken_from {
 taken_from! {
     &'a Arg: List(list) => &'a [i64]: list;
     &'a mut Arg: List(list) => &'a mut [i64]: list;
+    &'a Arg: Places(list) => &'a [usize]: list;
+    &'a mut Arg: Places(list) => &'a mut [usize]: list;
     &'a Arg: Number(number) => i64: *number;
     &'a Arg: Count(count) => usize: *count;
+    &'a Arg: Fill(fill) => Fill: *fill;
+    &'a Arg: Code(code) => u8: *code;
 }
 
-/// The number, or the list's length and its entries.
+/// The number, the fill's two numbers, or the list's length and its entries.
 impl fmt::Display for Arg {
     fn fmt(&self, f: &mut fmt::Formatter<'_>) -> fmt::Result {
         match self {
             Arg::List(list) => write_list(f, list),
+            Arg::Places(list) => write_list(f, list),
             Arg::Number(number) => write!(f, "{number}"),
             Arg::Count(count) => write!(f, "{count}"),
+            Arg::Fill(Fill { given, value }) => write!(f, "{given} {value}"),
+            Arg::Code(code) => write!(f, "{code}"),
         }
     }
 }
 
-fn write_list(f: &mut fmt::Formatter<'_>, list: &[i64]) -> fmt::Result {
+fn write_list<T: fmt::Display>(f: &mut fmt::Formatter<'_>, list: &[T]) -> fmt::Result {
     write!(f, "{}", list.len())?;
     list.iter().try_for_each(|entry| write!(f, " {entry}"))
 }
@@ -56,29 +97,46 @@ pub struct Parameter {
     pub lent: bool,
 }
 
-/// What an answer puts in place of the first entries of each lent buffer.
+/// What an answer counts, and puts in place of the first entries of each lent buffer.
 pub struct Written {
-    count: usize,
-    lists: Vec<Vec<i64>>,
+    counts: Vec<usize>,
+    lists: Vec<Arg>,
 }
 
 impl Written {
     pub fn nothing(count: usize) -> Self {
-        let lists = Vec::new();
-        Written { count, lists }
+        Written {
+            counts: vec![count],
+            lists: Vec::new(),
+        }
     }
 
     pub fn list(list: Vec<i64>) -> Self {
         Written {
-            count: list.len(),
-            lists: vec![list],
+            counts: vec![list.len()],
+            lists: vec![Arg::List(list)],
         }
     }
 
     pub fn runs(ends: Vec<i64>, values: Vec<i64>) -> Self {
         Written {
-            count: ends.len(),
-            lists: vec![ends, values],
+            counts: vec![ends.len()],
+            lists: vec![Arg::List(ends), Arg::List(values)],
+        }
+    }
+
+    pub fn plan(ends: Vec<i64>, idx_a: Vec<usize>, idx_b: Vec<usize>) -> Self {
+        Written {
+            counts: vec![ends.len()],
+            lists: vec![Arg::List(ends), Arg::Places(idx_a), Arg::Places(idx_b)],
+        }
+    }
+
+    /// Indexes stand segment after segment.
+    pub fn plan_many(ends: Vec<i64>, idx: Vec<usize>) -> Self {
+        Written {
+            counts: vec![ends.len(), idx.len()],
+            lists: vec![Arg::List(ends), Arg::Places(idx)],
         }
     }
 }
@@ -89,17 +147,14 @@ pub type Reading = Result<Written, Refusal>;
 #[derive(PartialEq, Eq)]
 pub struct Outcome {
     pub answer: Answer,
-    pub lent: Vec<Vec<i64>>,
+    pub lent: Vec<Arg>,
 }
 
 /// The answer's numbers, then each lent buffer as a list.
 impl fmt::Display for Outcome {
     fn fmt(&self, f: &mut fmt::Formatter<'_>) -> fmt::Result {
         write!(f, "{}", self.answer)?;
-        self.lent.iter().try_for_each(|list| {
-            write!(f, " ")?;
-            write_list(f, list)
-        })
+        self.lent.iter().try_for_each(|list| write!(f, " {list}"))
     }
 }
 
@@ -107,6 +162,8 @@ pub struct Call {
     pub number: u8,
     pub name: &'static str,
     pub parameters: &'static [Parameter],
+    /// How many counts it answers.
+    counts: usize,
     #[cfg(feature = "library")]
     library: fn(&mut [Arg]) -> Answer,
     original: fn(&[Arg]) -> Option<Reading>,
@@ -121,7 +178,7 @@ impl Call {
     #[cfg(feature = "library")]
     pub fn library(&self, mut args: Vec<Arg>) -> Outcome {
         let answer = (self.library)(&mut args);
-        let lent = self.lent(&args).map(<[i64]>::to_vec).collect();
+        let lent = self.lent(&args).cloned().collect();
         Outcome { answer, lent }
     }
 
@@ -142,27 +199,25 @@ impl Call {
 
     /// After an answer later entries keep what they held; a refused call has written nothing.
     fn outcome(&self, args: &[Arg], reading: Reading) -> Outcome {
-        let (answer, lists) = match reading {
-            Ok(Written { count, lists }) => (Answer::counted(count), lists),
-            Err(refusal) => (Answer::from(refusal), Vec::new()),
+        let (refusal, counts, lists) = match reading {
+            Ok(Written { counts, lists }) => (Refusal::default(), counts, lists),
+            Err(refusal) => (refusal, vec![0; self.counts], Vec::new()),
         };
+        let answer = Answer { refusal, counts };
         let mut lists = lists.into_iter();
-        let lent = self
-            .lent(args)
-            .map(|held| {
-                let mut list = lists.next().unwrap_or_default();
-                list.extend(held.iter().skip(list.len()));
-                list
-            })
-            .collect();
+        let written = |held: &Arg| match lists.next() {
+            Some(list) => list.written_to(held),
+            None => held.clone(),
+        };
+        let lent = self.lent(args).map(written).collect();
         Outcome { answer, lent }
     }
 
     /// The buffers that the call may write.
-    fn lent<'a>(&self, args: &'a [Arg]) -> impl Iterator<Item = &'a [i64]> {
+    fn lent<'a>(&self, args: &'a [Arg]) -> impl Iterator<Item = &'a Arg> {
         let lent = args.iter().zip(self.parameters);
         lent.filter(|(_, parameter)| parameter.lent)
-            .map(|(arg, _)| arg.into())
+            .map(|(arg, _)| arg)
     }
 }
 
@@ -172,9 +227,10 @@ fn wrong_number() -> ! {
 
 macro_rules! calls {
     ($($number:literal $name:ident(
-        $($(&$lent:tt)? $input:ident: $role:ident),*; $($output:ident),*
-    );)*) => {
-        /// Every call, with its inputs and then its outputs. The original takes inputs alone.
+        $($(&$lent:tt)? $input:ident: $role:ident),*; $($output:ident: $room:ident),*
+    ) -> $counts:literal;)*) => {
+        /// Every call, with its inputs, then its outputs, and how many counts it answers. The
+        /// original takes inputs alone.
         pub const CALLS: &[Call] = &[$(Call {
             number: $number,
             name: stringify!($name),
@@ -184,8 +240,9 @@ macro_rules! calls {
                     role: Role::$role,
                     lent: !stringify!($($lent)?).is_empty(),
                 },)*
-                $(Parameter { name: stringify!($output), role: Role::Room, lent: true },)*
+                $(Parameter { name: stringify!($output), role: Role::$room, lent: true },)*
             ],
+            counts: $counts,
             #[cfg(feature = "library")]
             library: |args| {
                 let [$($input,)* $($output,)*] = args else { wrong_number() };
@@ -209,12 +266,33 @@ macro_rules! calls {
 }
 
 calls! {
-    1 empty(;);
-    2 from_runs(runs: Runs, values: Values; out_ends, out_values);
-    3 from_ends(ends: Ends, values: Values;);
-    4 repeat(value: Value, length: Length; out_ends, out_values);
-    5 push_run(&mut ends: Ends, &mut values: Values, used: Used, run: Run, value: Value;);
-    6 extend_to(&mut ends: Ends, &mut values: Values, used: Used, length: Length, value: Value;);
-    7 from_dense(values: Dense; out_ends, out_values);
-    8 to_dense(ends: Ends, values: Values; out);
+    1 empty(;) -> 1;
+    2 from_runs(runs: Runs, values: Values; out_ends: Room, out_values: Room) -> 1;
+    3 from_ends(ends: Ends, values: Values;) -> 1;
+    4 repeat(value: Value, length: Length; out_ends: Room, out_values: Room) -> 1;
+    5 push_run(&mut ends: Ends, &mut values: Values, used: Used, run: Run, value: Value;) -> 1;
+    6 extend_to(
+        &mut ends: Ends, &mut values: Values, used: Used, length: Length, value: Value;
+    ) -> 1;
+    7 from_dense(values: Dense; out_ends: Room, out_values: Room) -> 1;
+    8 to_dense(ends: Ends, values: Values; out: Room) -> 1;
+    9 equals(a_ends: EndsA, a_values: ValuesA, b_ends: EndsB, b_values: ValuesB;) -> 1;
+    10 plan(
+        a: EndsA, b: EndsB; out_ends: Room, out_idx_a: IndexRoom, out_idx_b: IndexRoom
+    ) -> 1;
+    11 zip_with(
+        a_ends: EndsA, a_values: ValuesA, b_ends: EndsB, b_values: ValuesB,
+        fill_a: Fill, fill_b: Fill, code: Code; out_ends: Room, out_values: Room
+    ) -> 1;
+    12 zip_with_raw(
+        a_ends: EndsA, a_values: ValuesA, b_ends: EndsB, b_values: ValuesB,
+        fill_a: Fill, fill_b: Fill, code: Code; out_ends: Room, out_values: Room
+    ) -> 1;
+    13 plan_many(
+        offsets: Offsets, ends: FlatEnds, values: FlatValues; out_ends: Room, out_idx: IndexRoom
+    ) -> 2;
+    14 zip_many(
+        offsets: Offsets, ends: FlatEnds, values: FlatValues, fill: Fill, code: Code;
+        out_ends: Room, out_values: Room
+    ) -> 1;
 }

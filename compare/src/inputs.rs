@@ -1,10 +1,10 @@
 //! Arguments: every small combination, and random ones around the boundaries, some of them damaged.
 
 use crate::answer::Error;
-use crate::call::{Arg, Call, Parameter};
+use crate::call::{Arg, Call, Fill, Parameter};
 
 /// What a parameter stands for.
-#[derive(Clone, Copy)]
+#[derive(Clone, Copy, PartialEq, Eq)]
 pub enum Role {
     Runs,
     Ends,
@@ -16,16 +16,47 @@ pub enum Role {
     Run,
     Length,
     Value,
+    /// Of the first of two sequences.
+    EndsA,
+    ValuesA,
+    /// Of the second.
+    EndsB,
+    ValuesB,
+    /// Of any number of sequences laid flat.
+    Offsets,
+    FlatEnds,
+    FlatValues,
+    Fill,
+    /// An operation.
+    Code,
     /// A buffer of which the call reads nothing.
     Room,
+    /// Such a buffer for indexes.
+    IndexRoom,
+}
+
+impl Role {
+    /// Whether the parameter says more of the sequences of the one before it.
+    fn continues(self) -> bool {
+        use Role::*;
+        matches!(self, ValuesA | ValuesB | FlatEnds | FlatValues)
+    }
 }
 
 /// The longest buffer that is made to fit an answer.
-const LONGEST: u64 = 1 << 12;
+const LONGEST: u64 = 1 << 16;
+
+const MIN: i64 = i64::MIN;
+const MAX: i64 = i64::MAX;
 
 /// What lent buffers hold before a call: recognisable, and another number for each entry.
 fn held(parameter: usize, entry: usize) -> i64 {
     -((parameter as i64 + 1) * 1000 + entry as i64)
+}
+
+/// As [`held`], of a buffer for indexes.
+fn held_index(parameter: usize, entry: usize) -> usize {
+    held(parameter, entry).unsigned_abs() as usize
 }
 
 /// Every way to take one out of each of the choices.
@@ -41,16 +72,19 @@ fn combinations<T: Clone>(choices: Vec<Vec<T>>) -> impl Iterator<Item = Vec<T>> 
     })
 }
 
+/// Every list of `length` entries out of `entries`.
+fn lists_of(entries: &[i64], length: usize) -> impl Iterator<Item = Vec<i64>> {
+    combinations(vec![entries.to_vec(); length])
+}
+
 /// Every list of up to `most` entries out of `entries`.
 fn lists(entries: &[i64], most: usize) -> Vec<Arg> {
-    let of_length = |length| combinations(vec![entries.to_vec(); length]);
+    let of_length = |length| lists_of(entries, length);
     (0..=most).flat_map(of_length).map(Arg::List).collect()
 }
 
 /// Every small argument for the parameter at `index`.
 fn small_args(index: usize, parameter: &Parameter) -> Vec<Arg> {
-    const MIN: i64 = i64::MIN;
-    const MAX: i64 = i64::MAX;
     let numbers = |numbers: &[i64]| numbers.iter().copied().map(Arg::Number).collect();
     match parameter.role {
         Role::Runs => lists(&[MIN, -1, 0, 1, 2, MAX - 1, MAX], 3),
@@ -61,16 +95,123 @@ fn small_args(index: usize, parameter: &Parameter) -> Vec<Arg> {
         Role::Run => numbers(&[MIN, -1, 0, 1, 2, MAX - 1, MAX]),
         Role::Length => numbers(&[MIN, -1, 0, 1, 2, 3, 4, MAX - 1, MAX]),
         Role::Value => numbers(&[7, -2]),
-        Role::Room => (0..=5)
+        Role::EndsA | Role::EndsB => lists(&[0, 1, 2, 3, MAX], 2),
+        Role::Fill => {
+            // Two fills that stand side by side differ.
+            let value = [7, -2][index % 2];
+            [0, 1]
+                .map(|given| Arg::Fill(Fill { given, value }))
+                .to_vec()
+        }
+        Role::Code => [0, 3, 6, 8, 10].map(Arg::Code).to_vec(),
+        Role::Room => (0..=6)
             .map(|length| Arg::List((0..length).map(|entry| held(index, entry)).collect()))
             .collect(),
+        Role::IndexRoom => (0..=6)
+            .map(|length| Arg::Places((0..length).map(|entry| held_index(index, entry)).collect()))
+            .collect(),
+        Role::ValuesA | Role::ValuesB | Role::Offsets | Role::FlatEnds | Role::FlatValues => {
+            panic!("no argument by itself: {}", parameter.name)
+        }
     }
+}
+
+/// The sequences with these ends and every choice of two values.
+fn with_values(ends: &[i64]) -> impl Iterator<Item = Column> {
+    lists_of(&[7, -2], ends.len()).map(|values| Column::new(ends, values))
+}
+
+/// Small sequences, valid, and damaged.
+fn small_columns() -> Vec<Vec<Arg>> {
+    const ENDS: &[&[i64]] = &[
+        &[],
+        &[1],
+        &[2],
+        &[3],
+        &[MAX],
+        &[1, 2],
+        &[1, 3],
+        &[2, 3],
+        &[1, MAX],
+        &[1, 2, 3],
+    ];
+    const DAMAGED: &[(&[i64], &[i64])] = &[
+        (&[0], &[7]),
+        (&[2, 2], &[7, -2]),
+        (&[3, 1], &[7, 7]),
+        (&[1], &[]),
+        (&[], &[7]),
+    ];
+    let valid = ENDS.iter().flat_map(|ends| with_values(ends));
+    let valid = valid.map(|column| vec![Arg::List(column.ends()), Arg::List(column.values)]);
+    let damaged = DAMAGED.iter();
+    let damaged = damaged.map(|(ends, values)| vec![list(ends), list(values)]);
+    valid.chain(damaged).collect()
+}
+
+fn list(entries: &[i64]) -> Arg {
+    Arg::List(entries.to_vec())
+}
+
+/// Up to three small sequences and about 128 alike, laid flat, and damaged ones.
+fn small_flat() -> Vec<Vec<Arg>> {
+    const ENDS: &[&[i64]] = &[&[], &[1], &[2], &[1, 2]];
+    // 129 sequences, of which the last alone has a run.
+    const TOO_MANY: &[usize] = &{
+        let mut offsets = [0; 130];
+        offsets[129] = 1;
+        offsets
+    };
+    const DAMAGED: &[(&[usize], &[i64], &[i64])] = &[
+        (&[], &[], &[]),
+        (&[], &[1], &[7]),
+        (&[1], &[1], &[7]),
+        (&[1, 1], &[1], &[7]),
+        (&[0], &[1], &[7]),
+        (&[0, 1], &[], &[]),
+        (&[0, 1], &[1, 2], &[7, 7]),
+        (&[0, 2, 1], &[1], &[7]),
+        (&[0, usize::MAX], &[1], &[7]),
+        (&[0, usize::MAX, 1], &[1], &[7]),
+        (&[usize::MAX, 1], &[1], &[7]),
+        (&[0, 1], &[1], &[]),
+        (&[0, 0], &[], &[7]),
+        (&[0, 1], &[0], &[7]),
+        (&[0, 1, 2], &[1, 0], &[7, 7]),
+        (&[0, 2, 3], &[2, 2, 0], &[7, 7, 7]),
+        (&[0, 1, 3], &[MAX, 1, 1], &[7, 7, 7]),
+        (TOO_MANY, &[0], &[7]),
+    ];
+    let small: Vec<Column> = ENDS.iter().flat_map(|ends| with_values(ends)).collect();
+    let few = (0..=3).flat_map(|number| combinations(vec![small.clone(); number]));
+    let many = [127, 128, 129].into_iter().flat_map(|number| {
+        let ends: [&[i64]; 3] = [&[], &[1], &[MAX]];
+        ends.map(|ends| vec![Column::new(ends, vec![7; ends.len()]); number])
+    });
+    let valid = few.chain(many).map(|columns| {
+        let lists = [flat_ends(&columns), flat_values(&columns)];
+        let [ends, values] = lists.map(Arg::List);
+        vec![Arg::Places(offsets(&columns)), ends, values]
+    });
+    let damaged = DAMAGED.iter().map(|(offsets, ends, values)| {
+        vec![Arg::Places(offsets.to_vec()), list(ends), list(values)]
+    });
+    valid.chain(damaged).collect()
 }
 
 /// Every combination of small arguments.
 pub fn small(call: &Call) -> impl Iterator<Item = Vec<Arg>> {
-    let parameters = call.parameters.iter().enumerate();
-    combinations(parameters.map(|(i, p)| small_args(i, p)).collect())
+    let parameters: Vec<(usize, &Parameter)> = call.parameters.iter().enumerate().collect();
+    let groups = parameters.chunk_by(|_, (_, next)| next.role.continues());
+    let choices = groups.map(|group| match group {
+        [(index, parameter)] => {
+            let args = small_args(*index, parameter).into_iter();
+            args.map(|arg| vec![arg]).collect()
+        }
+        [_, _] => small_columns(),
+        _ => small_flat(),
+    });
+    combinations(choices.collect()).map(|groups| groups.concat())
 }
 
 /// SplitMix64.
@@ -114,12 +255,22 @@ impl Rng {
 }
 
 /// A valid sequence, from which related arguments are taken.
+#[derive(Clone)]
 struct Column {
     runs: Vec<i64>,
     values: Vec<i64>,
 }
 
 impl Column {
+    fn new(ends: &[i64], values: Vec<i64>) -> Self {
+        let starts = [0].iter().chain(ends);
+        let runs = ends.iter().zip(starts).map(|(end, start)| end - start);
+        Column {
+            runs: runs.collect(),
+            values,
+        }
+    }
+
     fn random(rng: &mut Rng) -> Self {
         let most = rng.pick(&[2, 7, 7, 40]);
         let count = rng.below(most);
@@ -134,6 +285,54 @@ impl Column {
         let kinds = rng.below(3) + 1;
         let values = (0..count).map(|_| rng.pick(&different[..kinds])).collect();
         Column { runs, values }
+    }
+
+    /// A sequence of at most `most` runs that often has ends in common with this one, or shows the
+    /// same; of the same length if `equal` says so.
+    fn related(&self, most: usize, equal: bool, rng: &mut Rng) -> Self {
+        let length = self.length();
+        let mut ends = self.ends();
+        match rng.below(5) {
+            0 => ends = Column::random(rng).ends(),
+            1 => {}
+            2 => ends.retain(|_| rng.one_in(2)),
+            3 => ends
+                .iter_mut()
+                .for_each(|end| *end = end.saturating_add(rng.below(3) as i64 - 1)),
+            _ => {
+                ends.extend((0..rng.below(4)).map(|_| 1 + rng.below(length.max(1) as usize) as i64))
+            }
+        }
+        ends.retain(|&end| end > 0 && !(equal && end >= length));
+        ends.sort();
+        ends.dedup();
+        ends.truncate(most - 1);
+        if equal && length > 0 {
+            ends.push(length);
+        }
+        let values = self.related_values(&ends, rng);
+        Column::new(&ends, values)
+    }
+
+    /// Values for runs with these ends: what this sequence shows there, but for one at times, or
+    /// few different ones.
+    fn related_values(&self, ends: &[i64], rng: &mut Rng) -> Vec<i64> {
+        let different = [rng.number(), self.values.first().copied().unwrap_or(0)];
+        let own = self.ends();
+        let same = rng.one_in(2);
+        let value = |end: &i64| match own.iter().position(|own| own >= end) {
+            Some(run) if same => self.values[run],
+            _ => rng.pick(&different),
+        };
+        let mut values: Vec<i64> = ends.iter().map(value).collect();
+        if !values.is_empty() && rng.one_in(4) {
+            values[rng.below(ends.len())] = rng.number();
+        }
+        values
+    }
+
+    fn length(&self) -> i64 {
+        self.runs.iter().sum()
     }
 
     fn ends(&self) -> Vec<i64> {
@@ -151,8 +350,17 @@ impl Column {
             .collect()
     }
 
-    fn arg(&self, role: Role, rng: &mut Rng) -> Arg {
-        let length: i64 = self.runs.iter().sum();
+    /// A value that the last run has as well, or any.
+    fn value(&self, rng: &mut Rng) -> i64 {
+        match self.values.last() {
+            Some(&last) if rng.one_in(2) => last,
+            _ => rng.number(),
+        }
+    }
+
+    /// An argument for a call that takes `columns`, this one standing for all of them.
+    fn arg(&self, columns: &[Column], role: Role, rng: &mut Rng) -> Arg {
+        let length = self.length();
         let near = rng.below(5) as i64 - 2;
         match role {
             Role::Runs => {
@@ -178,13 +386,66 @@ impl Column {
                 1 => length,
                 _ => length.wrapping_add(near),
             }),
-            Role::Value => Arg::Number(match self.values.last() {
-                Some(&last) if rng.one_in(2) => last,
-                _ => rng.number(),
+            Role::Value => Arg::Number(self.value(rng)),
+            Role::EndsA => Arg::List(columns[0].ends()),
+            Role::ValuesA => Arg::List(columns[0].values.clone()),
+            Role::EndsB => Arg::List(columns[1].ends()),
+            Role::ValuesB => Arg::List(columns[1].values.clone()),
+            Role::Offsets => Arg::Places(offsets(columns)),
+            Role::FlatEnds => Arg::List(flat_ends(columns)),
+            Role::FlatValues => Arg::List(flat_values(columns)),
+            Role::Fill => Arg::Fill(Fill {
+                given: rng.pick(&[0, 1, 1, 2, u64::MAX]),
+                value: self.value(rng),
+            }),
+            Role::Code => Arg::Code(match rng.below(16) {
+                0 => rng.pick(&[10, 11, 128, 255]),
+                _ => rng.below(10) as u8,
             }),
             Role::Room => Arg::List(Vec::new()),
+            Role::IndexRoom => Arg::Places(Vec::new()),
         }
     }
+}
+
+fn offsets(columns: &[Column]) -> Vec<usize> {
+    let add = |offset: &mut usize, column: &Column| {
+        *offset += column.runs.len();
+        Some(*offset)
+    };
+    let behind = columns.iter().scan(0, add);
+    std::iter::once(0).chain(behind).collect()
+}
+
+fn flat_ends(columns: &[Column]) -> Vec<i64> {
+    columns.iter().flat_map(Column::ends).collect()
+}
+
+fn flat_values(columns: &[Column]) -> Vec<i64> {
+    let values = columns.iter().flat_map(|column| &column.values);
+    values.copied().collect()
+}
+
+/// As many sequences as the call takes, most of them related to the first given.
+fn columns(call: &Call, first: &Column, rng: &mut Rng) -> Vec<Column> {
+    let takes = |role| call.parameters.iter().any(|p| p.role == role);
+    let number = match (takes(Role::EndsB), takes(Role::Offsets)) {
+        (false, false) => 1,
+        (true, _) => 2,
+        _ if rng.one_in(10) => rng.pick(&[127, 128, 129]),
+        _ => rng.pick(&[0, 1, 2, 2, 3, 3, 4, 5, 8, 16]),
+    };
+    // Of many sequences each is short, so that there is room for the plan's indexes.
+    let most = if number > 16 { 3 } else { usize::MAX };
+    let equal = number > 1 && rng.one_in(3);
+    let mut columns = Vec::new();
+    if number > 0 && first.runs.len() <= most {
+        columns.push(first.clone());
+    }
+    while columns.len() < number {
+        columns.push(first.related(most, equal, rng));
+    }
+    columns
 }
 
 /// How long the lent buffers are, before any damage.
@@ -195,11 +456,14 @@ pub enum Fit {
     Short,
 }
 
-/// Arguments of a call that takes some, made from a random sequence and half the time damaged.
+/// Arguments of a call that takes some, made from random sequences and half the time damaged.
 pub fn random(call: &Call, rng: &mut Rng) -> (Vec<Arg>, Fit) {
     let column = Column::random(rng);
+    let columns = columns(call, &column, rng);
     let parameters = call.parameters.iter();
-    let mut args: Vec<Arg> = parameters.map(|p| column.arg(p.role, rng)).collect();
+    let mut args: Vec<Arg> = parameters
+        .map(|p| column.arg(&columns, p.role, rng))
+        .collect();
     let lent = (0..args.len()).filter(|&i| call.parameters[i].lent);
     let lent: Vec<usize> = lent.collect();
     lengthen_to_need(call, &lent, &mut args);
@@ -208,9 +472,7 @@ pub fn random(call: &Call, rng: &mut Rng) -> (Vec<Arg>, Fit) {
         Fit::Spare => lent
             .iter()
             .for_each(|&index| lengthen(&mut args, index, rng.below(4))),
-        Fit::Short if !lent.is_empty() => {
-            buffer(&mut args[rng.pick(&lent)]).pop();
-        }
+        Fit::Short if !lent.is_empty() => shorten(&mut args[rng.pick(&lent)]),
         _ => {}
     }
     if rng.one_in(2) {
@@ -235,35 +497,33 @@ fn lengthen_to_need(call: &Call, lent: &[usize], args: &mut [Arg]) {
 }
 
 fn lengthen(args: &mut [Arg], index: usize, more: usize) {
-    let list = buffer(&mut args[index]);
-    let entries = list.len()..list.len() + more;
-    list.extend(entries.map(|entry| held(index, entry)));
+    fn extend<T>(list: &mut Vec<T>, more: usize, held: impl Fn(usize) -> T) {
+        list.extend((list.len()..list.len() + more).map(held));
+    }
+    match &mut args[index] {
+        Arg::List(list) => extend(list, more, |entry| held(index, entry)),
+        Arg::Places(list) => extend(list, more, |entry| held_index(index, entry)),
+        arg => panic!("no buffer: {arg}"),
+    }
 }
 
-fn buffer(arg: &mut Arg) -> &mut Vec<i64> {
+/// Takes the last entry off a buffer, if it has any.
+fn shorten(arg: &mut Arg) {
     match arg {
-        Arg::List(list) => list,
-        _ => panic!("no buffer: {arg}"),
+        Arg::List(list) => drop(list.pop()),
+        Arg::Places(list) => drop(list.pop()),
+        arg => panic!("no buffer: {arg}"),
     }
 }
 
 fn damage(arg: &mut Arg, rng: &mut Rng) {
     match arg {
-        Arg::List(list) => match (rng.below(4), list.len()) {
-            (0, _) => {
-                list.pop();
-            }
-            (1, _) | (_, 0) => list.push(rng.number()),
-            (_, length) => {
-                let entry = rng.below(length);
-                let before = if entry == 0 { 0 } else { list[entry - 1] };
-                list[entry] = match rng.below(3) {
-                    0 => before,
-                    1 => before.wrapping_sub(1),
-                    _ => damaged(list[entry], rng),
-                };
-            }
-        },
+        Arg::List(list) => damage_list(list, rng),
+        Arg::Places(list) => {
+            let mut signed = list.iter().map(|&entry| entry as i64).collect();
+            damage_list(&mut signed, rng);
+            *list = signed.into_iter().map(|entry| entry as usize).collect();
+        }
         Arg::Number(number) => *number = damaged(*number, rng),
         Arg::Count(count) => {
             *count = match rng.below(3) {
@@ -271,6 +531,26 @@ fn damage(arg: &mut Arg, rng: &mut Rng) {
                 1 => count.wrapping_add(1),
                 _ => rng.next() as usize,
             }
+        }
+        Arg::Fill(fill) => fill.given = u64::from(fill.given == 0),
+        Arg::Code(code) => *code = rng.next() as u8,
+    }
+}
+
+fn damage_list(list: &mut Vec<i64>, rng: &mut Rng) {
+    match (rng.below(4), list.len()) {
+        (0, _) => {
+            list.pop();
+        }
+        (1, _) | (_, 0) => list.push(rng.number()),
+        (_, length) => {
+            let entry = rng.below(length);
+            let before = if entry == 0 { 0 } else { list[entry - 1] };
+            list[entry] = match rng.below(3) {
+                0 => before,
+                1 => before.wrapping_sub(1),
+                _ => damaged(list[entry], rng),
+            };
         }
     }
 }

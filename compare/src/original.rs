@@ -2,8 +2,8 @@
 //! check, valid sequences alone.
 
 use crate::answer::{self, Refusal};
-use crate::call::{Reading, Written};
-use runlength::{Error, Result, Rle, RleLike, RleRef};
+use crate::call::{Fill, Reading, Written};
+use runlength::{Error, PlanMany, Result, Rle, RleLike, RleRef};
 
 /// The most positions that the original is asked to list: it allocates them.
 const LISTED: i64 = 1 << 16;
@@ -106,4 +106,89 @@ pub fn from_dense(values: &[i64]) -> InDomain {
 pub fn to_dense(ends: &[i64], values: &[i64]) -> InDomain {
     let rle = RleRef::from_ends(ends, values).ok()?;
     (rle.len() <= LISTED).then(|| Ok(Written::list(rle.to_dense())))
+}
+
+/// The closure of a code's meaning.
+fn operation(code: u8) -> Option<fn(&i64, &i64) -> i64> {
+    Some(match code {
+        0 => |x, y| x.wrapping_add(*y),
+        1 => |x, y| x.wrapping_sub(*y),
+        2 => |x, y| x.wrapping_mul(*y),
+        3 => |x, y| *x.min(y),
+        4 => |x, y| *x.max(y),
+        5 => |x, _| *x,
+        6 => |_, y| *y,
+        7 => |x, y| i64::from(x == y),
+        8 => |x, y| i64::from(x < y),
+        9 => |x, y| ((*x as i128 + *y as i128) / 2) as i64,
+        _ => return None,
+    })
+}
+
+/// Valid sequences laid flat.
+fn views<'a>(
+    offsets: &[usize],
+    ends: &'a [i64],
+    values: &'a [i64],
+) -> Option<Vec<RleRef<'a, i64>>> {
+    let whole = offsets.first()? == &0 && offsets.last()? == &ends.len();
+    if !whole || ends.len() != values.len() {
+        return None;
+    }
+    let view = |pair: &[usize]| {
+        let (ends, values) = (ends.get(pair[0]..pair[1])?, values.get(pair[0]..pair[1])?);
+        RleRef::from_ends(ends, values).ok()
+    };
+    offsets.windows(2).map(view).collect()
+}
+
+pub fn equals(a_ends: &[i64], a_values: &[i64], b_ends: &[i64], b_values: &[i64]) -> InDomain {
+    let a = RleRef::from_ends(a_ends, a_values).ok()?;
+    let b = RleRef::from_ends(b_ends, b_values).ok()?;
+    Some(Ok(Written::nothing(a.equals(&b).into())))
+}
+
+pub fn plan(a: &[i64], b: &[i64]) -> InDomain {
+    let valid = |ends| RleRef::from_ends(ends, ends).is_ok();
+    (valid(a) && valid(b)).then(|| {
+        let plan = runlength::plan(a, b);
+        Ok(Written::plan(plan.ends, plan.idx_a, plan.idx_b))
+    })
+}
+
+macro_rules! zips {
+    ($($name:ident)*) => {
+        $(pub fn $name(
+            a_ends: &[i64], a_values: &[i64], b_ends: &[i64], b_values: &[i64],
+            fill_a: Fill, fill_b: Fill, code: u8,
+        ) -> InDomain {
+            let a = RleRef::from_ends(a_ends, a_values).ok()?;
+            let b = RleRef::from_ends(b_ends, b_values).ok()?;
+            let (fill_a, fill_b) = (fill_a.option(), fill_b.option());
+            let (fill_a, fill_b) = (fill_a.as_ref(), fill_b.as_ref());
+            made(runlength::$name(a, b, fill_a, fill_b, operation(code)?))
+        })*
+    };
+}
+
+zips! { zip_with zip_with_raw }
+
+pub fn plan_many(offsets: &[usize], ends: &[i64], values: &[i64]) -> InDomain {
+    let views = views(offsets, ends, values)?;
+    let inputs: Vec<&[i64]> = views.iter().map(RleLike::ends).collect();
+    let PlanMany { ends, idx } = runlength::plan_many(&inputs);
+    let segment = |s: usize| idx.iter().map(move |column| column[s]);
+    let flat = (0..ends.len()).flat_map(segment).collect();
+    Some(Ok(Written::plan_many(ends, flat)))
+}
+
+pub fn zip_many(offsets: &[usize], ends: &[i64], values: &[i64], fill: Fill, code: u8) -> InDomain {
+    let views = views(offsets, ends, values)?;
+    let operation = operation(code)?;
+    let fold = |values: &[&i64]| {
+        let values = values.iter().map(|&&value| value);
+        let folded = values.reduce(|x, y| operation(&x, &y));
+        folded.expect("a segment is a sequence's")
+    };
+    made(runlength::zip_many(&views, fill.option().as_ref(), fold))
 }

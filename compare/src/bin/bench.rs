@@ -1,13 +1,15 @@
 //! Times the library beside the original: bench ROUNDS
 //!
-//! Both sides take the same inputs and check them, on one thread. Their rounds alternate, and the
-//! best round of each counts. Results go to memory that has been written before: the allocator
-//! keeps what it is given back, and both sides' buffers come from it, round after round.
+//! Both sides take the same inputs, on one thread. They check them, except that the original's
+//! calls on several sequences take views or ends that have been checked before. Rounds alternate,
+//! and the best round of each side counts. Results go to memory that has been written before: the
+//! allocator keeps what it is given back, and both sides' buffers come from it, round after round.
 
 use compare::answer::Answer;
+use compare::call::Fill;
 use compare::inputs::Rng;
-use compare::library;
-use runlength::{Result, Rle, RleLike, RleRef};
+use compare::library::{self, Counted};
+use runlength::{Plan, PlanMany, Result, Rle, RleLike, RleRef};
 use std::env;
 use std::ffi::c_int;
 use std::hint::black_box;
@@ -17,6 +19,12 @@ use std::time::{Duration, Instant};
 
 const RUNS: usize = 1_000_000;
 const POSITIONS: usize = 10_000_000;
+
+/// The longest run of a column that is combined with others.
+const LONGEST: usize = 16;
+
+/// So many different values that neighbours hardly ever are equal.
+const DIFFERENT: usize = 1 << 40;
 
 /// The runs of a column that is built up by one call for each.
 const BUILT_UP: usize = 1000;
@@ -37,27 +45,63 @@ fn keep_memory() {
     assert_eq!(taken, [1, 1], "malloc has these settings");
 }
 
-/// A result of the original, as the lists that the library writes.
-trait Lists {
-    fn lists(&self) -> Vec<&[i64]>;
+/// A result of the original, to be compared with the library's counts and what it has written to
+/// the buffers lent.
+trait Reference<L> {
+    fn matches(&self, counts: &[usize], lent: &L) -> bool;
 }
 
-impl Lists for Rle<i64> {
-    fn lists(&self) -> Vec<&[i64]> {
-        vec![self.ends(), self.values()]
+type RunBuffers = (Vec<i64>, Vec<i64>);
+type PlanBuffers = (Vec<i64>, Vec<usize>, Vec<usize>);
+type PlanManyBuffers = (Vec<i64>, Vec<usize>);
+
+impl Reference<RunBuffers> for Rle<i64> {
+    fn matches(&self, counts: &[usize], (ends, values): &RunBuffers) -> bool {
+        counts == [self.num_runs()]
+            && ends.starts_with(self.ends())
+            && values.starts_with(self.values())
     }
 }
 
-impl Lists for Vec<i64> {
-    fn lists(&self) -> Vec<&[i64]> {
-        vec![self]
+impl Reference<Vec<i64>> for Vec<i64> {
+    fn matches(&self, counts: &[usize], list: &Vec<i64>) -> bool {
+        counts == [self.len()] && list.starts_with(self)
     }
 }
 
-/// The check of a sequence writes nothing.
-impl Lists for RleRef<'_, i64> {
-    fn lists(&self) -> Vec<&[i64]> {
-        Vec::new()
+impl Reference<()> for RleRef<'_, i64> {
+    fn matches(&self, counts: &[usize], (): &()) -> bool {
+        counts == [0]
+    }
+}
+
+impl Reference<()> for bool {
+    fn matches(&self, counts: &[usize], (): &()) -> bool {
+        counts == [usize::from(*self)]
+    }
+}
+
+impl Reference<PlanBuffers> for Plan {
+    fn matches(&self, counts: &[usize], (ends, idx_a, idx_b): &PlanBuffers) -> bool {
+        counts == [self.num_segments()]
+            && ends.starts_with(&self.ends)
+            && idx_a.starts_with(&self.idx_a)
+            && idx_b.starts_with(&self.idx_b)
+    }
+}
+
+impl Reference<PlanManyBuffers> for PlanMany {
+    fn matches(&self, counts: &[usize], (ends, idx): &PlanManyBuffers) -> bool {
+        let (segments, columns) = (self.ends.len(), self.idx.len());
+        let mut places = idx.chunks(columns).take(segments).enumerate();
+        counts == [segments, segments * columns]
+            && ends.starts_with(&self.ends)
+            && places.all(|(s, places)| {
+                self.idx
+                    .iter()
+                    .map(|column| column[s])
+                    .eq(places.iter().copied())
+            })
     }
 }
 
@@ -66,33 +110,33 @@ struct Bench {
 }
 
 impl Bench {
-    /// Prints a row of the table: the time for each of a call's `units`, which are as many as the
-    /// entries that it needs. `given` makes, untimed, what a call of the original consumes.
-    fn measure<G, R: Lists>(
+    /// Prints a row of the table: the time for each of a call's `units`. `lend` makes the library's
+    /// buffers and `given` what a call of the original consumes, both untimed.
+    fn measure<L, A: Into<Answer>, G, R: Reference<L>>(
         &self,
         [call, input, unit]: [&str; 3],
         units: usize,
-        mut library: impl FnMut(&mut [i64], &mut [i64]) -> Answer,
+        lend: impl Fn() -> L,
+        mut library: impl FnMut(&mut L) -> A,
         mut given: impl FnMut() -> G,
         mut original: impl FnMut(G) -> Result<R>,
     ) {
-        let lent = || (vec![-1; units], vec![-1; units]);
-        let (mut first, mut second) = lent();
-        let answer = library(&mut first, &mut second);
+        let mut lent = lend();
+        let answer: Answer = library(&mut lent).into();
         assert_eq!(answer.refusal.number, 0, "the library answers");
         let result = original(given()).expect("the original answers");
-        for (buffer, list) in [&first, &second].into_iter().zip(result.lists()) {
-            assert!(buffer[..answer.count] == *list, "the results are equal");
-        }
-        drop((first, second, result));
+        assert!(
+            result.matches(&answer.counts, &lent),
+            "the results are equal"
+        );
+        drop((lent, result));
 
         let calls = TIMED.div_ceil(units);
         let (mut ours, mut theirs) = (Duration::MAX, Duration::MAX);
         for _ in 0..self.rounds.get() {
-            let (mut first, mut second) = lent();
-            let library = |()| library(&mut first, &mut second);
-            ours = ours.min(time(calls, || (), library));
-            drop((first, second));
+            let mut lent = lend();
+            ours = ours.min(time(calls, || (), |()| library(&mut lent)));
+            drop(lent);
             theirs = theirs.min(time(calls, &mut given, &mut original));
         }
         let each = |time: Duration| time.as_secs_f64() * 1e9 / (calls * units) as f64;
@@ -103,7 +147,7 @@ impl Bench {
 }
 
 fn print_row([call, input, unit]: [&str; 3], [library, original, ratio]: [&str; 3]) {
-    println!("| {call:10} | {input:33} | {unit:8} | {library:>7} | {original:>7} | {ratio:>10} |");
+    println!("| {call:12} | {input:33} | {unit:8} | {library:>7} | {original:>7} | {ratio:>10} |");
 }
 
 /// How long the calls take. What they give back is dropped after that.
@@ -117,21 +161,37 @@ fn time<G, R>(calls: usize, given: impl FnMut() -> G, mut call: impl FnMut(G) ->
     start.elapsed()
 }
 
-/// Runs of 1 to `2 * mean - 1`, with values of which neighbours hardly ever are equal.
-fn random_column(rng: &mut Rng, count: usize, mean: usize) -> Rle<i64> {
-    let (mut runs, mut values) = (Vec::new(), Vec::new());
-    for _ in 0..count {
-        runs.push(rng.below(2 * mean - 1) as i64 + 1);
-        values.push(rng.below(1 << 40) as i64);
-    }
+/// Buffers for a result of so many runs.
+fn run_buffers(runs: usize) -> RunBuffers {
+    (vec![-1; runs], vec![-1; runs])
+}
+
+/// Runs of 1 to `longest`, with one of so many values each.
+fn random_column(rng: &mut Rng, count: usize, longest: usize, values: usize) -> Rle<i64> {
+    let (runs, values): (Vec<i64>, Vec<i64>) = (0..count)
+        .map(|_| (rng.below(longest) as i64 + 1, rng.below(values) as i64))
+        .unzip();
     Rle::from_runs(&runs, values).expect("runs above 0 are a sequence")
+}
+
+/// What the column shows, with most runs split in two.
+fn split(rng: &mut Rng, column: &Rle<i64>) -> Rle<i64> {
+    let parts = column.runs().into_iter().zip(column.values());
+    let (runs, values): (Vec<i64>, Vec<i64>) = parts
+        .flat_map(|(run, &value)| {
+            let first = rng.below(run as usize) as i64;
+            [(first, value), (run - first, value)]
+        })
+        .unzip();
+    Rle::from_runs(&runs, values).expect("runs not below 0 are a sequence")
 }
 
 fn from_runs(bench: &Bench, input: &str, runs: &[i64], values: &[i64]) {
     bench.measure(
         ["from_runs", input, "run"],
         runs.len(),
-        |ends, out| library::from_runs(black_box(runs), black_box(values), ends, out),
+        || run_buffers(runs.len()),
+        |(ends, out)| library::from_runs(black_box(runs), black_box(values), ends, out),
         || values.to_vec(),
         |values| Rle::from_runs(black_box(runs), values),
     );
@@ -142,7 +202,8 @@ fn from_ends(bench: &Bench, input: &str, column: &Rle<i64>) {
     bench.measure(
         ["from_ends", input, "run"],
         ends.len(),
-        |_, _| library::from_ends(black_box(ends), black_box(values)).into(),
+        || (),
+        |()| library::from_ends(black_box(ends), black_box(values)),
         || (),
         |()| RleRef::from_ends(black_box(ends), black_box(values)),
     );
@@ -152,7 +213,8 @@ fn repeat(bench: &Bench, input: &str, length: i64) {
     bench.measure(
         ["repeat", input, "call"],
         1,
-        |ends, out| library::repeat(black_box(7), black_box(length), ends, out),
+        || run_buffers(1),
+        |(ends, out)| library::repeat(black_box(7), black_box(length), ends, out),
         || (),
         |()| Rle::repeat(black_box(7), black_box(length)),
     );
@@ -164,15 +226,16 @@ fn build_up(
     call: &str,
     list: &[i64],
     values: &[i64],
-    library: impl Fn(&mut [i64], &mut [i64], usize, i64, i64) -> Answer,
+    library: impl Fn(&mut [i64], &mut [i64], usize, i64, i64) -> Counted,
     original: impl Fn(&mut Rle<i64>, i64, i64) -> Result<()>,
 ) {
     let entries = || black_box(list).iter().zip(black_box(values));
     bench.measure(
         [call, "a column of 1000 runs", "call"],
         list.len(),
-        |ends, out| {
-            entries().fold(Answer::default(), |answer, (&entry, &value)| {
+        || run_buffers(list.len()),
+        |(ends, out)| {
+            entries().fold(Counted::default(), |answer, (&entry, &value)| {
                 library(ends, out, answer.count, entry, value)
             })
         },
@@ -189,7 +252,8 @@ fn from_dense(bench: &Bench, input: &str, values: &[i64]) {
     bench.measure(
         ["from_dense", input, "value"],
         values.len(),
-        |ends, out| library::from_dense(black_box(values), ends, out),
+        || run_buffers(values.len()),
+        |(ends, out)| library::from_dense(black_box(values), ends, out),
         || (),
         |()| Ok(Rle::from_dense(black_box(values).iter().copied())),
     );
@@ -197,12 +261,145 @@ fn from_dense(bench: &Bench, input: &str, values: &[i64]) {
 
 fn to_dense(bench: &Bench, input: &str, column: &Rle<i64>) {
     let (ends, values) = (column.ends(), column.values());
+    let length = column.len() as usize;
     bench.measure(
         ["to_dense", input, "position"],
-        column.len() as usize,
-        |out, _| library::to_dense(black_box(ends), black_box(values), out),
+        length,
+        || vec![-1; length],
+        |out| library::to_dense(black_box(ends), black_box(values), out),
         || (),
         |()| Ok(RleRef::from_ends(black_box(ends), black_box(values))?.to_dense()),
+    );
+}
+
+fn equals(bench: &Bench, input: &str, a: &Rle<i64>, b: &Rle<i64>) {
+    bench.measure(
+        ["equals", input, "run"],
+        a.num_runs() + b.num_runs(),
+        || (),
+        |()| {
+            let (a, b) = (black_box(a), black_box(b));
+            library::equals(a.ends(), a.values(), b.ends(), b.values())
+        },
+        || (a.view(), b.view()),
+        |(a, b)| Ok(a.equals(&b)),
+    );
+}
+
+fn plan(bench: &Bench, input: &str, a: &[i64], b: &[i64]) {
+    let runs = a.len() + b.len();
+    bench.measure(
+        ["plan", input, "run"],
+        runs,
+        || (vec![-1; runs], vec![1; runs], vec![1; runs]),
+        |(ends, idx_a, idx_b)| library::plan(black_box(a), black_box(b), ends, idx_a, idx_b),
+        || (a, b),
+        |(a, b)| Ok(runlength::plan(a, b)),
+    );
+}
+
+fn add(x: &i64, y: &i64) -> i64 {
+    x.wrapping_add(*y)
+}
+
+/// The code of `add`.
+const ADD: u8 = 0;
+
+/// A fill for every shorter side.
+const FILL: Fill = Fill { given: 1, value: 0 };
+
+/// Rows of a table for zips of two columns, by the operation's code and by its closure.
+macro_rules! zips {
+    ($bench:expr, $columns:expr; $($call:ident, $input:expr, $code:expr => $operation:expr;)*) => {
+        let [a, b]: &[Rle<i64>; 2] = $columns;
+        let runs = a.num_runs() + b.num_runs();
+        $($bench.measure(
+            [stringify!($call), $input, "run"],
+            runs,
+            || run_buffers(runs),
+            |(ends, out)| {
+                let (a, b) = (black_box(a), black_box(b));
+                let (fill, code) = (black_box(FILL), black_box($code));
+                library::$call(
+                    a.ends(), a.values(), b.ends(), b.values(), fill, fill, code, ends, out,
+                )
+            },
+            || (a.view(), b.view(), Some(&FILL.value)),
+            |(a, b, fill)| runlength::$call(a, b, fill, fill, $operation),
+        );)*
+    };
+}
+
+/// Sequences laid flat.
+struct Flat {
+    offsets: Vec<usize>,
+    ends: Vec<i64>,
+    values: Vec<i64>,
+}
+
+impl Flat {
+    fn new(columns: &[Rle<i64>]) -> Self {
+        let mut flat = Flat {
+            offsets: vec![0],
+            ends: Vec::new(),
+            values: Vec::new(),
+        };
+        for column in columns {
+            flat.ends.extend(column.ends());
+            flat.values.extend(column.values());
+            flat.offsets.push(flat.ends.len());
+        }
+        flat
+    }
+}
+
+fn plan_many(bench: &Bench, input: &str, columns: &[Rle<i64>]) {
+    let flat = Flat::new(columns);
+    let runs = flat.ends.len();
+    let inputs: Vec<&[i64]> = columns.iter().map(RleLike::ends).collect();
+    bench.measure(
+        ["plan_many", input, "run"],
+        runs,
+        || (vec![-1; runs], vec![1; runs * columns.len()]),
+        |(ends, idx)| {
+            let flat = black_box(&flat);
+            library::plan_many(&flat.offsets, &flat.ends, &flat.values, ends, idx)
+        },
+        || &inputs,
+        |inputs| Ok(runlength::plan_many(inputs)),
+    );
+}
+
+/// The sums of all columns.
+fn zip_many(bench: &Bench, input: &str, columns: &[Rle<i64>]) {
+    let flat = Flat::new(columns);
+    let runs = flat.ends.len();
+    let views: Vec<RleRef<i64>> = columns.iter().map(RleLike::view).collect();
+    bench.measure(
+        ["zip_many", input, "run"],
+        runs,
+        || run_buffers(runs),
+        |(ends, out)| {
+            let (flat, fill, code) = (black_box(&flat), black_box(FILL), black_box(ADD));
+            library::zip_many(
+                &flat.offsets,
+                &flat.ends,
+                &flat.values,
+                fill,
+                code,
+                ends,
+                out,
+            )
+        },
+        || (&views, Some(&FILL.value)),
+        |(views, fill)| {
+            let sum = |values: &[&i64]| {
+                values
+                    .iter()
+                    .fold(0, |sum: i64, value| sum.wrapping_add(**value))
+            };
+            runlength::zip_many(views, fill, sum)
+        },
     );
 }
 
@@ -217,7 +414,7 @@ fn main() -> ExitCode {
     print_row(["call", "input", "ns per"], ["ours", "Rust", "ours/Rust"]);
     print_row(["---"; 3], ["---"; 3]);
 
-    let column = random_column(rng, RUNS, 50);
+    let column = random_column(rng, RUNS, 99, DIFFERENT);
     let mut runs = column.runs();
     from_runs(&bench, "1M runs of 1 to 99", &runs, column.values());
     for run in &mut runs {
@@ -227,7 +424,7 @@ fn main() -> ExitCode {
     from_ends(&bench, "1M runs", &column);
     repeat(&bench, "length 31000", 31_000);
 
-    let column = random_column(rng, BUILT_UP, 50);
+    let column = random_column(rng, BUILT_UP, 99, DIFFERENT);
     let (runs, ends, values) = (&column.runs(), column.ends(), column.values());
     build_up(
         &bench,
@@ -246,20 +443,45 @@ fn main() -> ExitCode {
         Rle::extend_to,
     );
 
-    for (input, mean) in [
-        ("10M values, runs of about 3", 3),
-        ("10M values, nearly constant", 100_000),
+    for (input, count, longest) in [
+        ("10M values, runs of about 3", POSITIONS / 3, 5),
+        ("10M values, nearly constant", 100, 199_999),
     ] {
-        let column = random_column(rng, POSITIONS / mean, mean);
+        let column = random_column(rng, count, longest, DIFFERENT);
         from_dense(&bench, input, &column.to_dense());
     }
     let different: Vec<i64> = (0..POSITIONS as i64).collect();
     from_dense(&bench, "10M values, all different", &different);
-    for (input, mean) in [
-        ("10M positions, runs of about 10", 10),
-        ("10M positions, runs of about 1000", 1000),
+    for (input, count, longest) in [
+        ("10M positions, runs of about 10", POSITIONS / 10, 19),
+        ("10M positions, runs of about 1000", POSITIONS / 1000, 1999),
     ] {
-        to_dense(&bench, input, &random_column(rng, POSITIONS / mean, mean));
+        let column = random_column(rng, count, longest, DIFFERENT);
+        to_dense(&bench, input, &column);
     }
+
+    let shown = random_column(rng, RUNS / 2, LONGEST, DIFFERENT);
+    let (a, b) = (&split(rng, &shown), &split(rng, &shown));
+    equals(&bench, "2 x 0.9M runs, equal", a, b);
+    let mut pair = |values| [(); 2].map(|()| random_column(rng, RUNS, LONGEST, values));
+    let columns = &pair(DIFFERENT);
+    plan(&bench, "2 x 1M runs", columns[0].ends(), columns[1].ends());
+    zips! { bench, columns;
+        zip_with, "2 x 1M runs, smaller, 2^40 values", 3 => |x, y| *x.min(y);
+        zip_with, "2 x 1M runs, add, 2^40 values", ADD => add;
+        zip_with_raw, "2 x 1M runs, add, 2^40 values", ADD => add;
+    }
+    zips! { bench, &pair(4); zip_with, "2 x 1M runs, add, 4 values", ADD => add; }
+    zips! { bench, &pair(1); zip_with, "2 x 1M runs, add, 1 value", ADD => add; }
+
+    let mut many = |number: usize, count: usize| -> Vec<Rle<i64>> {
+        (0..number)
+            .map(|_| random_column(rng, count, LONGEST, 4))
+            .collect()
+    };
+    let columns = many(16, 100_000);
+    plan_many(&bench, "16 x 100k runs", &columns);
+    zip_many(&bench, "16 x 100k runs, add, 4 values", &columns);
+    zip_many(&bench, "100 x 20k runs, add, 4 values", &many(100, 20_000));
     ExitCode::SUCCESS
 }

@@ -44,7 +44,7 @@ impl Comparison {
         }
         let outside = "outside its domain".to_string();
         let original = original.map_or(outside, |outcome| outcome.to_string());
-        println!("  refusal, values, position; count; buffers:");
+        println!("  refusal, values, position; counts; buffers:");
         println!("    library  {library}");
         println!("    original {original}");
         println!("    naive    {naive}");

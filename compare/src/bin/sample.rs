@@ -1,8 +1,9 @@
 //! The sample that crates/replay replays: sample SEED
 //!
-//! A line for each case: the call's number, its arguments, the refusal's six numbers, the count and
-//! each lent buffer after the call. A list or buffer is its length and its entries. The answers are
-//! the original's in its domain, and document 01's elsewhere.
+//! A line for each case: the call's number, its arguments, the refusal's six numbers, the counts
+//! and each lent buffer after the call. A list or buffer is its length and its entries; a fill is
+//! whether it is given, 0 if not, and its value. The answers are the original's in its domain, and
+//! document 01's elsewhere.
 
 use compare::answer::Error;
 use compare::call::{Arg, CALLS, Call, Outcome};
@@ -12,7 +13,7 @@ use std::env;
 use std::process::ExitCode;
 
 /// Lines for each call. With their length they keep the sample below 60 KiB.
-const LINES: usize = 48;
+const LINES: usize = 44;
 const LONGEST_LINE: usize = 180;
 const LONGEST_LIST: usize = 16;
 
@@ -28,17 +29,20 @@ fn class(outcome: &Outcome, fit: Fit) -> Class {
     let detail = if refusal.is(Error::LengthMismatch) || refusal.is(Error::ShortBuffer) {
         refusal.values[0]
     } else {
-        outcome.answer.count.min(5) as u64
+        outcome.answer.counts[0].min(5) as u64
     };
     (refusal.number, detail, fit)
 }
 
 /// Whether all numbers are i64 and all lists short.
 fn is_plain(args: &[Arg], outcome: &Outcome) -> bool {
+    let plain = |count: usize| i64::try_from(count).is_ok();
     let plain_arg = |arg: &Arg| match arg {
         Arg::List(list) => list.len() <= LONGEST_LIST,
-        Arg::Number(_) => true,
-        Arg::Count(count) => i64::try_from(*count).is_ok(),
+        Arg::Places(list) => list.len() <= LONGEST_LIST && list.iter().all(|&place| plain(place)),
+        Arg::Number(_) | Arg::Code(_) => true,
+        Arg::Count(count) => plain(*count),
+        Arg::Fill(fill) => i64::try_from(fill.given).is_ok(),
     };
     let mut numbers = outcome.answer.refusal.numbers().into_iter();
     args.iter().all(plain_arg) && numbers.all(|number| i64::try_from(number).is_ok())

@@ -1,14 +1,15 @@
 -- Tests over lists, one entry after another, and the last of a list.
 -- Assumes nothing.
 use Prim.Native.Nat.{ℕ, suc, _+_, _-_, _≤_, _<_}
-use mathlib.Core.Bool.{Bool, true, false}
-use mathlib.Core.List.{List, [], _∷_}
+use mathlib.Core.Bool.{Bool, true, false, _||_}
+use mathlib.Core.List.{List, [], _∷_, _++_}
 use mathlib.Core.Path.{_≡_, refl, ap, _∙_}
 use native.Mathlib.Numerals.{add-one}
 use native.Mathlib.Omega.{arith}
 use lib.ListN.{length, getD, drop, drop-of-length-le}
 use lib.Seq.{drop-cons}
 use borrow.Author.Tests.{le-leb, lt-leb, ne-eqb}
+use Rattle.num.proofs.Tests.{by-test}
 use Rattle.column.specs.Lists.{any}
 use Rattle.column.specs.Questions.{rise, startAndRise, lastOffset}
 
@@ -21,6 +22,10 @@ module _ {A : Type 0} (f : A → Bool) (i : ℕ) (xs : List A) (d : A) where
 
   pub any-end : length xs ≤ i → any f (drop i xs) ≡ false
   any-end h = rw drop-of-length-le
+
+pub any-append : {A : Type 0} (f : A → Bool) (xs ys : List A) → any f (xs ++ ys) ≡ any f xs || any f ys
+any-append f [] ys = refl
+any-append f (x ∷ xs) ys = by-test (f x) (λ t. rw t) (λ t. rw t (any-append f xs ys))
 
 -- ---- offsets: `before` is the one before that at i
 

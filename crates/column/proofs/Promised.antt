@@ -7,11 +7,10 @@ use mathlib.Core.Path.{_≡_, refl, ap, _∙_, sym}
 use lib.IntN.{ℤ}
 use lib.ListN.{length}
 use Rattle.column.specs.declared.answer.Asked.{Asked}
-use Rattle.column.specs.declared.answer.Checked.{Checked}
 use Rattle.column.specs.declared.answer.Counted.{Counted}
 use Rattle.column.specs.declared.error.Refusal.{Refusal}
 use Rattle.column.specs.Asking.{Question, shownAsked, _otherwise_}
-use Rattle.column.specs.Paper.{answers, paper, shownChecked, WritesRuns, WritesEntries}
+use Rattle.column.specs.Paper.{PaperRefusal, answers, refuses, paper, WritesRuns, WritesEntries}
 use Rattle.column.specs.Runs.{Runs, over, Filled}
 
 -- what the code found, as the question's answer
@@ -34,8 +33,10 @@ module _ {A : Type 0} where
   pub entries-refused : {q : Question} (xs : List A) {b : List A} {r : Refusal} → q ≡ some (paper r) → WritesEntries (q otherwise xs) (Counted.Refused r) b b
   entries-refused xs h = rw h (record { answer = refl; entries = refl })
 
-pub checked-valid : {q : Question} → q ≡ none → shownChecked Checked.Valid ≡ q otherwise tt
-checked-valid h = rw h
+-- an answer that is not a count of what was written
+module _ {X : Type 0} {q : Question} where
+  pub value-answered : {x y : X} → q ≡ none → x ≡ y → answers x ≡ q otherwise y
+  value-answered h e = rw (h, e)
 
-pub checked-refused : {q : Question} (r : Refusal) → q ≡ some (paper r) → shownChecked (Checked.Refused r) ≡ q otherwise tt
-checked-refused r h = rw h
+  pub value-refused : (y : X) {r : PaperRefusal} → q ≡ some r → refuses r ≡ q otherwise y
+  value-refused y h = rw h

@@ -1,15 +1,18 @@
 -- One step of a walk: a column by itself, and two columns together.
 -- Assumes nothing.
-use Prim.Native.Nat.{ℕ, suc, _+_, _≤_, _<_, min}
-use mathlib.Core.Bool.{cond}
+use Prim.Native.Nat.{ℕ, suc, _+_, _-_, _≤_, _<_, min}
+use mathlib.Core.Bool.{Bool, cond}
 use mathlib.Core.List.{List, [], _∷_, map}
-use mathlib.Core.Path.{_≡_, refl, ap, _∙_}
+use mathlib.Core.Path.{_≡_, refl, ap, sym, _∙_}
 use native.Mathlib.Nat.{add-zero}
 use native.Mathlib.Numerals.{add-one}
-use lib.Dec.{eqb}
+use native.Mathlib.Omega.{arith}
+use lib.Dec.{eqb, leb, ltb}
 use lib.IntN.{ℤ, pos}
 use lib.ListN.{length, getD, drop, drop-of-length-le}
 use lib.Seq.{drop-cons}
+use lib.Signed.{leZ}
+use borrow.Author.Tests.{leb-true, leb-false, le-leb, lt-leb, ltb-true, ltb-false, eq-eqb, ne-eqb}
 use Rattle.num.specs.Numbers.{eqZ, smallerOf}
 use Rattle.num.proofs.Tests.{by-test, eqZ-refl}
 use Rattle.column.specs.Runs.{magnitude}
@@ -49,6 +52,28 @@ module _ (es : List ℤ) (i : ℕ) where
 smaller-natural : (x y : ℤ) → x ≡ pos (magnitude x) → y ≡ pos (magnitude y) → smallerOf x y ≡ pos (min (magnitude x) (magnitude y))
 smaller-natural x y nx ny = rw (nx, ny) (smaller-naturals (magnitude x) (magnitude y))
 
+least-test : (m n k : ℕ) → k ≡ min m n → leb m n ≡ eqb m k
+least-test m n k e =
+    by-test (leb m n)
+    (λ t. let h = leb-true m n t in let q : m ≡ k = omega arith in t ∙ sym (eq-eqb m k q))
+    (λ t. let h = leb-false m n t in t ∙ sym (ne-eqb m k (λ q. omega arith)))
+
+-- a run that no other ends before ends where the segment does
+ends-here : (x y : ℤ) {e : ℤ} (k : ℕ) → x ≡ pos (magnitude x) → y ≡ pos (magnitude y) → e ≡ pos k → k ≡ min (magnitude x) (magnitude y) → leZ x y ≡ eqZ x e
+ends-here x y {e} k nx ny ek h =
+    let l : leZ x y ≡ leb (magnitude x) (magnitude y) = rw (nx, ny) in
+    let r : eqZ x e ≡ eqb (magnitude x) k = rw (nx, ek) in
+    l ∙ least-test (magnitude x) (magnitude y) k h ∙ sym r
+
+-- as the code finds it
+pub index-steps : (i : ℕ) (x y : ℤ) {b m n : ℕ} → x ≡ pos (magnitude x) → y ≡ pos (magnitude y) → m ≡ magnitude x → n ≡ magnitude y → b ≡ cond (ltb n m) 1 0
+    → (b ≤ i + 1) × (i + 1 - b ≡ i + cond (leZ x y) 1 0)
+index-steps i x y {b} {m} {n} nx ny em en eb =
+    let l : leZ x y ≡ leb m n = rw (nx, ny, em, en) in
+    by-test (ltb n m)
+    (λ t. let h = ltb-true n m t in let e : b ≡ 1 = eb ∙ rw t in rw (l, lt-leb m n h) (omega arith, omega arith))
+    (λ t. let h = ltb-false n m t in let e : b ≡ 0 = eb ∙ rw t in rw (l, le-leb m n h) (omega arith, omega arith))
+
 module _ (a b : List ℤ) (c : Segments) where
   abbrev x : ℤ
   x = getD a (c .i) (pos 0)
@@ -57,14 +82,17 @@ module _ (a b : List ℤ) (c : Segments) where
   y = getD b (c .j) (pos 0)
 
   pub step-both : c .i < length a → c .j < length b → x ≡ pos (magnitude x) → y ≡ pos (magnitude y) → {e : ℤ} {i j : ℕ}
-      → e ≡ smallerOf x y → i ≡ c .i + cond (eqZ x e) 1 0 → j ≡ c .j + cond (eqZ y e) 1 0 → Steps (placesAt a b c) e (placesAt a b (record { i = i; j = j }))
+      → e ≡ smallerOf x y → i ≡ c .i + cond (leZ x y) 1 0 → j ≡ c .j + cond (leZ y x) 1 0 → Steps (placesAt a b c) e (placesAt a b (record { i = i; j = j }))
   step-both hx hy nx ny {e} ee ei ej =
       let m : e ≡ pos (min (magnitude x) (magnitude y)) = ee ∙ smaller-natural x y nx ny in
       let n : e ≡ pos (magnitude e) = rw m in
       record {
         natural = n;
         ends = rw (ahead-some a (c .i) hx, ahead-some b (c .j) hy, m);
-        next = rw (place-steps a (c .i) hx refl nx n ei, place-steps b (c .j) hy refl ny n ej);
+        next = rw (
+          place-steps a (c .i) hx refl nx n (ei ∙ ap (λ (t : Bool). c .i + cond t 1 0) (ends-here x y (min (magnitude x) (magnitude y)) nx ny m refl)),
+          place-steps b (c .j) hy refl ny n (ej ∙ ap (λ (t : Bool). c .j + cond t 1 0) (ends-here y x (min (magnitude x) (magnitude y)) ny nx m (omega arith))),
+        );
       }
 
   pub step-left : c .i < length a → length b ≤ c .j → x ≡ pos (magnitude x) → Steps (placesAt a b c) x (placesAt a b (record { i = c .i + 1; j = c .j }))

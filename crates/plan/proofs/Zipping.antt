@@ -2,7 +2,7 @@
 -- Assumes nothing.
 use Prim.Native.Nat.{ℕ, zero, suc, _+_, _≤_, _<_}
 use mathlib.Core.Option.{none}
-use mathlib.Core.List.{List, [], _∷_, _++_, map, map-append, map-map}
+use mathlib.Core.List.{List, [], _∷_, _++_, map, map-append}
 use mathlib.Core.Path.{_≡_, refl, ap, sym, _∙_}
 use native.Mathlib.Omega.{arith}
 use lib.IntN.{ℤ}
@@ -16,7 +16,7 @@ use Rattle.column.proofs.Encode.{length-push, place-le, le-place}
 use Rattle.column.proofs.Merging.{Merging, merge-at, merge-more, merge-end, fill-none}
 use Rattle.column.proofs.Pushed.{pushAll}
 use Rattle.column.proofs.Rising.{Valid}
-use Rattle.plan.specs.Plan.{Place, Segment, leastEnd, rests, indexes, firstPlaces, segmentsFrom, segments, endsIn, valuesFor, segmentRun, segmentRuns}
+use Rattle.plan.specs.Plan.{Place, Segment, leastEnd, rests, indexes, firstPlaces, segmentsFrom, endsIn, valuesFor, segmentRun, segmentRuns}
 use Rattle.plan.specs.Walk.{Steps}
 use Rattle.plan.proofs.Listing.{Listing, segmentAt, step-less, list-end, segments-first}
 use Rattle.plan.proofs.Raw.{raw-merges}

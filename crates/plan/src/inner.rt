@@ -3,9 +3,12 @@ ghost use Prim.Native.Nat.{_+_, _≤_, _<_, _^_};
 ghost use mathlib.Core.Bool.{cond};
 ghost use mathlib.Core.Option.{none};
 ghost use mathlib.Core.Path.{_≡_};
+ghost use lib.Dec.{ltb};
+ghost use lib.IntN.{pos};
 ghost use lib.ListN.{length};
-ghost use Rattle.num.specs.Numbers.{eqZ};
+ghost use lib.Signed.{leZ};
 ghost use Rattle.column.specs.Questions.{endsValid};
+ghost use Rattle.column.specs.Runs.{magnitude};
 ghost use Rattle.plan.specs.Walk.{placesAt, Steps, Walkable, PlanFilled};
 ghost use Rattle.plan.specs.Plan.{segmentsOf};
 
@@ -21,12 +24,20 @@ pub struct Segment {
     pub next: Segments,
 }
 
-// The index behind a run that ends at `end`; else its own.
-fn stepped(index: usize, current: i64, end: i64) -> usize
-    requires { ⌜ index + 1 < 2 ^ 64 ⌝ }
-    ensures { λ r. ⌜ r ≡ index + cond (eqZ current end) 1 0 ⌝ }
+// 1 if a is below b.
+fn below(a: usize, b: usize) -> usize
+    ensures { λ r. ⌜ r ≡ cond (ltb a b) 1 0 ⌝ }
 {
-    if current == end { index + 1 } else { index }
+    if a < b { 1 } else { 0 }
+}
+
+// The index behind a run if no other ends before it, else its own. Of natural numbers, and by a subtraction: the shortest way from one
+// segment to the next.
+fn stepped(index: usize, end: i64, other: i64) -> usize
+    requires { ⌜ (index + 1 < 2 ^ 64) × (end ≡ pos (magnitude end)) × (other ≡ pos (magnitude other)) ⌝ }
+    ensures { λ r. ⌜ r ≡ index + cond (leZ end other) 1 0 ⌝ }
+{
+    index + 1 - below(other as usize, end as usize)
 }
 
 impl Segments {
@@ -45,8 +56,8 @@ impl Segments {
                 return Segment {
                     end,
                     next: Segments {
-                        i: stepped(i, x, end),
-                        j: stepped(j, y, end),
+                        i: stepped(i, x, y),
+                        j: stepped(j, y, x),
                     },
                 };
             }

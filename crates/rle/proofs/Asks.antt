@@ -16,7 +16,7 @@ use Rattle.column.proofs.FirstNo.{all-yes, asked-next, asked-last, first-severa
 use Rattle.column.proofs.Told.{agree-told, used-told}
 use Rattle.column.proofs.Used.{used-paired}
 use Rattle.column.proofs.YesNo.{room-one}
-use Rattle.rle.specs.Rle.{fromRunsAsked, pushRunAsked, extendToAsked, toDenseAsked, presentLength, roomForOne}
+use Rattle.rle.specs.Rle.{fromRunsAsked, pushRunAsked, extendToAsked, toDenseAsked, equalsAsked, presentLength, roomForOne}
 use Rattle.rle.proofs.Behind.{first-part}
 
 pub from-runs-asked : (runs values : List ℤ) (e v : ℕ) {r a b c d : Question} → r ≡ firstNo (a ∷ b ∷ []) → a ≡ agree 1 (length runs) (length values) → b ≡ firstNo (c ∷ d ∷ [])
@@ -80,3 +80,13 @@ module _ (e v : List ℤ) (n : ℕ) (few : length e < 2 ^ 63) where
         asked-next (usedWithin n (length e) (length v)) (endsValid (take n e) ∷ long ∷ roomForOne n (sequence e v) ∷ []) hr ha
         (λ u. asked-next (endsValid (take n e)) (long ∷ roomForOne n (sequence e v) ∷ []) hb (hc ∙ ap endsValid used-entries)
         (λ w. asked-last long hd (hf ∙ ap (longEnough requested) (present-is ex u w)) (λ y. room-is ex u w hg)))
+
+-- ---- of two sequences
+
+pub equals-asked : (ae av be bv : List ℤ) {r a b c d f g : Question} → r ≡ firstNo (a ∷ b ∷ []) → a ≡ agree 3 (length ae) (length av)
+    → b ≡ firstNo (c ∷ d ∷ []) → c ≡ agree 3 (length be) (length bv) → d ≡ firstNo (f ∷ g ∷ []) → f ≡ endsValid ae → g ≡ endsValid be
+    → r ≡ equalsAsked (sequence ae av) (sequence be bv)
+unfolding equalsAsked paired
+equals-asked ae av be bv hr ha hb hc hd hf hg =
+    asked-next (paired (sequence ae av)) (paired (sequence be bv) ∷ endsValid ae ∷ endsValid be ∷ []) hr ha
+    (λ y. asked-next (paired (sequence be bv)) (endsValid ae ∷ endsValid be ∷ []) hb hc (λ z. asked-last (endsValid ae) hd hf (λ w. hg)))

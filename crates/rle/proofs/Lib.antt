@@ -1,5 +1,6 @@
 pub mod Asks
 pub mod Behind
+pub mod Comparing
 pub mod Encoding
 pub mod Examples
 pub mod Repeated

@@ -14,8 +14,8 @@ use Rattle.column.proofs.Ends.{rising, runs-rise}
 use Rattle.column.proofs.FirstNo.{all-yes}
 use Rattle.column.proofs.Told.{agree-told, room-told, both-told}
 use Rattle.column.proofs.YesNo.{room-one}
-use Rattle.rle.specs.Rle.{fromRunsAsked, pushRunAsked, extendToAsked, toDenseAsked, presentLength, roomForOne}
-use Rattle.rle.specs.Workers.{Pushable, Extendable}
+use Rattle.rle.specs.Rle.{fromRunsAsked, pushRunAsked, extendToAsked, toDenseAsked, equalsAsked, presentLength, roomForOne}
+use Rattle.rle.specs.Workers.{Pushable, Extendable, Comparable}
 
 module _ (e v : List ℤ) where
   pub from-runs-yes : (runs values : List ℤ) → fromRunsAsked runs values (length e ∷ length v ∷ []) ≡ none
@@ -50,3 +50,14 @@ to-dense-yes es vs out h =
     let y = all-yes (paired (sequence es vs) ∷ endsValid es ∷ room (n ∷ []) (length out ∷ []) ∷ []) h in
     let r = room-told 0 n (length out) (sym (room-one n (length out)) ∙ y .1 .1 .0) in
     (y .1 .0, agree-told 3 (length es) (length vs) (y .0), rw (length-dense (runsOf es vs) (runs-rise 0 es vs (rising es (y .1 .0)))) r)
+
+pub equals-yes : (ae av be bv : List ℤ) → equalsAsked (sequence ae av) (sequence be bv) ≡ none → Comparable (sequence ae av) (sequence be bv)
+unfolding equalsAsked paired
+equals-yes ae av be bv h =
+    let y = all-yes (paired (sequence ae av) ∷ paired (sequence be bv) ∷ endsValid ae ∷ endsValid be ∷ []) h in
+    record {
+      valid-a = y .1 .1 .0;
+      valid-b = y .1 .1 .1 .0;
+      paired-a = agree-told 3 (length ae) (length av) (y .0);
+      paired-b = agree-told 3 (length be) (length bv) (y .1 .0);
+    }

@@ -7,8 +7,9 @@ use lib.ListN.{length, take}
 use lib.Dec.{eqb}
 use Rattle.num.specs.Numbers.{eqZ}
 use Rattle.column.specs.Asking.{Question, firstNo, _otherwise_}
-use Rattle.column.specs.Paper.{Outcome}
+use Rattle.column.specs.Paper.{Outcome, answers, refuses, paper}
 use Rattle.column.specs.Questions.{agree, paired, usedWithin, endsValid, notNegative, fits, runByRun, longEnough, room, both}
+use Rattle.rle.specs.declared.Equality.{Equality}
 use Rattle.column.specs.Runs.{Sequence, sequence, Runs, magnitude, runs, lengthOf, dense, encode, pushMerged}
 
 -- ---- from_runs, from_ends, repeat
@@ -108,3 +109,15 @@ same [] [] = true
 same [] (y ∷ ys) = false
 same (x ∷ xs) [] = false
 same (x ∷ xs) (y ∷ ys) = eqZ x y && same xs ys
+
+unfoldable pub equalsAsked : Sequence → Sequence → Question
+equalsAsked a b = firstNo (paired a ∷ paired b ∷ endsValid (a .ends) ∷ endsValid (b .ends) ∷ [])
+
+-- "the same values at every position", however the runs are split
+unfoldable pub equals : Sequence → Sequence → Outcome Bool
+equals a b = equalsAsked a b otherwise same (dense (runs a)) (dense (runs b))
+
+abbrev pub shownEquality : Equality → Outcome Bool
+shownEquality Equality.Equal = answers true
+shownEquality Equality.Different = answers false
+shownEquality (Equality.Refused r) = refuses (paper r)

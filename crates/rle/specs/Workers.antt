@@ -8,7 +8,7 @@ use lib.IntN.{ℤ, pos}
 use lib.ListN.{length, take, set, getD, replicate}
 use Rattle.num.specs.Numbers.{eqZ}
 use Rattle.column.specs.Questions.{endsValid, notNegative, fits, longEnough}
-use Rattle.column.specs.Runs.{sequence, magnitude, endsOf, valuesOf, encode, over}
+use Rattle.column.specs.Runs.{Sequence, sequence, magnitude, endsOf, valuesOf, encode, over}
 use Rattle.column.specs.declared.inner.Writer.{Writer}
 use Rattle.rle.specs.Rle.{presentLength}
 
@@ -50,3 +50,10 @@ pub record Encodable (xs e v : List ℤ) (w : Writer) (i j : ℕ) : Type 0 where
   pub room-ends : length xs ≤ length e
   pub room-values : length xs ≤ length v
   pub written : Encoded xs e e v v w i
+
+-- two sequences, each valid
+pub record Comparable (a b : Sequence) : Type 0 where
+  pub valid-a : endsValid (a .ends) ≡ none
+  pub valid-b : endsValid (b .ends) ≡ none
+  pub paired-a : length (a .ends) ≡ length (a .values)
+  pub paired-b : length (b .ends) ≡ length (b .values)

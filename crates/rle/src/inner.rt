@@ -1,6 +1,7 @@
 // Workers that assume what the calls have asked.
 use column::inner::Writer;
 use column::sequence;
+use plan::inner::Segments;
 ghost use Prim.Native.Nat.{_+_, _-_, _≤_, _<_, _^_};
 ghost use mathlib.Core.Bool.{true, cond};
 ghost use mathlib.Core.List.{_++_};
@@ -11,8 +12,8 @@ ghost use lib.ListN.{length, getD, take, drop, replicate};
 ghost use Rattle.num.specs.Numbers.{eqZ};
 ghost use Rattle.column.specs.Questions.{endsValid, runByRun};
 ghost use Rattle.column.specs.Runs.{sequence, runsOf, dense, encode, over, Filled};
-ghost use Rattle.rle.specs.Rle.{runsFrom, pushed, extended};
-ghost use Rattle.rle.specs.Workers.{PutRun, Pushable, Extendable, Constant, Encoded, Encodable};
+ghost use Rattle.rle.specs.Rle.{runsFrom, pushed, extended, same};
+ghost use Rattle.rle.specs.Workers.{PutRun, Pushable, Extendable, Constant, Encoded, Encodable, Comparable};
 
 // A run up to `end` at entry n, unless its length is 0: how many entries there are then.
 fn put_run(
@@ -219,4 +220,30 @@ pub fn to_dense(ends: &[i64], values: &[i64], out: &mut [i64]) -> usize
         r += 1;
     }
     p
+}
+
+// Columns of one length are compared at every segment, up to the first that shows two values.
+pub fn equals(a_ends: &[i64], a_values: &[i64], b_ends: &[i64], b_values: &[i64]) -> bool
+    requires { ⌜ Comparable (sequence (now «a_ends») (now «a_values»)) (sequence (now «b_ends») (now «b_values»)) ⌝ }
+    ensures { λ r. ⌜ r ≡ same (dense (runsOf (now («a_ends» .entry)) (now («a_values» .entry)))) (dense (runsOf (now («b_ends» .entry)) (now («b_values» .entry)))) ⌝ }
+{
+    if sequence::length(a_ends) != sequence::length(b_ends) {
+        return false;
+    }
+    let total = a_ends.len() + b_ends.len();
+    let mut i: usize = 0;
+    let mut j: usize = 0;
+    while i + j < total {
+        let x = sequence::entry_or(a_values, i, 0);
+        let y = sequence::entry_or(b_values, j, 0);
+        let here = Segments { i, j };
+        let segment = here.next(a_ends, b_ends);
+        let next = segment.next;
+        if x != y {
+            return false;
+        }
+        i = next.i;
+        j = next.j;
+    }
+    true
 }

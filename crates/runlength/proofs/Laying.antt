@@ -19,9 +19,11 @@ use Rattle.column.specs.declared.error.InKey.{InKey}
 use Rattle.column.specs.declared.error.InKey.the-variants.{Outside, Position}
 use Rattle.column.specs.declared.error.Refusal.{Refusal}
 use Rattle.column.specs.Paper.{numberOf}
+use Rattle.rle.specs.declared.Equality.{Equality}
 use Rattle.runlength.specs.declared.RlCounted.{RlCounted}
+use Rattle.runlength.specs.declared.RlEquality.{RlEquality}
 use Rattle.runlength.specs.declared.RlRefusal.{RlRefusal}
-use Rattle.runlength.specs.Reading.{readError, readInKey, readRefusal, readChecked, readCounted, bitsAt, carried, placeOf, fields, laidRefusal, laidChecked, laidCounted}
+use Rattle.runlength.specs.Reading.{readError, readInKey, readRefusal, readChecked, readCounted, readEquality, bitsAt, carried, placeOf, fields, laidRefusal, laidChecked, laidCounted, laidEquality}
 
 -- the bits of an i64, as `as_unsigned` tells them, out of which it is read
 pub signed-told : (z : ℤ) {u : ℕ} → mag z < 2 ^ 63 → u ≡ residue (toZ w64 (ofZ w64 z)) → (u ≡ residue z) × (signed u ≡ z)
@@ -62,6 +64,9 @@ not-zero (ShortBuffer which needed given) = refl
 abbrev counted : RlRefusal → ℕ → RlCounted
 counted x n = record { refusal = x; count = n }
 
+abbrev equality : RlRefusal → ℕ → RlEquality
+equality x n = record { refusal = x; equal = n }
+
 module _ {r : Refusal} {x : RlRefusal} (again : readRefusal x ≡ r) (laid : x ≡ laidRefusal r) where
   refused : eqb (x .number) 0 ≡ false
   refused = ap (λ (y : RlRefusal). eqb (y .number) 0) laid ∙ not-zero (r .error)
@@ -72,9 +77,18 @@ module _ {r : Refusal} {x : RlRefusal} (again : readRefusal x ≡ r) (laid : x �
   pub counted-refused : {c : Counted} → c ≡ Counted.Refused r → (readCounted (counted x 0) ≡ c) × (counted x 0 ≡ laidCounted c)
   counted-refused e = rw (e, refused) (ap Counted.Refused again, ap (λ (y : RlRefusal). counted y 0) laid)
 
+  pub equality-refused : {c : Equality} → c ≡ Equality.Refused r → (readEquality (equality x 0) ≡ c) × (equality x 0 ≡ laidEquality c)
+  equality-refused e = rw (e, refused) (ap Equality.Refused again, ap (λ (y : RlRefusal). equality y 0) laid)
+
 module _ {x : RlRefusal} (laid : x ≡ laidChecked Checked.Valid) where
   pub checked-valid : {c : Checked} → c ≡ Checked.Valid → (readChecked x ≡ c) × (x ≡ laidChecked c)
   checked-valid e = rw (e, laid) (refl, refl)
 
   pub counted-count : {c : Counted} {n : ℕ} → c ≡ Counted.Count n → (readCounted (counted x n) ≡ c) × (counted x n ≡ laidCounted c)
   counted-count e = rw (e, laid) (refl, refl)
+
+  pub equality-equal : {c : Equality} → c ≡ Equality.Equal → (readEquality (equality x 1) ≡ c) × (equality x 1 ≡ laidEquality c)
+  equality-equal e = rw (e, laid) (refl, refl)
+
+  pub equality-different : {c : Equality} → c ≡ Equality.Different → (readEquality (equality x 0) ≡ c) × (equality x 0 ≡ laidEquality c)
+  equality-different e = rw (e, laid) (refl, refl)

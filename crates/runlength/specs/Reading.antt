@@ -1,6 +1,6 @@
 -- What the numbers of the C interface say: a struct is read as the answer of the Rattle call, and every field of it is told.
 use Prim.Native.Nat.{ℕ, _-_}
-use mathlib.Core.Bool.{cond}
+use mathlib.Core.Bool.{Bool, cond}
 use mathlib.Core.List.{List, [], _∷_}
 use lib.Dec.{eqb}
 use mathlib.Core.Path.{_≡_}
@@ -9,6 +9,8 @@ use lib.ListN.{getD}
 use Rattle.num.specs.Numbers.{residue, signed}
 use Rattle.column.specs.declared.answer.Checked.{Checked}
 use Rattle.column.specs.declared.answer.Counted.{Counted}
+use Rattle.column.specs.declared.answer.Fill.{Fill}
+use Rattle.column.specs.declared.answer.Fill.the-variants.{Value, Missing}
 use Rattle.column.specs.declared.error.Error.{Error}
 use Rattle.column.specs.declared.error.Error.the-variants.{UnknownCode, LengthMismatch, InvalidOffsets, InvalidEnds, TooMany, NegativeRun, Overflow, DuplicateKey, InvalidInterval, UnequalLength, LengthTooShort, ShortBuffer}
 use Rattle.column.specs.declared.error.InKey.{InKey}
@@ -16,7 +18,12 @@ use Rattle.column.specs.declared.error.InKey.the-variants.{Outside, Position}
 use Rattle.column.specs.declared.error.Refusal.{Refusal}
 use Rattle.column.specs.Paper.{Outcome, numberOf, shownBy, shownChecked, WritesRuns, WritesEntries}
 use Rattle.column.specs.Runs.{Runs}
+use Rattle.plan.specs.Plan.{Segment, WritesPlan}
+use Rattle.rle.specs.declared.Equality.{Equality}
+use Rattle.rle.specs.Rle.{shownEquality}
 use Rattle.runlength.specs.declared.RlCounted.{RlCounted}
+use Rattle.runlength.specs.declared.RlEquality.{RlEquality}
+use Rattle.runlength.specs.declared.RlFill.{RlFill}
 use Rattle.runlength.specs.declared.RlRefusal.{RlRefusal}
 
 -- ---- reading
@@ -55,6 +62,13 @@ readChecked r = cond (eqb (r .number) 0) Checked.Valid (Checked.Refused (readRef
 abbrev pub readCounted : RlCounted → Counted
 readCounted r = cond (eqb (r .refusal .number) 0) (Counted.Count (r .count)) (Counted.Refused (readRefusal (r .refusal)))
 
+abbrev pub readEquality : RlEquality → Equality
+readEquality r = cond (eqb (r .refusal .number) 0) (cond (eqb (r .equal) 0) Equality.Different Equality.Equal) (Equality.Refused (readRefusal (r .refusal)))
+
+-- and a fill that is not given is missing
+abbrev pub readFill : RlFill → Fill
+readFill f = cond (eqb (f .given) 0) Missing (Value (f .value))
+
 -- ---- every field
 
 -- a value as 64 bits, 0 where the refusal has fewer values
@@ -87,6 +101,11 @@ abbrev pub laidCounted : Counted → RlCounted
 laidCounted (Counted.Count n) = record { refusal = laidChecked Checked.Valid; count = n }
 laidCounted (Counted.Refused r) = record { refusal = laidRefusal r; count = 0 }
 
+abbrev pub laidEquality : Equality → RlEquality
+laidEquality Equality.Equal = record { refusal = laidChecked Checked.Valid; equal = 1 }
+laidEquality Equality.Different = record { refusal = laidChecked Checked.Valid; equal = 0 }
+laidEquality (Equality.Refused r) = record { refusal = laidRefusal r; equal = 0 }
+
 -- ---- the promises: the Rattle call's own, for the answer that is read, and no field left open
 
 pub record LaidRuns (o : Outcome Runs) (r : RlCounted) (e e′ v v′ : List ℤ) : Type 0 where
@@ -100,3 +119,11 @@ pub record LaidEntries (o : Outcome (List ℤ)) (r : RlCounted) (b b′ : List �
 pub record LaidCheck (o : Outcome (Unit {0})) (r : RlRefusal) : Type 0 where
   pub promise : shownChecked (readChecked r) ≡ o
   pub whole : r ≡ laidChecked (readChecked r)
+
+pub record LaidEquality (o : Outcome Bool) (r : RlEquality) : Type 0 where
+  pub promise : shownEquality (readEquality r) ≡ o
+  pub whole : r ≡ laidEquality (readEquality r)
+
+pub record LaidPlan (o : Outcome (List Segment)) (r : RlCounted) (e e′ : List ℤ) (a a′ b b′ : List ℕ) : Type 0 where
+  pub promise : WritesPlan o (readCounted r) e e′ a a′ b b′
+  pub whole : r ≡ laidCounted (readCounted r)

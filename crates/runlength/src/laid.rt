@@ -1,14 +1,18 @@
 // Answers laid flat for C.
 use crate::RlCounted;
+use crate::RlEquality;
+use crate::RlFill;
 use crate::RlRefusal;
 use column::answer::Checked;
 use column::answer::Counted;
+use column::answer::Fill;
 use column::error::Error;
 use column::error::InKey;
 use column::error::Refusal;
+use rle::Equality;
 ghost use mathlib.Core.Path.{_≡_};
 ghost use Rattle.runlength.specs.Reading as Reading;
-ghost use Rattle.runlength.specs.Reading.{readRefusal, readChecked, readCounted, laidRefusal, laidChecked, laidCounted};
+ghost use Rattle.runlength.specs.Reading.{readRefusal, readChecked, readCounted, readEquality, readFill, laidRefusal, laidChecked, laidCounted, laidEquality};
 
 // A number and its values, with the position where there is one.
 fn fields(number: u64, first: u64, second: u64, third: u64, in_key: InKey) -> RlRefusal
@@ -105,5 +109,35 @@ pub fn counted(c: Counted) -> RlCounted
             let refusal = refused(r);
             RlCounted { refusal, count: 0 }
         }
+    }
+}
+
+pub fn equality(e: Equality) -> RlEquality
+    ensures { λ x. ⌜ (readEquality x ≡ e) × (x ≡ laidEquality e) ⌝ }
+{
+    match e {
+        Equality::Equal => {
+            let refusal = checked(Checked::Valid);
+            RlEquality { refusal, equal: 1 }
+        }
+        Equality::Different => {
+            let refusal = checked(Checked::Valid);
+            RlEquality { refusal, equal: 0 }
+        }
+        Equality::Refused(r) => {
+            let refusal = refused(r);
+            RlEquality { refusal, equal: 0 }
+        }
+    }
+}
+
+// An argument, read from C.
+pub fn fill(f: RlFill) -> Fill
+    ensures { λ r. ⌜ r ≡ readFill f ⌝ }
+{
+    if f.given == 0 {
+        Fill::Missing
+    } else {
+        Fill::Value(f.value)
     }
 }

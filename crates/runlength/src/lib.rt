@@ -6,8 +6,10 @@ ghost use mathlib.Core.List.{[], _∷_};
 ghost use mathlib.Core.Path.{_≡_};
 ghost use lib.ListN.{length};
 ghost use Rattle.column.specs.Runs.{sequence};
+ghost use Rattle.ops.specs.Ops as ops;
+ghost use Rattle.plan.specs.Plan as plan;
 ghost use Rattle.rle.specs.Rle as calls;
-ghost use Rattle.runlength.specs.Reading.{LaidRuns, LaidEntries, LaidCheck};
+ghost use Rattle.runlength.specs.Reading.{readFill, LaidRuns, LaidEntries, LaidCheck, LaidEquality, LaidPlan};
 
 // A refusal: document 01's number, its values in document 01's order as 64 bits each (0 where it has fewer), and the position that it
 // may carry, with 1 in `in_key`. All 0 with an answer.
@@ -26,6 +28,20 @@ pub struct RlRefusal {
 pub struct RlCounted {
     pub refusal: RlRefusal,
     pub count: usize,
+}
+
+// 1 or 0; 0 with a refusal.
+#[repr(C)]
+pub struct RlEquality {
+    pub refusal: RlRefusal,
+    pub equal: u64,
+}
+
+// What stands where a column has ended: missing where `given` is 0, else the value.
+#[repr(C)]
+pub struct RlFill {
+    pub given: u64,
+    pub value: i64,
 }
 
 #[repr(C)]
@@ -125,4 +141,91 @@ pub extern "C" fn rl_to_dense(ends: &[i64], values: &[i64], out: &mut [i64]) -> 
         (now (out .entry)) (now (out .exit)) ⌝ }
 {
     laid::counted(rle::to_dense(ends, values, out))
+}
+
+#[no_mangle]
+pub extern "C" fn rl_equals(
+    a_ends: &[i64],
+    a_values: &[i64],
+    b_ends: &[i64],
+    b_values: &[i64],
+) -> RlEquality
+    ensures { λ r. ⌜ LaidEquality (calls.equals (sequence (now («a_ends» .entry)) (now («a_values» .entry))) (sequence (now («b_ends» .entry)) (now («b_values» .entry)))) r ⌝ }
+{
+    laid::equality(rle::equals(a_ends, a_values, b_ends, b_values))
+}
+
+#[no_mangle]
+pub extern "C" fn rl_plan(
+    a: &[i64],
+    b: &[i64],
+    out_ends: &mut [i64],
+    out_idx_a: &mut [usize],
+    out_idx_b: &mut [usize],
+) -> RlCounted
+    ensures { λ r. ⌜ LaidPlan
+        (plan.plan (now (a .entry)) (now (b .entry)) (length (now («out_ends» .entry)) ∷ length (now («out_idx_a» .entry)) ∷ length (now («out_idx_b» .entry)) ∷ [])) r
+        (now («out_ends» .entry)) (now («out_ends» .exit)) (now («out_idx_a» .entry)) (now («out_idx_a» .exit)) (now («out_idx_b» .entry)) (now («out_idx_b» .exit)) ⌝ }
+{
+    laid::counted(plan::plan(a, b, out_ends, out_idx_a, out_idx_b))
+}
+
+#[no_mangle]
+pub extern "C" fn rl_zip_with(
+    a_ends: &[i64],
+    a_values: &[i64],
+    b_ends: &[i64],
+    b_values: &[i64],
+    fill_a: RlFill,
+    fill_b: RlFill,
+    code: u8,
+    out_ends: &mut [i64],
+    out_values: &mut [i64],
+) -> RlCounted
+    ensures { λ r. ⌜ LaidRuns
+        (ops.zipWith (sequence (now («a_ends» .entry)) (now («a_values» .entry))) (sequence (now («b_ends» .entry)) (now («b_values» .entry)))
+        (readFill «fill_a») (readFill «fill_b») code (length (now («out_ends» .entry)) ∷ length (now («out_values» .entry)) ∷ [])) r
+        (now («out_ends» .entry)) (now («out_ends» .exit)) (now («out_values» .entry)) (now («out_values» .exit)) ⌝ }
+{
+    laid::counted(ops::zip_with(
+        a_ends,
+        a_values,
+        b_ends,
+        b_values,
+        laid::fill(fill_a),
+        laid::fill(fill_b),
+        code,
+        out_ends,
+        out_values,
+    ))
+}
+
+#[no_mangle]
+pub extern "C" fn rl_zip_with_raw(
+    a_ends: &[i64],
+    a_values: &[i64],
+    b_ends: &[i64],
+    b_values: &[i64],
+    fill_a: RlFill,
+    fill_b: RlFill,
+    code: u8,
+    out_ends: &mut [i64],
+    out_values: &mut [i64],
+) -> RlCounted
+    ensures { λ r. ⌜ LaidRuns
+        (ops.zipWithRaw (sequence (now («a_ends» .entry)) (now («a_values» .entry))) (sequence (now («b_ends» .entry)) (now («b_values» .entry)))
+        (readFill «fill_a») (readFill «fill_b») code (length (now («out_ends» .entry)) ∷ length (now («out_values» .entry)) ∷ [])) r
+        (now («out_ends» .entry)) (now («out_ends» .exit)) (now («out_values» .entry)) (now («out_values» .exit)) ⌝ }
+{
+    laid::counted(ops::zip_with_raw(
+        a_ends,
+        a_values,
+        b_ends,
+        b_values,
+        laid::fill(fill_a),
+        laid::fill(fill_b),
+        code,
+        out_ends,
+        out_values,
+    ))
 }

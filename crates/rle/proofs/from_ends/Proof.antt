@@ -1,4 +1,5 @@
-use Rattle.column.proofs.Promised.{asked-yes, asked-no, checked-valid, checked-refused}
+use Rattle.column.proofs.Promised.{asked-yes, asked-no, value-answered, value-refused}
+use mathlib.Core.Path.{refl}
 use Rattle.rle.specs.Rle.{fromEnds}
 use borrow.Author.Needs.{needs}
 use Rattle.rle.proofs.from_ends.Statement.{statement}
@@ -15,11 +16,11 @@ enum-known-asked c = search needs
 
 returns : tie.Need-returns
 unfolding fromEnds
-returns c = checked-valid (asked-yes (c .before .before .ask-sequence .ensures) (c .enum-told .given .1))
+returns c = value-answered (asked-yes (c .before .before .ask-sequence .ensures) (c .enum-told .given .1)) refl
 
 returns-2 : tie.Need-returns-2
 unfolding fromEnds
-returns-2 c = checked-refused (c .before .asked .given .0 .0) (asked-no _ (c .before .before .before .ask-sequence .ensures) (c .before .asked .given .1))
+returns-2 c = value-refused tt (asked-no _ (c .before .before .before .ask-sequence .ensures) (c .before .asked .given .1))
 
 pub from-ends-spec : {M : Type 1} → statement M
 from-ends-spec =

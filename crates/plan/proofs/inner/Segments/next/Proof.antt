@@ -1,3 +1,7 @@
+use mathlib.Core.Path.{_≡_}
+use mir.Syntax.{w64}
+use mir.Val.{toZ, ofZ}
+use Rattle.column.specs.Runs.{magnitude}
 use native.Mathlib.Omega.{arith}
 use lib.IntN.{pos}
 use lib.ListN.{getD}
@@ -24,11 +28,20 @@ shared-slice-copy-out-y c = search needs
 smaller-requires : tie.Need-smaller-requires
 smaller-requires c κs = search needs
 
+-- both ends are natural numbers, as they are read
+natural-x : (c : tie.After-x) → toZ w64 (ofZ w64 (getD (now (c .before .before .args .a)) (c .before .before .args .self .i) (pos 0))) ≡ pos (magnitude (toZ w64 (ofZ w64 (getD (now (c .before .before .args .a)) (c .before .before .args .self .i) (pos 0)))))
+natural-x c = let s = c .before .before in
+    rw (back (getD (now (s .args .a)) (s .args .self .i) (pos 0)) (c .x .given)) (natural-end (now (s .args .a)) (s .args .self .i) (s .pre .valid-a) (c .before .if1 .taken))
+
+natural-y : (c : tie.After-y) → toZ w64 (ofZ w64 (getD (now (c .before .before .before .before .args .b)) (c .before .before .before .before .args .self .j) (pos 0))) ≡ pos (magnitude (toZ w64 (ofZ w64 (getD (now (c .before .before .before .before .args .b)) (c .before .before .before .before .args .self .j) (pos 0)))))
+natural-y c = let s = c .before .before .before .before in
+    rw (back (getD (now (s .args .b)) (s .args .self .j) (pos 0)) (c .y .given)) (natural-end (now (s .args .b)) (s .args .self .j) (s .pre .valid-b) (c .before .if2 .taken))
+
 stepped-requires : tie.Need-stepped-requires
-stepped-requires c κs = search needs
+stepped-requires c κs = (omega arith, natural-x (c .before .before .before), natural-y (c .before))
 
 stepped-requires-2 : tie.Need-stepped-requires-2
-stepped-requires-2 c κs = search needs
+stepped-requires-2 c κs = (omega arith, natural-y (c .before .before), natural-x (c .before .before .before .before))
 
 returns : tie.Need-returns
 returns c = let y = c .before .before .before in
@@ -42,8 +55,8 @@ returns c = let y = c .before .before .before in
     (step-both (now (s .a)) (now (s .b)) (s .self) (x .before .if1 .taken) (y .before .if2 .taken)
     (natural-end (now (s .a)) (s .self .i) (q .valid-a) (x .before .if1 .taken)) (natural-end (now (s .b)) (s .self .j) (q .valid-b) (y .before .if2 .taken))
     (rw (ex, ey) at (c .before .before .smaller .ensures))
-    (rw (ex, ee) at (c .before .stepped .ensures))
-    (rw (ey, ee) at (c .stepped2 .ensures)))
+    (rw (ex, ey) at (c .before .stepped .ensures))
+    (rw (ey, ex) at (c .stepped2 .ensures)))
 
 add-t12 : tie.Need-add-t12
 add-t12 c = search needs
