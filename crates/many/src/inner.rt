@@ -1,5 +1,6 @@
 // Workers that assume what the calls have asked, and the walk over the segments of many columns. The ends are valid.
 use column::inner::Writer;
+use column::sequence;
 ghost use Prim.Native.Nat.{_+_, _*_, _-_, _≤_, _<_, _^_};
 ghost use mathlib.Core.Bool.{cond};
 ghost use mathlib.Core.List.{_++_, map};
@@ -13,7 +14,7 @@ ghost use Rattle.column.specs.Combine.{many, folded, combined};
 ghost use Rattle.column.specs.Flat.{flat, columns};
 ghost use Rattle.column.specs.Lists.{part, parts};
 ghost use Rattle.column.specs.Questions.{endsValid};
-ghost use Rattle.column.specs.Runs.{magnitude, over, Filled};
+ghost use Rattle.column.specs.Runs.{magnitude, lengthOfEnds, over, Filled};
 ghost use Rattle.plan.specs.Plan.{segments};
 ghost use Rattle.many.specs.Workers.{InColumn, EndAt, Placed, Stepped, valuesAt, Foldable, Walkable, Combinable, Plannable, Zippable, PlanManyFilled};
 
@@ -24,6 +25,16 @@ const NONE: usize = usize::MAX;
 pub struct Counts {
     pub segments: usize,
     pub indexes: usize,
+}
+
+// The length of column c.
+pub fn length_at(offsets: &[usize], ends: &[i64], c: usize) -> i64
+    requires { ⌜ c + 1 < length (now offsets) ⌝ }
+    ensures { λ r. ⌜ r ≡ lengthOfEnds (part (getD (now (offsets .entry)) c 0) (getD (now (offsets .entry)) (c + 1) 0) (now (ends .entry))) ⌝ }
+{
+    let from = offsets[c];
+    let to = offsets[c + 1];
+    sequence::length(sequence::part(ends, from, to))
 }
 
 // The end of the run where a column stands, or `NONE` where the column is spent. The column's runs are those from `from` up to `to`.

@@ -5,7 +5,6 @@ use column::answer::Counted;
 use column::answer::Fill;
 use column::error::Refusal;
 use column::questions;
-use column::sequence;
 ghost use Prim.Native.Nat.{_+_, _-_, _<_, _^_};
 ghost use mathlib.Core.List.{[], _∷_, map};
 ghost use mathlib.Core.Path.{_≡_};
@@ -33,6 +32,7 @@ fn columns(offsets: &[usize]) -> usize
     if n == 0 { 0 } else { n - 1 }
 }
 
+// No slice is so long that the greatest usize, which stands for what is larger, would not be too much for it.
 fn plan_many_asks(
     offsets: &[usize],
     ends: &[i64],
@@ -40,8 +40,7 @@ fn plan_many_asks(
     out_ends: usize,
     out_idx: usize,
 ) -> Asked
-    requires { ⌜ «out_idx» < 2 ^ 64 - 1 ⌝ }
-    ensures { λ r. ⌜ shownAsked r ≡ calls.planManyAsked (flat (now (offsets .entry)) (now (ends .entry)) (now (values .entry))) («out_ends» ∷ «out_idx» ∷ []) ⌝ }
+    ensures { λ r. ⌜ («out_idx» < 2 ^ 64 - 1 → shownAsked r ≡ calls.planManyAsked (flat (now (offsets .entry)) (now (ends .entry)) (now (values .entry))) («out_ends» ∷ «out_idx» ∷ [])) ⌝ }
 {
     let k = columns(offsets);
     let room = questions::first_no(
@@ -84,15 +83,6 @@ pub struct Lengths {
     pub greatest: i64,
 }
 
-fn length_at(offsets: &[usize], ends: &[i64], c: usize) -> i64
-    requires { ⌜ c + 1 < length (now offsets) ⌝ }
-    ensures { λ r. ⌜ r ≡ lengthOfEnds (part (getD (now (offsets .entry)) c 0) (getD (now (offsets .entry)) (c + 1) 0) (now (ends .entry))) ⌝ }
-{
-    let from = offsets[c];
-    let to = offsets[c + 1];
-    sequence::length(sequence::part(ends, from, to))
-}
-
 fn least_and_greatest(offsets: &[usize], ends: &[i64]) -> Lengths
     ensures { λ r. ⌜ LengthsOf (map lengthOfEnds (parts (now (offsets .entry)) (now (ends .entry)))) r ⌝ }
 {
@@ -102,11 +92,11 @@ fn least_and_greatest(offsets: &[usize], ends: &[i64]) -> Lengths
             greatest: 0,
         };
     }
-    let mut least = length_at(offsets, ends, 0);
+    let mut least = inner::length_at(offsets, ends, 0);
     let mut greatest = least;
     let mut c: usize = 1;
     while c + 1 < offsets.len() {
-        let length = length_at(offsets, ends, c);
+        let length = inner::length_at(offsets, ends, c);
         least = num::smaller(least, length);
         greatest = num::larger(greatest, length);
         c += 1;

@@ -1,3 +1,4 @@
+use native.Mathlib.Omega.{arith}
 use Rattle.column.proofs.Promised.{asked-yes, asked-no}
 use Rattle.many.specs.Many.{planMany}
 use Rattle.many.proofs.Asks.{plan-many-yes, plan-many-segments, plan-many-written, plan-many-refused}
@@ -12,7 +13,7 @@ enum-told : tie.Need-enum-told
 enum-told c = search needs
 
 plan-many-requires : tie.Need-plan-many-requires
-plan-many-requires c κs = plan-many-yes _ _ _ _ _ (asked-yes (c .before .before .before .before .plan-many-asks .ensures) (c .before .before .enum-told .given .1))
+plan-many-requires c κs = plan-many-yes _ _ _ _ _ (asked-yes (c .before .before .before .before .plan-many-asks .ensures (omega arith)) (c .before .before .enum-told .given .1))
 
 enum-known-asked : tie.Need-enum-known-asked
 enum-known-asked c = search needs
@@ -25,11 +26,11 @@ same-length-2 c = search needs
 
 returns : tie.Need-returns
 unfolding planMany
-returns c = let y = asked-yes (c .before .before .before .before .before .before .before .before .plan-many-asks .ensures) (c .before .before .before .before .before .before .enum-told .given .1) in plan-many-written y (plan-many-segments _ _ _ _ y) (c .before .before .before .plan-many .ensures)
+returns c = let y = asked-yes (c .before .before .before .before .before .before .before .before .plan-many-asks .ensures (omega arith)) (c .before .before .before .before .before .before .enum-told .given .1) in plan-many-written y (plan-many-segments _ _ _ _ y) (c .before .before .before .plan-many .ensures)
 
 returns-2 : tie.Need-returns-2
 unfolding planMany
-returns-2 c = plan-many-refused _ (asked-no _ (c .before .before .before .plan-many-asks .ensures) (c .before .asked .given .1))
+returns-2 c = plan-many-refused _ (asked-no _ (c .before .before .before .plan-many-asks .ensures (omega arith)) (c .before .asked .given .1))
 
 pub plan-many-spec : {M : Type 1} → statement M
 plan-many-spec =

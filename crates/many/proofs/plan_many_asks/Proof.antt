@@ -31,7 +31,7 @@ first-no-requires-3 : tie.Need-first-no-requires-3
 first-no-requires-3 c κs = search needs
 
 returns : tie.Need-returns
-returns c = plan-many-asked _ _ _ _ _ (c .before .before .before .before .before .before .before .before .before .before .pre) (c .first-no3 .ensures) (c .before .ask-flat .ensures) (c .before .before .first-no2 .ensures) (c .before .before .before .ask-columns .ensures) (c .before .before .before .before .before .before .before .before .columns .ensures) (c .before .before .before .before .first-no .ensures) (c .before .before .before .before .before .before .before .ask-room .ensures) (c .before .before .before .before .before .ask-room2 .ensures) (c .before .before .before .before .before .before .saturating-mul .ensures)
+returns c = λ h. plan-many-asked _ _ _ _ _ h (c .first-no3 .ensures) (c .before .ask-flat .ensures) (c .before .before .first-no2 .ensures) (c .before .before .before .ask-columns .ensures) (c .before .before .before .before .before .before .before .before .columns .ensures) (c .before .before .before .before .first-no .ensures) (c .before .before .before .before .before .before .before .ask-room .ensures) (c .before .before .before .before .before .ask-room2 .ensures) (c .before .before .before .before .before .before .saturating-mul .ensures)
 
 pub plan-many-asks-spec : {M : Type 1} → statement M
 plan-many-asks-spec =

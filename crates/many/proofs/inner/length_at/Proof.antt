@@ -2,8 +2,8 @@ use mathlib.Core.Path.{_∙_, ap}
 use Rattle.num.proofs.Bits.{back}
 use Rattle.column.specs.Runs.{lengthOfEnds}
 use borrow.Author.Needs.{needs}
-use Rattle.many.proofs.length_at.Statement.{statement}
-use Rattle.many.proofs.length_at.Tie as tie
+use Rattle.many.proofs.inner.length_at.Statement.{statement}
+use Rattle.many.proofs.inner.length_at.Tie as tie
 
 mul-from : tie.Need-mul-from
 mul-from c = search needs
