@@ -5,6 +5,7 @@ pub mod Folding
 pub mod Places
 pub mod Planning
 pub mod Ranging
+pub mod Shown
 pub mod Stepping
 pub mod Walking
 pub mod Zips

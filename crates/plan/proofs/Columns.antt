@@ -8,14 +8,15 @@ use native.Mathlib.Omega.{arith}
 use lib.IntN.{ℤ}
 use lib.ListN.{length, getD}
 use Rattle.column.specs.declared.answer.Fill.{Fill}
-use Rattle.column.specs.Combine.{Column, two, valueOf}
+use Rattle.column.specs.Combine.{Column, two, valueOf, table}
 use Rattle.column.specs.Questions.{endsValid}
-use Rattle.column.specs.Runs.{magnitude, runsOf}
+use Rattle.column.specs.Runs.{magnitude, runsOf, dense}
 use Rattle.column.proofs.All.{All}
 use Rattle.column.proofs.Ends.{rising, runs-rise, values-runs}
 use Rattle.column.proofs.Rising.{Valid}
-use Rattle.plan.specs.Plan.{endsIn}
+use Rattle.plan.specs.Plan.{endsIn, segmentsOf, segmentRun, segmentRuns}
 use Rattle.plan.specs.Walk.{placesAt}
+use Rattle.plan.proofs.Raw.{raw-dense}
 use Rattle.plan.proofs.Walking.{cursor}
 use Rattle.plan.proofs.Zipping.{starts, shownAt}
 
@@ -38,3 +39,8 @@ module _ (op : ℤ → ℤ → ℤ) (fa fb : Fill) (ae av be bv : List ℤ) wher
 
     pub both-shown : (i j : ℕ) → shownAt op both (i ∷ j ∷ []) ≡ op (getD av i (valueOf fa)) (getD bv j (valueOf fb))
     both-shown i j = rw (values-runs ae av la, values-runs be bv lb)
+
+    -- what the runs at plan's indexes show together, each as far as its segment goes, is what the columns show at every position
+    pub plan-shows : endsValid ae ≡ none → endsValid be ≡ none → dense (map (segmentRun op both) (segmentsOf ae be)) ≡ table op both
+    unfolding segmentRuns
+    plan-shows va vb = rw (ends-in ae av la, ends-in be bv lb) at (raw-dense op both (both-valid va vb))
