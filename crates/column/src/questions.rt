@@ -5,17 +5,19 @@ use crate::error::Error;
 use crate::error::InKey;
 use crate::error::Refusal;
 use crate::sequence;
-ghost use Prim.Native.Nat.{_+_};
-ghost use mathlib.Core.Bool.{_&&_};
+ghost use Prim.Native.Nat.{_+_, _≤_};
+ghost use mathlib.Core.Bool.{true, _&&_};
 ghost use mathlib.Core.List.{[], _∷_};
 ghost use mathlib.Core.Path.{_≡_};
 ghost use lib.Dec.{eqb};
+ghost use lib.IntN.{pos};
+ghost use lib.ListN.{length, getD, drop};
 ghost use lib.Signed.{ltZ};
 ghost use Rattle.column.specs.Asking.{shownAsked, refusal, firstNo, inKey};
 ghost use Rattle.column.specs.Flat.{flat, flatAsked};
 ghost use Rattle.column.specs.Lists.{any};
 ghost use Rattle.column.specs.Paper.{numberOf, shownBy};
-ghost use Rattle.column.specs.Questions.{listed, maskListed, agree, paired, usedWithin, startAndRise, lastOffset, offsetsRise, offsetsValid, endsValid, sequencesValid, atMost, notNegative, fits, runByRun, distinctKeys, intervals, side, isMissing, filled, longEnough, roomAt, room, both};
+ghost use Rattle.column.specs.Questions.{listed, maskListed, agree, paired, usedWithin, startAndRise, lastOffset, offsetsRise, offsetsValid, endsFrom, endsValid, sequencesValid, atMost, notNegative, fits, runByRun, distinctKeys, intervals, side, isMissing, filled, longEnough, roomAt, room, both};
 ghost use Rattle.column.specs.Runs.{sequence, magnitude};
 
 // The first length that does not fit i64.
@@ -146,12 +148,12 @@ pub fn ask_offsets(offsets: &[usize], ends: usize) -> Asked
     }
 }
 
-// 4
-pub fn ask_ends(ends: &[i64]) -> Asked
-    ensures { λ r. ⌜ shownAsked r ≡ endsValid (now (ends .entry)) ⌝ }
+// 4, end by end from an index on; `first` is the end before it.
+fn ask_ends_from(ends: &[i64], from: usize, first: i64) -> Asked
+    ensures { λ r. ⌜ shownAsked r ≡ endsFrom from first (drop from (now (ends .entry))) ⌝ }
 {
-    let mut before: i64 = 0;
-    let mut i = 0;
+    let mut before = first;
+    let mut i = from;
     while i < ends.len() {
         let end = ends[i];
         if end <= before {
@@ -161,6 +163,34 @@ pub fn ask_ends(ends: &[i64]) -> Asked
         i += 1;
     }
     Asked::Yes
+}
+
+// Whether there are four more ends, each above the one before. Four to a turn, as a turn of the loop costs more than a test.
+fn four_rise(ends: &[i64], i: usize, before: i64) -> bool
+    requires { ⌜ i ≤ length (now ends) ⌝ }
+    ensures { λ r. ⌜ (r ≡ true → (i + 4 ≤ length (now (ends .entry))) × (endsFrom i before (drop i (now (ends .entry))) ≡ endsFrom (i + 4) (getD (now (ends .entry)) (i + 3) (pos 0)) (drop (i + 4) (now (ends .entry))))) ⌝ }
+{
+    if ends.len() - i < 4 {
+        return false;
+    }
+    let a = ends[i];
+    let b = ends[i + 1];
+    let c = ends[i + 2];
+    let d = ends[i + 3];
+    before < a && a < b && b < c && c < d
+}
+
+// 4
+pub fn ask_ends(ends: &[i64]) -> Asked
+    ensures { λ r. ⌜ shownAsked r ≡ endsValid (now (ends .entry)) ⌝ }
+{
+    let mut before: i64 = 0;
+    let mut i = 0;
+    while four_rise(ends, i, before) {
+        before = ends[i + 3];
+        i += 4;
+    }
+    ask_ends_from(ends, i, before)
 }
 
 // What 3 of 2, and 4, of one sequence.

@@ -1,13 +1,13 @@
+use Prim.Native.Nat.{_+_, _-_, _≤_}
 use mathlib.Core.Path.{_≡_, refl, sym, _∙_}
-use Prim.Native.Nat.{_≤_, _-_}
+use native.Mathlib.Omega.{arith}
+use lib.IntN.{pos}
 use lib.ListN.{length, getD, drop}
 use denote.Ref.{now}
-use lib.IntN.{pos}
 use mir.Syntax.{w64}
 use mir.Val.{toZ}
 use Rattle.num.proofs.Bits.{back}
 use Rattle.column.specs.Questions.{endsFrom, endsValid}
-use Rattle.column.proofs.YesNo.{ends-next, ends-refused, ends-end}
 use borrow.Author.Needs.{needs}
 use Rattle.column.proofs.questions.ask_ends.Statement.{statement}
 use Rattle.column.proofs.questions.ask_ends.Tie as tie
@@ -22,29 +22,35 @@ loop-holds : tie.Need-loop-holds Inv-loop μ-loop
 unfolding endsValid
 loop-holds c = (search needs, refl)
 
-mul-end : tie.Need-mul-end Inv-loop μ-loop
-mul-end c = search needs
+four-rise-requires : tie.Need-four-rise-requires Inv-loop μ-loop
+four-rise-requires c κs = search needs
 
-shared-slice-copy-out-end : tie.Need-shared-slice-copy-out-end Inv-loop μ-loop
-shared-slice-copy-out-end c = search needs
+add-before : tie.Need-add-before Inv-loop μ-loop
+add-before c = omega (arith, c .before .four-rise .ensures (c .if1 .taken) .0)
 
-no-requires : tie.Need-no-requires Inv-loop μ-loop
-no-requires c κs = search needs
+mul-before : tie.Need-mul-before Inv-loop μ-loop
+mul-before c = omega (arith, c .before .four-rise .ensures (c .if1 .taken) .0)
 
-returns : tie.Need-returns Inv-loop μ-loop
-returns c = let l = c .before .before .before .before in let e = back (getD (now (l .before .args .ends)) (l .loop .i) (pos 0)) (c .before .before .end .given) in c .no .ensures ∙ sym (l .loop .inv .1 ∙ ends-refused _ _ _ (c .before .before .before .loop-test .taken) (rw e at (c .before .if1 .taken)))
+shared-slice-copy-out-before : tie.Need-shared-slice-copy-out-before Inv-loop μ-loop
+shared-slice-copy-out-before c = omega (arith, c .before .four-rise .ensures (c .if1 .taken) .0)
 
 add-i : tie.Need-add-i Inv-loop μ-loop
-add-i c = search needs
+add-i c = omega (arith, c .before .before .four-rise .ensures (c .before .if1 .taken) .0)
 
 loop-less : tie.Need-loop-less Inv-loop μ-loop
-loop-less c = search needs
+loop-less c = omega (arith, c .before .before .four-rise .ensures (c .before .if1 .taken) .0)
 
 loop-again : tie.Need-loop-again Inv-loop μ-loop
-loop-again c = let l = c .before .before .before in let e = back (getD (now (l .before .args .ends)) (l .loop .i) (pos 0)) (c .before .end .given) in (search needs, rw e (l .loop .inv .1 ∙ ends-next _ _ _ (c .before .before .loop-test .taken) (rw e at (c .if1 .left))))
+loop-again c = let l = c .before .before .before in
+    let f = c .before .before .four-rise .ensures (c .before .if1 .taken) in
+    let e = back (getD (now (l .before .args .ends)) (l .loop .i + 3) (pos 0)) (c .before2 .given) in
+    (f .0, rw e (l .loop .inv .1 ∙ f .1))
 
-returns-2 : tie.Need-returns-2 Inv-loop μ-loop
-returns-2 c = sym (c .before .loop .inv .1 ∙ ends-end _ _ _ (c .loop-test .left))
+ask-ends-from-requires : tie.Need-ask-ends-from-requires Inv-loop μ-loop
+ask-ends-from-requires c κs = search needs
+
+returns : tie.Need-returns Inv-loop μ-loop
+returns c = c .ask-ends-from .ensures ∙ sym (c .before .before .before .loop .inv .1)
 
 pub ask-ends-spec : {M : Type 1} → statement M
 ask-ends-spec =
@@ -53,11 +59,12 @@ ask-ends-spec =
     Inv-loop
     μ-loop
     loop-holds
-    mul-end
-    shared-slice-copy-out-end
-    no-requires
-    returns
+    four-rise-requires
+    add-before
+    mul-before
+    shared-slice-copy-out-before
     add-i
     loop-less
     loop-again
-    returns-2)
+    ask-ends-from-requires
+    returns)
