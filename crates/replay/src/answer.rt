@@ -1,0 +1,112 @@
+// The calls on a row's arguments. What they answer is in numbers: the refusal's six and two counts, the second 0 where there is one.
+use crate::row;
+use crate::shape::Places;
+use column::sequence;
+use runlength::RlCounted;
+use runlength::RlFill;
+use runlength::RlRefusal;
+
+fn numbers_of(refusal: RlRefusal, first: u64, second: u64) -> [i64; 8] {
+    [
+        num::as_signed(refusal.number),
+        num::as_signed(refusal.first),
+        num::as_signed(refusal.second),
+        num::as_signed(refusal.third),
+        num::as_signed(refusal.in_key),
+        num::as_signed(refusal.position),
+        num::as_signed(first),
+        num::as_signed(second),
+    ]
+}
+
+fn counted(answer: RlCounted) -> [i64; 8] {
+    numbers_of(answer.refusal, answer.count as u64, 0)
+}
+
+fn fill_at(row: &[i64], at: usize) -> RlFill {
+    RlFill {
+        given: num::as_unsigned(row::entry(row, at)),
+        value: row::entry(row, num::saturating_add(at, 1)),
+    }
+}
+
+// plan, with the indexes in buffers of a row.
+fn plan(
+    a: &[i64],
+    b: &[i64],
+    out_ends: &mut [i64],
+    out_idx_a: &mut [i64],
+    out_idx_b: &mut [i64],
+) -> RlCounted {
+    let mut idx_a = [0usize; row::LONGEST];
+    let mut idx_b = [0usize; row::LONGEST];
+    let n = row::fill_places(out_idx_a, &mut idx_a);
+    let m = row::fill_places(out_idx_b, &mut idx_b);
+    let answer = runlength::rl_plan(a, b, out_ends, &mut idx_a[..n], &mut idx_b[..m]);
+    row::put_places(&idx_a, out_idx_a);
+    row::put_places(&idx_b, out_idx_b);
+    answer
+}
+
+// The calls with a code.
+fn combined(
+    row: &[i64],
+    call: usize,
+    places: Places,
+    first: &mut [i64],
+    second: &mut [i64],
+) -> RlCounted {
+    let a = row::list(row, 1, 4, 0);
+    let b = row::list(row, 1, 4, 1);
+    let c = row::list(row, 1, 4, 2);
+    let d = row::list(row, 1, 4, 3);
+    let fill = fill_at(row, places.numbers);
+    let fill_b = fill_at(row, num::saturating_add(places.numbers, 2));
+    let code = row::code(row, places.code);
+    match call {
+        11 => runlength::rl_zip_with(a, b, c, d, fill, fill_b, code, first, second),
+        _ => runlength::rl_zip_with_raw(a, b, c, d, fill, fill_b, code, first, second),
+    }
+}
+
+pub fn answer(
+    row: &[i64],
+    call: usize,
+    places: Places,
+    first: &mut [i64],
+    second: &mut [i64],
+    third: &mut [i64],
+) -> [i64; 8] {
+    let a = row::list(row, 1, 4, 0);
+    let b = row::list(row, 1, 4, 1);
+    let numbers = sequence::part(row, places.numbers, places.lent);
+    let behind = sequence::part(row, places.behind, places.answer);
+    let used = row::size(behind, 0);
+    let x = row::entry(behind, 1);
+    let y = row::entry(behind, 2);
+    match call {
+        2 => counted(runlength::rl_from_runs(a, b, first, second)),
+        3 => numbers_of(runlength::rl_from_ends(a, b), 0, 0),
+        4 => counted(runlength::rl_repeat(
+            row::entry(numbers, 0),
+            row::entry(numbers, 1),
+            first,
+            second,
+        )),
+        5 => counted(runlength::rl_push_run(first, second, used, x, y)),
+        6 => counted(runlength::rl_extend_to(first, second, used, x, y)),
+        7 => counted(runlength::rl_from_dense(a, first, second)),
+        8 => counted(runlength::rl_to_dense(a, b, first)),
+        9 => {
+            let compared = runlength::rl_equals(
+                a,
+                b,
+                row::list(row, 1, 4, 2),
+                row::list(row, 1, 4, 3),
+            );
+            numbers_of(compared.refusal, compared.equal, 0)
+        }
+        10 => counted(plan(a, b, first, second, third)),
+        _ => counted(combined(row, call, places, first, second)),
+    }
+}
