@@ -23,14 +23,19 @@ fn counted(answer: RlCounted) -> [i64; 8] {
     numbers_of(answer.refusal, answer.count as u64, 0)
 }
 
-fn fill_at(row: &[i64], at: usize) -> RlFill {
+// One of the lists among the arguments, of which no call has more than four.
+fn listed(row: &[i64], index: usize) -> &[i64] {
+    row::list(row, 1, 4, index)
+}
+
+fn fill_at(numbers: &[i64], at: usize) -> RlFill {
     RlFill {
-        given: num::as_unsigned(row::entry(row, at)),
-        value: row::entry(row, num::saturating_add(at, 1)),
+        given: num::as_unsigned(row::entry(numbers, at)),
+        value: row::entry(numbers, num::saturating_add(at, 1)),
     }
 }
 
-// plan, with the indexes in buffers of a row.
+// plan, its indexes as numbers of a row.
 fn plan(
     a: &[i64],
     b: &[i64],
@@ -56,16 +61,17 @@ fn combined(
     first: &mut [i64],
     second: &mut [i64],
 ) -> RlCounted {
-    let a = row::list(row, 1, 4, 0);
-    let b = row::list(row, 1, 4, 1);
-    let c = row::list(row, 1, 4, 2);
-    let d = row::list(row, 1, 4, 3);
-    let fill = fill_at(row, places.numbers);
-    let fill_b = fill_at(row, num::saturating_add(places.numbers, 2));
+    let a = listed(row, 0);
+    let b = listed(row, 1);
+    let c = listed(row, 2);
+    let d = listed(row, 3);
+    let numbers = sequence::part(row, places.numbers, places.code);
+    let fill_a = fill_at(numbers, 0);
+    let fill_b = fill_at(numbers, 2);
     let code = row::code(row, places.code);
     match call {
-        11 => runlength::rl_zip_with(a, b, c, d, fill, fill_b, code, first, second),
-        _ => runlength::rl_zip_with_raw(a, b, c, d, fill, fill_b, code, first, second),
+        11 => runlength::rl_zip_with(a, b, c, d, fill_a, fill_b, code, first, second),
+        _ => runlength::rl_zip_with_raw(a, b, c, d, fill_a, fill_b, code, first, second),
     }
 }
 
@@ -77,9 +83,9 @@ pub fn answer(
     second: &mut [i64],
     third: &mut [i64],
 ) -> [i64; 8] {
-    let a = row::list(row, 1, 4, 0);
-    let b = row::list(row, 1, 4, 1);
-    let numbers = sequence::part(row, places.numbers, places.lent);
+    let a = listed(row, 0);
+    let b = listed(row, 1);
+    let numbers = sequence::part(row, places.numbers, places.code);
     let behind = sequence::part(row, places.behind, places.answer);
     let used = row::size(behind, 0);
     let x = row::entry(behind, 1);
@@ -98,12 +104,7 @@ pub fn answer(
         7 => counted(runlength::rl_from_dense(a, first, second)),
         8 => counted(runlength::rl_to_dense(a, b, first)),
         9 => {
-            let compared = runlength::rl_equals(
-                a,
-                b,
-                row::list(row, 1, 4, 2),
-                row::list(row, 1, 4, 3),
-            );
+            let compared = runlength::rl_equals(a, b, listed(row, 2), listed(row, 3));
             numbers_of(compared.refusal, compared.equal, 0)
         }
         10 => counted(plan(a, b, first, second, third)),

@@ -61,8 +61,8 @@ fn shape_of(call: usize) -> Shape {
     }
 }
 
-// Where a row has the numbers in front of the lent buffers and the code, the buffers, the numbers behind them, what the call must
-// answer, and what it must leave in the buffers; and where it ends.
+// How many buffers are lent, and where a row has the numbers in front of them, the code, the buffers, the numbers behind them, what
+// the call must answer, what it must leave in the buffers, and its end.
 pub struct Places {
     pub buffers: usize,
     pub numbers: usize,
