@@ -2,7 +2,7 @@
 -- Assumes nothing.
 use Prim.Native.Nat.{ℕ, suc, _+_, _≤_, _<_}
 use mathlib.Core.Option.{none, some}
-use mathlib.Core.List.{List, [], _∷_}
+use mathlib.Core.List.{List, [], _∷_, _++_}
 use mathlib.Core.Path.{_≡_, refl, sym, _∙_}
 use native.Mathlib.Numerals.{add-one}
 use lib.ListN.{length, getD, drop, drop-of-length-le}
@@ -20,11 +20,11 @@ pub first-rest : (q : Question) (qs : List Question) → firstNo (q ∷ firstNo 
 first-rest none qs = alone (firstNo qs)
 first-rest (some r) qs = refl
 
--- two questions put as one
-pub first-two : (q q′ : Question) (qs : List Question) → firstNo (q ∷ q′ ∷ qs) ≡ firstNo (firstNo (q ∷ q′ ∷ []) ∷ qs)
-first-two none none qs = refl
-first-two none (some r) qs = refl
-first-two (some r) q′ qs = refl
+-- the first questions put as one
+pub first-several : (ps qs : List Question) → firstNo (ps ++ qs) ≡ firstNo (firstNo ps ∷ qs)
+first-several [] qs = refl
+first-several (none ∷ ps) qs = first-several ps qs
+first-several (some r ∷ ps) qs = refl
 
 -- ---- "yes" to all is "yes" to each
 

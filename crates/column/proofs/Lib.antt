@@ -7,6 +7,7 @@ pub mod Encode
 pub mod Encoded
 pub mod Ends
 pub mod FirstNo
+pub mod Flattened
 pub mod Lists
 pub mod Merging
 pub mod Naturals

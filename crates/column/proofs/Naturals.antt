@@ -1,16 +1,17 @@
 -- Signed numbers and their tests, as natural numbers.
 -- Assumes nothing.
-use Prim.Native.Nat.{ℕ, _<_, _^_}
+use Prim.Native.Nat.{ℕ, _<_, _^_, min, max}
 use mathlib.Core.Bool.{Bool, true, false, not}
 use mathlib.Core.Path.{_≡_, refl, ap, sym, _∙_}
 use native.Mathlib.Omega.{arith}
-use lib.Dec.{T, ltb}
+use lib.Dec.{T, leb, ltb}
 use lib.IntN.{ℤ, pos, negsuc, natAbs}
 use lib.Signed.{leZ, ltZ, nonNeg}
-use borrow.Author.Tests.{le-leb, lt-leb, ltb-true, ltb-false}
+use borrow.Author.Tests.{le-leb, lt-leb, leb-true, leb-false, ltb-true, ltb-false}
 use Rattle.num.proofs.Tests.{by-test}
 use mir.Syntax.{w64}
 use mir.Val.{toZ, ofZ, Fits, SFits}
+use Rattle.num.specs.Numbers.{smallerOf, largerOf}
 use Rattle.num.proofs.Bits.{end-nat, end-cast}
 use Rattle.column.specs.Runs.{magnitude}
 
@@ -53,3 +54,18 @@ module _ (z : ℤ) (f : SFits w64 z) (t : ltZ z (pos 0) ≡ false) where
 pub magnitude-below : (z : ℤ) → SFits w64 z → magnitude z < 2 ^ 63
 magnitude-below (pos n) f = f .sfits
 magnitude-below (negsuc n) f = omega arith
+
+-- ---- the smaller and the larger of two natural numbers
+
+module _ (a b : ℕ) where
+  pub smaller-naturals : smallerOf (pos a) (pos b) ≡ pos (min a b)
+  smaller-naturals =
+      by-test (leb a b)
+      (λ t. let h = leb-true a b t in let m : a ≡ min a b = omega arith in rw t (ap pos m))
+      (λ t. let h = leb-false a b t in let m : b ≡ min a b = omega arith in rw t (ap pos m))
+
+  pub larger-naturals : largerOf (pos a) (pos b) ≡ pos (max a b)
+  larger-naturals =
+      by-test (leb a b)
+      (λ t. let h = leb-true a b t in let m : b ≡ max a b = omega arith in rw t (ap pos m))
+      (λ t. let h = leb-false a b t in let m : a ≡ max a b = omega arith in rw t (ap pos m))

@@ -7,10 +7,10 @@ use mathlib.Core.Path.{_≡_, refl, ap, _∙_}
 use native.Mathlib.Numerals.{add-one}
 use native.Mathlib.Omega.{arith}
 use lib.IntN.{ℤ}
-use lib.ListN.{length, getD, take, drop, length-drop, drop-of-length-le}
-use lib.Seq.{drop-cons, take-all, take-nil}
+use lib.ListN.{length, getD, take, drop, length-take, length-drop, drop-of-length-le}
+use lib.Seq.{drop-cons, take-all, take-nil, length-take-le, getD-take, getD-drop}
 use Rattle.column.specs.Asking.{eachFrom}
-use Rattle.column.specs.Lists.{part, partsFrom}
+use Rattle.column.specs.Lists.{part, partsFrom, parts}
 use Rattle.column.specs.Paper.{PaperRefusal}
 use Rattle.column.specs.Questions.{sequenceAt, sequencesValid}
 use Rattle.column.proofs.FirstNo.{alone}
@@ -25,20 +25,38 @@ module _ {A : Type 0} (a b : ℕ) (xs : List A) where
   pub part-rest : length xs ≤ b → part a b xs ≡ drop a xs
   part-rest h = take-all (b - a) (drop a xs) (rw length-drop (omega arith))
 
+  pub length-part : b ≤ length xs → length (part a b xs) ≡ b - a
+  length-part h = length-take-le (b - a) (drop a xs) (rw length-drop (omega arith))
+
+  pub part-at : (i : ℕ) (d : A) → a + i < b → getD (part a b xs) i d ≡ getD xs (a + i) d
+  part-at i d h = getD-take (b - a) (drop a xs) i d (omega arith) ∙ getD-drop a xs i d
+
+-- the same part of two lists that are equally long
+pub part-paired : {A B : Type 0} (a b : ℕ) (xs : List A) (ys : List B) → length xs ≡ length ys → length (part a b xs) ≡ length (part a b ys)
+part-paired a b xs ys e = simp (length-take, length-drop, e)
+
 -- ---- the parts between offsets, from the k-th on
 
 unfoldable pub partsAt : ℕ → List ℕ → List ℤ → List (List ℤ)
 partsAt k os es = partsFrom (getD os k 0) (drop (k + 1) os) es
 
+pub parts-start : (os : List ℕ) (es : List ℤ) → parts os es ≡ partsAt 0 os es
+unfolding partsAt partsFrom
+parts-start [] es = refl
+parts-start (o ∷ os) es = refl
+
 pub sequences-start : (os : List ℕ) (es : List ℤ) → sequencesValid os es ≡ eachFrom sequenceAt 0 (partsAt 0 os es)
-unfolding sequencesValid partsAt partsFrom
-sequences-start [] es = refl
-sequences-start (o ∷ os) es = refl
+unfolding sequencesValid
+sequences-start os es = rw (parts-start os es)
 
 module _ (k : ℕ) (os : List ℕ) (es : List ℤ) where
-  parts-cons : k + 1 < length os → partsAt k os es ≡ part (getD os k 0) (getD os (k + 1) 0) es ∷ partsAt (k + 1) os es
+  pub parts-cons : k + 1 < length os → partsAt k os es ≡ part (getD os k 0) (getD os (k + 1) 0) es ∷ partsAt (k + 1) os es
   unfolding partsAt partsFrom
   parts-cons h = let m : k + 1 + 1 ≡ suc (k + 1) = omega arith in ap (λ (l : List ℕ). partsFrom (getD os k 0) l es) (drop-cons os (k + 1) 0 h) ∙ rw m
+
+  pub parts-end : length os ≤ k + 1 → partsAt k os es ≡ []
+  unfolding partsAt partsFrom
+  parts-end h = rw (drop-of-length-le os {i = k + 1} h)
 
   pub sequences-next : k + 1 < length os → sequenceAt k (part (getD os k 0) (getD os (k + 1) 0) es) ≡ none
       → eachFrom sequenceAt k (partsAt k os es) ≡ eachFrom sequenceAt (k + 1) (partsAt (k + 1) os es)
@@ -51,5 +69,5 @@ module _ (k : ℕ) (os : List ℕ) (es : List ℤ) where
   sequences-refused h e = rw (parts-cons h, e)
 
   pub sequences-end : length os ≤ k + 1 → eachFrom sequenceAt k (partsAt k os es) ≡ none
-  unfolding eachFrom partsAt partsFrom
-  sequences-end h = rw (drop-of-length-le os {i = k + 1} h)
+  unfolding eachFrom
+  sequences-end h = rw (parts-end h)

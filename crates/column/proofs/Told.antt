@@ -1,7 +1,7 @@
 -- What a question tells where it is answered "yes".
 -- Assumes nothing.
 use Prim.Native.Nat.{ℕ, suc, _+_, _≤_, _<_, _^_, min}
-use mathlib.Core.Bool.{Bool, true, false}
+use mathlib.Core.Bool.{Bool, true, false, _&&_}
 use mathlib.Core.Option.{none}
 use mathlib.Core.List.{List, [], _∷_}
 use mathlib.Core.Path.{_≡_, refl, _∙_, sym}
@@ -13,7 +13,7 @@ use lib.Seq.{drop-cons}
 use lib.Signed.{leZ, ltZ}
 use borrow.Author.Tests.{eqb-true, leb-true, ltb-true}
 use Rattle.column.specs.Asking.{Question, refusal, _unless_}
-use Rattle.column.specs.Questions.{agree, usedWithin, notNegative, fits, runByRun, longEnough, roomAt, room, both}
+use Rattle.column.specs.Questions.{agree, usedWithin, startAndRise, lastOffset, offsetsValid, atMost, notNegative, fits, runByRun, longEnough, roomAt, room, both}
 use Rattle.column.specs.Runs.{magnitude}
 use Rattle.column.proofs.FirstNo.{AllYes, all-yes}
 use Rattle.column.proofs.Naturals.{le-lt}
@@ -24,6 +24,10 @@ told : (number : ℕ) (values : List ℤ) (t : Bool) → refusal number values u
 told number values true e = refl
 told number values false e = cc
 
+pub both-true : (s t : Bool) → s && t ≡ true → (s ≡ true) × (t ≡ true)
+both-true true t e = (refl, e)
+both-true false t e = (e, cc)
+
 pub agree-told : (what left right : ℕ) → agree what left right ≡ none → left ≡ right
 unfolding agree
 agree-told what left right e = eqb-true left right (told 2 _ (eqb left right) e)
@@ -32,6 +36,12 @@ pub used-told : (used ends values : ℕ) → usedWithin used ends values ≡ non
 unfolding usedWithin
 used-told used ends values e = leb-true used (min ends values) (told 2 _ (leb used (min ends values)) e)
 
+pub offsets-told : (os : List ℕ) (n : ℕ) → offsetsValid os n ≡ none → (startAndRise os ≡ true) × (lastOffset 0 os ≡ n)
+unfolding offsetsValid
+offsets-told os n e =
+    let t = both-true (startAndRise os) (eqb (lastOffset 0 os) n) (told 3 [] (startAndRise os && eqb (lastOffset 0 os) n) e) in
+    (t .0, eqb-true (lastOffset 0 os) n (t .1))
+
 pub negative-told : (i : ℕ) (run : ℤ) → notNegative i run ≡ none → ltZ run (pos 0) ≡ false
 unfolding notNegative
 negative-told i run e = le-lt (pos 0) run (told 6 _ (leZ (pos 0) run) e)
@@ -39,6 +49,10 @@ negative-told i run e = le-lt (pos 0) run (told 6 _ (leZ (pos 0) run) e)
 pub fits-told : (n : ℕ) → fits n ≡ none → n < 2 ^ 63
 unfolding fits
 fits-told n e = ltb-true n (2 ^ 63) (told 7 _ (ltb n (2 ^ 63)) e)
+
+pub most-told : (limit k : ℕ) → atMost limit k ≡ none → k ≤ limit
+unfolding atMost
+most-told limit k e = leb-true k limit (told 5 _ (leb k limit) e)
 
 pub long-told : (requested present : ℤ) → longEnough requested present ≡ none → leZ present requested ≡ true
 unfolding longEnough

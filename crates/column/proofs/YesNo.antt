@@ -1,18 +1,19 @@
 -- Each question by what the code finds: a "yes", or the refusal.
 -- Assumes nothing.
-use Prim.Native.Nat.{ℕ, suc, _+_, _≤_, _<_, _^_}
+use Prim.Native.Nat.{ℕ, suc, _+_, _-_, _≤_, _<_, _^_}
 use mathlib.Core.Bool.{true, false, _&&_}
-use mathlib.Core.Option.{none, some}
+use mathlib.Core.Option.{none}
 use mathlib.Core.List.{List, [], _∷_}
 use mathlib.Core.Path.{_≡_, refl, _∙_}
 use native.Mathlib.Numerals.{add-one}
+use native.Mathlib.Omega.{arith}
 use lib.IntN.{ℤ, pos}
 use lib.ListN.{length, getD, take, drop, drop-of-length-le}
 use lib.Seq.{drop-cons}
 use lib.Signed.{leZ, ltZ}
 use lib.Dec.{leb, eqb}
-use borrow.Author.Tests.{le-leb, leb-true, le-ltb, lt-ltb, eq-eqb, ne-eqb}
-use Rattle.num.specs.Numbers.{largerOf}
+use borrow.Author.Tests.{le-leb, lt-leb, leb-true, leb-false, le-ltb, lt-ltb, eq-eqb, ne-eqb}
+use Rattle.num.specs.Numbers.{saturated, largerOf}
 use Rattle.num.proofs.Tests.{by-test}
 use Rattle.column.specs.declared.answer.Fill.{Fill}
 use Rattle.column.specs.Lists.{any}
@@ -186,3 +187,12 @@ room-one n g = room-each (n ∷ []) (g ∷ []) ∙ alone (roomAt 0 n g)
 
 pub room-both : (n e v : ℕ) → room (both n) (e ∷ v ∷ []) ≡ firstNo (roomAt 0 n e ∷ roomAt 1 n v ∷ [])
 room-both n e v = room-each (both n) (e ∷ v ∷ [])
+
+-- a need that stops at the greatest number that is shown
+pub room-saturated : (which needed given : ℕ) → given < 2 ^ 64 - 1 → roomAt which (saturated needed) given ≡ roomAt which needed given
+unfolding roomAt
+room-saturated which needed given h =
+    let s : saturated (saturated needed) ≡ saturated needed = omega arith in
+    by-test (leb needed given)
+    (λ t. let k = leb-true needed given t in rw (t, le-leb (saturated needed) given (omega arith)))
+    (λ t. let k = leb-false needed given t in rw (t, lt-leb (saturated needed) given (omega arith), s))

@@ -45,3 +45,7 @@ offsetsFlat f = offsetsValid (f .offsets) (length (f .ends))
 
 abbrev pub endsFlat : Flat → Question
 endsFlat f = sequencesValid (f .offsets) (f .ends)
+
+-- those three, in their order
+abbrev pub flatAsked : Flat → List Question
+flatAsked f = pairedFlat f ∷ offsetsFlat f ∷ endsFlat f ∷ []

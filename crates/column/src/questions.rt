@@ -12,6 +12,7 @@ ghost use mathlib.Core.Path.{_≡_};
 ghost use lib.Dec.{eqb};
 ghost use lib.Signed.{ltZ};
 ghost use Rattle.column.specs.Asking.{shownAsked, refusal, firstNo, inKey};
+ghost use Rattle.column.specs.Flat.{flat, flatAsked};
 ghost use Rattle.column.specs.Lists.{any};
 ghost use Rattle.column.specs.Paper.{numberOf, shownBy};
 ghost use Rattle.column.specs.Questions.{listed, maskListed, agree, paired, usedWithin, startAndRise, lastOffset, offsetsRise, offsetsValid, endsValid, sequencesValid, atMost, notNegative, fits, runByRun, distinctKeys, intervals, side, isMissing, filled, longEnough, roomAt, room, both};
@@ -201,6 +202,17 @@ pub fn ask_sequences(offsets: &[usize], ends: &[i64]) -> Asked
         k += 1;
     }
     Asked::Yes
+}
+
+// What 3 of 2, 3 and 4, of sequences laid flat.
+pub fn ask_flat(offsets: &[usize], ends: &[i64], values: &[i64]) -> Asked
+    ensures { λ r. ⌜ shownAsked r ≡ firstNo (flatAsked (flat (now (offsets .entry)) (now (ends .entry)) (now (values .entry)))) ⌝ }
+{
+    let valid = first_no(
+        ask_offsets(offsets, ends.len()),
+        ask_sequences(offsets, ends),
+    );
+    first_no(ask_lengths(3, ends.len(), values.len()), valid)
 }
 
 // 5

@@ -1,1 +1,134 @@
--- What the workers of the many-way calls promise each other.
+-- What the workers of the many-way calls require and leave.
+use Prim.Native.Nat.{ℕ, _+_, _*_, _-_, _≤_, _<_, _^_}
+use mathlib.Core.Bool.{cond}
+use mathlib.Core.Option.{Option, none, some}
+use mathlib.Core.List.{List, [], _∷_}
+use mathlib.Core.Path.{_≡_}
+use lib.Dec.{ltb}
+use lib.IntN.{ℤ, pos}
+use lib.ListN.{length, getD, replicate}
+use Rattle.num.specs.Numbers.{smallerOf, largerOf}
+use Rattle.column.specs.Lists.{parts}
+use Rattle.column.specs.Questions.{offsetsValid, sequencesValid}
+use Rattle.column.specs.Runs.{over}
+use Rattle.plan.specs.Plan.{Place, Segment, leastEnd, rests, indexes, stepped, segmentEnds}
+use Rattle.plan.specs.Walk.{placeAt}
+use Rattle.many.specs.declared.inner.Counts.{Counts}
+use Rattle.many.specs.declared.Lengths.{Lengths}
+use Rattle.many.specs.Many.{mostColumns, allIndexes}
+
+-- where columns stand, by the index of each one's current run
+abbrev pub placesFor : List ℕ → List (List ℤ) → List Place
+placesFor [] columns = []
+placesFor (i ∷ is) [] = []
+placesFor (i ∷ is) (es ∷ columns) = placeAt es i ∷ placesFor is columns
+
+abbrev pub placesOf : List ℕ → List ℤ → List ℕ → List Place
+placesOf os es is = placesFor is (parts os es)
+
+-- each column stands at one of its runs or behind the last
+abbrev pub Within : List ℕ → List (List ℤ) → Type 0
+Within [] columns = Unit {0}
+Within (i ∷ is) [] = Unit {0}
+Within (i ∷ is) (es ∷ columns) = (i ≤ length es) × Within is columns
+
+-- a column's entries a up to b of a flat list, and its place
+pub record InColumn (xs : List ℤ) (a b i : ℕ) : Type 0 where
+  pub inside : b ≤ length xs
+  pub place : a + i ≤ b
+
+-- the first of the ends that a column has left; where it has none, the greatest number, which is no end
+abbrev pub currentEnd : List ℕ → ℕ
+currentEnd [] = 2 ^ 64 - 1
+currentEnd (e ∷ es) = e
+
+-- and what tells the two apart
+pub record EndAt (rest : List ℕ) (r : ℕ) : Type 0 where
+  pub current : r ≡ currentEnd rest
+  pub small : r < 2 ^ 64 - 1 → r < 2 ^ 63
+  pub some : 0 < length rest → r < 2 ^ 64 - 1
+
+-- the end that such a number stands for, or none
+abbrev pub endFound : ℕ → Option ℕ
+endFound e = cond (ltb e (2 ^ 64 - 1)) (some e) none
+
+-- valid columns, each at its place
+pub record Placed (os : List ℕ) (es : List ℤ) (is : List ℕ) : Type 0 where
+  pub offsets : offsetsValid os (length es) ≡ none
+  pub valid : sequencesValid os es ≡ none
+  pub count : length os ≡ length is + 1
+  pub within : Within is (parts os es)
+
+-- the places, before and after a step from the runs that end at `start`, and the next end
+pub record Stepped (os : List ℕ) (es : List ℤ) (start : ℕ) (is is′ : List ℕ) (end : ℕ) : Type 0 where
+  pub next : is′ ≡ indexes (stepped start (placesOf os es is))
+  pub found : leastEnd (rests (placesOf os es is′)) ≡ endFound end
+  pub small : end < 2 ^ 64 - 1 → end < 2 ^ 63
+
+-- the values of the runs where columns stand, or the fill where one is spent
+abbrev pub valuesAt : List ℕ → List (List ℤ) → ℤ → List ℤ
+valuesAt [] columns fill = []
+valuesAt (i ∷ is) [] fill = []
+valuesAt (i ∷ is) (vs ∷ columns) fill = getD vs i fill ∷ valuesAt is columns fill
+
+-- columns whose values can be folded where they stand
+pub record Foldable (os : List ℕ) (vs : List ℤ) (is : List ℕ) : Type 0 where
+  pub offsets : offsetsValid os (length vs) ≡ none
+  pub count : length os ≡ length is + 1
+  pub some : 0 < length is
+  pub within : Within is (parts os vs)
+
+-- valid columns, each at its first run
+pub record Walkable (os : List ℕ) (es : List ℤ) (is : List ℕ) : Type 0 where
+  pub offsets : offsetsValid os (length es) ≡ none
+  pub valid : sequencesValid os es ≡ none
+  pub first : is ≡ replicate (length os - 1) 0
+
+-- and as many values as ends, and two buffers with room for a run of each of their segments
+pub record Combinable (os : List ℕ) (es vs : List ℤ) (is : List ℕ) (e v : List ℤ) : Type 0 where
+  pub walkable : Walkable os es is
+  pub paired : length es ≡ length vs
+  pub room-ends : length es ≤ length e
+  pub room-values : length es ≤ length v
+
+-- every question of plan_many answered "yes", and of zip_many
+pub record Plannable (os : List ℕ) (es e : List ℤ) (x : List ℕ) : Type 0 where
+  pub offsets : offsetsValid os (length es) ≡ none
+  pub valid : sequencesValid os es ≡ none
+  pub columns : length os - 1 ≤ mostColumns
+  pub room-ends : length es ≤ length e
+  pub room-indexes : length es * (length os - 1) ≤ length x
+
+pub record Zippable (os : List ℕ) (es vs e v : List ℤ) : Type 0 where
+  pub offsets : offsetsValid os (length es) ≡ none
+  pub valid : sequencesValid os es ≡ none
+  pub columns : length os - 1 ≤ mostColumns
+  pub paired : length es ≡ length vs
+  pub room-ends : length es ≤ length e
+  pub room-values : length es ≤ length v
+
+-- the segments in two buffers, each before and after, and how many entries each got
+pub record PlanManyFilled (ss : List Segment) (e e′ : List ℤ) (x x′ : List ℕ) (r : Counts) : Type 0 where
+  pub segments : r .segments ≡ length ss
+  pub indexes : r .indexes ≡ length (allIndexes ss)
+  pub ends-written : e′ ≡ over (segmentEnds ss) e
+  pub indexes-written : x′ ≡ over (allIndexes ss) x
+
+-- ---- the least and the greatest of lengths
+
+abbrev pub leastFrom : ℤ → List ℤ → ℤ
+leastFrom n [] = n
+leastFrom n (m ∷ ms) = leastFrom (smallerOf n m) ms
+
+abbrev pub greatestFrom : ℤ → List ℤ → ℤ
+greatestFrom n [] = n
+greatestFrom n (m ∷ ms) = greatestFrom (largerOf n m) ms
+
+-- from the first of them on, or 0 where there is none
+abbrev pub fromFirst : (ℤ → List ℤ → ℤ) → List ℤ → ℤ
+fromFirst f [] = pos 0
+fromFirst f (n ∷ ns) = f n ns
+
+pub record LengthsOf (ns : List ℤ) (r : Lengths) : Type 0 where
+  pub least : r .least ≡ fromFirst leastFrom ns
+  pub greatest : r .greatest ≡ fromFirst greatestFrom ns

@@ -1,7 +1,181 @@
+pub mod inner;
+
+use column::answer::Asked;
+use column::answer::Counted;
+use column::answer::Fill;
 use column::error::Refusal;
+use column::questions;
+use column::sequence;
+ghost use Prim.Native.Nat.{_+_, _-_, _<_, _^_};
+ghost use mathlib.Core.List.{[], _∷_, map};
+ghost use mathlib.Core.Path.{_≡_};
+ghost use lib.ListN.{length, getD};
+ghost use Rattle.column.specs.Asking.{shownAsked};
+ghost use Rattle.column.specs.Flat.{flat};
+ghost use Rattle.column.specs.Lists.{part, parts};
+ghost use Rattle.column.specs.Paper.{WritesRuns};
+ghost use Rattle.column.specs.Runs.{lengthOfEnds};
+ghost use Rattle.many.specs.Many.{WritesPlanMany};
+ghost use Rattle.many.specs.Many as calls;
+ghost use Rattle.many.specs.Workers.{LengthsOf};
 
 // The answer of `plan_many`: how many segments, and how many indexes, one for each column of each.
 pub enum PlannedMany {
     Counts { segments: usize, indexes: usize },
     Refused(Refusal),
+}
+
+// How many columns there are: one less than offsets.
+fn columns(offsets: &[usize]) -> usize
+    ensures { λ r. ⌜ r ≡ length (now (offsets .entry)) - 1 ⌝ }
+{
+    let n = offsets.len();
+    if n == 0 { 0 } else { n - 1 }
+}
+
+fn plan_many_asks(
+    offsets: &[usize],
+    ends: &[i64],
+    values: &[i64],
+    out_ends: usize,
+    out_idx: usize,
+) -> Asked
+    requires { ⌜ «out_idx» < 2 ^ 64 - 1 ⌝ }
+    ensures { λ r. ⌜ shownAsked r ≡ calls.planManyAsked (flat (now (offsets .entry)) (now (ends .entry)) (now (values .entry))) («out_ends» ∷ «out_idx» ∷ []) ⌝ }
+{
+    let k = columns(offsets);
+    let room = questions::first_no(
+        questions::ask_room(0, ends.len(), out_ends),
+        questions::ask_room(1, num::saturating_mul(ends.len(), k), out_idx),
+    );
+    let most = questions::first_no(questions::ask_columns(rle::Rle::MAX_COLUMNS, k), room);
+    questions::first_no(questions::ask_flat(offsets, ends, values), most)
+}
+
+// The segments of many columns: where each ends, and for each column the run that covers it, or the column's run count where it is
+// spent.
+pub fn plan_many(
+    offsets: &[usize],
+    ends: &[i64],
+    values: &[i64],
+    out_ends: &mut [i64],
+    out_idx: &mut [usize],
+) -> PlannedMany
+    ensures { λ r. ⌜ WritesPlanMany
+        (calls.planMany (flat (now (offsets .entry)) (now (ends .entry)) (now (values .entry))) (length (now («out_ends» .entry)) ∷ length (now («out_idx» .entry)) ∷ [])) r
+        (now («out_ends» .entry)) (now («out_ends» .exit)) (now («out_idx» .entry)) (now («out_idx» .exit)) ⌝ }
+{
+    let asked = plan_many_asks(offsets, ends, values, out_ends.len(), out_idx.len());
+    match asked {
+        Asked::Yes => {
+            let counts = inner::plan_many(offsets, ends, out_ends, out_idx);
+            PlannedMany::Counts {
+                segments: counts.segments,
+                indexes: counts.indexes,
+            }
+        }
+        Asked::No(r) => PlannedMany::Refused(r),
+    }
+}
+
+// The least and the greatest length of columns.
+pub struct Lengths {
+    pub least: i64,
+    pub greatest: i64,
+}
+
+fn length_at(offsets: &[usize], ends: &[i64], c: usize) -> i64
+    requires { ⌜ c + 1 < length (now offsets) ⌝ }
+    ensures { λ r. ⌜ r ≡ lengthOfEnds (part (getD (now (offsets .entry)) c 0) (getD (now (offsets .entry)) (c + 1) 0) (now (ends .entry))) ⌝ }
+{
+    let from = offsets[c];
+    let to = offsets[c + 1];
+    sequence::length(sequence::part(ends, from, to))
+}
+
+fn least_and_greatest(offsets: &[usize], ends: &[i64]) -> Lengths
+    ensures { λ r. ⌜ LengthsOf (map lengthOfEnds (parts (now (offsets .entry)) (now (ends .entry)))) r ⌝ }
+{
+    if offsets.len() < 2 {
+        return Lengths {
+            least: 0,
+            greatest: 0,
+        };
+    }
+    let mut least = length_at(offsets, ends, 0);
+    let mut greatest = least;
+    let mut c: usize = 1;
+    while c + 1 < offsets.len() {
+        let length = length_at(offsets, ends, c);
+        least = num::smaller(least, length);
+        greatest = num::larger(greatest, length);
+        c += 1;
+    }
+    Lengths { least, greatest }
+}
+
+// The least and the greatest length stand for all: a column that is shorter than another lacks its fill exactly if the shortest does.
+fn zip_many_asks(
+    offsets: &[usize],
+    ends: &[i64],
+    values: &[i64],
+    fill: Fill,
+    code: u8,
+    out_ends: usize,
+    out_values: usize,
+) -> Asked
+    ensures { λ r. ⌜ shownAsked r ≡ calls.zipManyAsked (flat (now (offsets .entry)) (now (ends .entry)) (now (values .entry))) fill code («out_ends» ∷ «out_values» ∷ []) ⌝ }
+{
+    let room = questions::ask_both(ends.len(), out_ends, out_values);
+    let lengths = least_and_greatest(offsets, ends);
+    let filled = questions::first_no(
+        questions::ask_fills(lengths.least, lengths.greatest, fill, fill),
+        room,
+    );
+    let most = questions::first_no(
+        questions::ask_columns(rle::Rle::MAX_COLUMNS, columns(offsets)),
+        filled,
+    );
+    let valid = questions::first_no(questions::ask_flat(offsets, ends, values), most);
+    questions::first_no(questions::ask_code(0, 9, code), valid)
+}
+
+// Many columns combined position by position, folded from the first, merged.
+pub fn zip_many(
+    offsets: &[usize],
+    ends: &[i64],
+    values: &[i64],
+    fill: Fill,
+    code: u8,
+    out_ends: &mut [i64],
+    out_values: &mut [i64],
+) -> Counted
+    ensures { λ r. ⌜ WritesRuns
+        (calls.zipMany (flat (now (offsets .entry)) (now (ends .entry)) (now (values .entry))) fill code (length (now («out_ends» .entry)) ∷ length (now («out_values» .entry)) ∷ [])) r
+        (now («out_ends» .entry)) (now («out_ends» .exit)) (now («out_values» .entry)) (now («out_values» .exit)) ⌝ }
+{
+    let asked = zip_many_asks(
+        offsets,
+        ends,
+        values,
+        fill,
+        code,
+        out_ends.len(),
+        out_values.len(),
+    );
+    match asked {
+        Asked::Yes => {
+            let n = inner::zip_many(
+                offsets,
+                ends,
+                values,
+                fill.value(),
+                code,
+                out_ends,
+                out_values,
+            );
+            Counted::Count(n)
+        }
+        Asked::No(r) => Counted::Refused(r),
+    }
 }

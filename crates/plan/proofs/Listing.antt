@@ -53,7 +53,7 @@ module _ {start : List Place} {done : List Segment} {ps : List Place} (l : Listi
 
 -- ---- a walk that started at the first runs lists all segments
 
-left-first : (ends : List (List ℕ)) → left (firstPlaces ends) ≡ total (map length ends)
+pub left-first : (ends : List (List ℕ)) → left (firstPlaces ends) ≡ total (map length ends)
 left-first [] = refl
 left-first (es ∷ ends) = rw (left-first ends)
 

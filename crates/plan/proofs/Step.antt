@@ -16,6 +16,7 @@ use borrow.Author.Tests.{leb-true, leb-false, le-leb, lt-leb, ltb-true, ltb-fals
 use Rattle.num.specs.Numbers.{eqZ, smallerOf}
 use Rattle.num.proofs.Tests.{by-test, eqZ-refl}
 use Rattle.column.specs.Runs.{magnitude}
+use Rattle.column.proofs.Naturals.{smaller-naturals}
 use Rattle.plan.specs.declared.inner.Segments.{Segments}
 use Rattle.plan.specs.Plan.{steppedOn}
 use Rattle.plan.specs.Walk.{placeAt, placesAt, Steps}
@@ -49,11 +50,7 @@ module _ (es : List ℤ) (i : ℕ) where
 -- ---- two columns
 
 smaller-natural : (x y : ℤ) → x ≡ pos (magnitude x) → y ≡ pos (magnitude y) → smallerOf x y ≡ pos (min (magnitude x) (magnitude y))
-smaller-natural x y nx ny =
-    rw (nx, ny)
-    (by-test (leb (magnitude x) (magnitude y))
-    (λ t. let h = leb-true (magnitude x) (magnitude y) t in rw t (let m : magnitude x ≡ min (magnitude x) (magnitude y) = omega arith in ap pos m))
-    (λ t. let h = leb-false (magnitude x) (magnitude y) t in rw t (let m : magnitude y ≡ min (magnitude x) (magnitude y) = omega arith in ap pos m)))
+smaller-natural x y nx ny = rw (nx, ny) (smaller-naturals (magnitude x) (magnitude y))
 
 least-test : (m n k : ℕ) → k ≡ min m n → leb m n ≡ eqb m k
 least-test m n k e =

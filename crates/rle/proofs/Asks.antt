@@ -12,7 +12,7 @@ use Rattle.column.specs.Lists.{part}
 use Rattle.column.specs.Questions.{agree, paired, usedWithin, endsValid, notNegative, fits, runByRun, longEnough, roomAt, room, both}
 use Rattle.column.specs.Runs.{sequence, magnitude, runsOf, lengthOf, lengthOfEnds}
 use Rattle.column.proofs.Ends.{length-of-ends}
-use Rattle.column.proofs.FirstNo.{all-yes, asked-next, asked-last, first-two}
+use Rattle.column.proofs.FirstNo.{all-yes, asked-next, asked-last, first-several}
 use Rattle.column.proofs.Told.{agree-told, used-told}
 use Rattle.column.proofs.Used.{used-paired}
 use Rattle.column.proofs.YesNo.{room-one}
@@ -33,7 +33,7 @@ to-dense-asked es vs g h p q en ex =
     (λ y. let z = all-yes (paired (sequence es vs) ∷ endsValid es ∷ []) y in
     let l = length-of-ends es vs (z .1 .0) (agree-told 3 (length es) (length vs) (z .0)) in
     q ∙ ap (λ (k : ℕ). roomAt 0 k g) (en ∙ ap magnitude (ex ∙ l)) ∙ sym (room-one (lengthOf (runsOf es vs)) g))
-    ∙ sym (first-two (paired (sequence es vs)) (endsValid es) (room (lengthOf (runsOf es vs) ∷ []) (g ∷ []) ∷ []))
+    ∙ sym (first-several (paired (sequence es vs) ∷ endsValid es ∷ []) (room (lengthOf (runsOf es vs) ∷ []) (g ∷ []) ∷ []))
 
 -- ---- behind the used entries
 

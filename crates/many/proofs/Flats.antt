@@ -1,0 +1,112 @@
+-- Columns laid flat, as the walk sees them: their ends, and their values where they stand.
+-- Assumes nothing.
+use Prim.Native.Nat.{ℕ, _+_, _<_}
+use mathlib.Core.Option.{none}
+use mathlib.Core.List.{List, [], _∷_, map, map-map}
+use mathlib.Core.Path.{_≡_, refl, ap, ap₂, _∙_}
+use native.Mathlib.Omega.{arith}
+use lib.IntN.{ℤ}
+use lib.ListN.{length, getD}
+use Rattle.column.specs.declared.answer.Fill.{Fill}
+use Rattle.column.specs.declared.answer.Fill.the-variants.{Value}
+use Rattle.column.specs.Combine.{Column, many, valueOf, valueAt, greatestLength, folded, rowAt, table, combined}
+use Rattle.column.specs.Flat.{flat, sequencesFrom, columns}
+use Rattle.column.specs.Lists.{total, part, partsFrom, parts}
+use Rattle.column.specs.Questions.{sequencesValid}
+use Rattle.column.specs.Runs.{Runs, runs, magnitude, encode, Filled}
+use Rattle.column.proofs.All.{All}
+use Rattle.column.proofs.Ends.{values-runs}
+use Rattle.column.proofs.Flattened.{columns-by-ends, columns-valid, sequences-told, total-parts}
+use Rattle.column.proofs.Parts.{part-paired}
+use Rattle.column.proofs.Positions.{eachPosition-cong}
+use Rattle.column.proofs.Rising.{Valid}
+use Rattle.plan.specs.Plan.{endsIn, valuesFor}
+use Rattle.plan.proofs.Columns.{ends-in}
+use Rattle.many.specs.Workers.{Within, Placed, Foldable, valuesAt}
+use Rattle.many.proofs.Places.{placed-paired}
+use Rattle.many.proofs.Walking.{endsOfParts}
+
+module _ (os : List ℕ) (es vs : List ℤ) (l : length es ≡ length vs) (v : sequencesValid os es ≡ none) where
+  -- their ends
+  pub ends-columns : map endsIn (columns (flat os es vs)) ≡ endsOfParts os es
+  ends-columns = columns-by-ends endsIn (map magnitude) (λ xs ys h k. ends-in xs ys k) os es vs l (sequences-told os es v)
+
+  -- each with the single fill
+  module _ (fill : Fill) where
+    pub ends-many : map (λ (c : Column). endsIn (c .runs)) (many fill (columns (flat os es vs))) ≡ endsOfParts os es
+    ends-many = map-map (λ (c : Column). endsIn (c .runs)) (λ (c : Runs). record { fill = fill; runs = c }) (columns (flat os es vs)) ∙ ends-columns
+
+    pub many-valid : All (λ (c : Column). Valid (c .runs)) (many fill (columns (flat os es vs)))
+    many-valid = go (columns (flat os es vs)) (columns-valid os es vs (sequences-told os es v))
+      where
+        go : (cs : List Runs) → All Valid cs → All (λ (c : Column). Valid (c .runs)) (many fill cs)
+        go [] a = tt
+        go (c ∷ cs) a = (a .0, go cs (a .1))
+
+values-from : (fill : Fill) (a : ℕ) (os : List ℕ) (es vs : List ℤ) (is : List ℕ) → length es ≡ length vs
+    → valuesFor (many fill (map runs (sequencesFrom a os es vs))) is ≡ valuesAt is (partsFrom a os vs) (valueOf fill)
+unfolding sequencesFrom partsFrom
+values-from fill a [] es vs [] l = refl
+values-from fill a [] es vs (i ∷ is) l = refl
+values-from fill a (b ∷ os) es vs [] l = refl
+values-from fill a (b ∷ os) es vs (i ∷ is) l =
+    ap₂ (λ (x : ℤ) (xs : List ℤ). x ∷ xs)
+    (ap (λ (ys : List ℤ). getD ys i (valueOf fill)) (values-runs (part a b es) (part a b vs) (part-paired a b es vs l)))
+    (values-from fill b os es vs is l)
+
+-- their values where they stand
+pub values-columns : (fill : Fill) (os : List ℕ) (es vs : List ℤ) (is : List ℕ) → length es ≡ length vs
+    → valuesFor (many fill (columns (flat os es vs))) is ≡ valuesAt is (parts os vs) (valueOf fill)
+unfolding columns
+values-columns fill [] es vs [] l = refl
+values-columns fill [] es vs (i ∷ is) l = refl
+values-columns fill (a ∷ os) es vs is l = values-from fill a os es vs is l
+
+-- ---- the places fit the values as they fit the ends
+
+within-from : (a : ℕ) (os : List ℕ) (es vs : List ℤ) (is : List ℕ) → length es ≡ length vs → Within is (partsFrom a os es) → Within is (partsFrom a os vs)
+unfolding partsFrom
+within-from a [] es vs [] l w = tt
+within-from a [] es vs (i ∷ is) l w = tt
+within-from a (b ∷ os) es vs [] l w = tt
+within-from a (b ∷ os) es vs (i ∷ is) l w = (omega (arith, w .0, part-paired a b es vs l), within-from b os es vs is l (w .1))
+
+within-values : (os : List ℕ) (es vs : List ℤ) (is : List ℕ) → length es ≡ length vs → Within is (parts os es) → Within is (parts os vs)
+within-values [] es vs [] l w = tt
+within-values [] es vs (i ∷ is) l w = tt
+within-values (a ∷ os) es vs is l w = within-from a os es vs is l w
+
+-- where there are runs, there is a column
+placed-some : {os : List ℕ} {es : List ℤ} {is : List ℕ} → Placed os es is → 0 < length es → 0 < length is
+placed-some {os} {es} q h = go (parts os es) (placed-paired q) (total-parts os es (q .offsets))
+  where
+    go : {n : ℕ} (ess : List (List ℤ)) → n ≡ length ess → total (map length ess) ≡ length es → 0 < n
+    go [] e t = let z : ⊥ = omega arith in absurd z
+    go (xs ∷ ess) e t = omega arith
+
+pub placed-foldable : {os : List ℕ} {es : List ℤ} {is : List ℕ} (vs : List ℤ) → Placed os es is → length es ≡ length vs → 0 < length es → Foldable os vs is
+placed-foldable {os} {es} {is} vs q l h = record { offsets = rw l at (q .offsets); count = q .count; some = placed-some q h; within = within-values os es vs is l (q .within) }
+
+-- ---- a fill that is missing shows nowhere: the result is that of its value
+
+module _ (f g : Fill) (e : valueOf f ≡ valueOf g) where
+  same-values : (i : ℕ) (cs : List Runs) → map (valueAt i) (many f cs) ≡ map (valueAt i) (many g cs)
+  unfolding valueAt
+  same-values i [] = refl
+  same-values i (c ∷ cs) = ap₂ (λ (x : ℤ) (xs : List ℤ). x ∷ xs) (rw e) (same-values i cs)
+
+  same-length : (cs : List Runs) → greatestLength (many f cs) ≡ greatestLength (many g cs)
+  unfolding greatestLength
+  same-length [] = refl
+  same-length (c ∷ cs) = rw (same-length cs)
+
+  same-combined : (op : ℤ → ℤ → ℤ) (cs : List Runs) → combined op (many f cs) ≡ combined op (many g cs)
+  unfolding combined table rowAt
+  same-combined op cs =
+      ap encode
+      (rw (same-length cs)
+      (eachPosition-cong (rowAt op (many f cs)) (rowAt op (many g cs)) 0 0 (greatestLength (many g cs)) (λ i h. ap (folded op) (same-values (0 + i) cs))))
+
+pub combined-filled : (op : ℤ → ℤ → ℤ) (fill : Fill) (cs : List Runs) {x : ℤ} {e e′ v v′ : List ℤ} {n : ℕ} → x ≡ valueOf fill
+    → Filled (combined op (many (Value x) cs)) e e′ v v′ n → Filled (combined op (many fill cs)) e e′ v v′ n
+combined-filled op fill cs {x} ex f = rw (same-combined (Value x) fill ex op cs) at f

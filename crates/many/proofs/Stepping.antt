@@ -1,0 +1,136 @@
+-- The loop of a step: columns up to the c-th have gone on, to the indexes `done`, and l is the least of their ends.
+-- Assumes nothing.
+use Prim.Native.Nat.{ℕ, suc, _+_, _-_, _≤_, _<_, _^_, min}
+use mathlib.Core.Bool.{cond}
+use mathlib.Core.Option.{none}
+use mathlib.Core.List.{List, [], _∷_, _++_, map}
+use mathlib.Core.Path.{_≡_, refl, ap, sym, _∙_}
+use native.Mathlib.Numerals.{add-one}
+use native.Mathlib.Omega.{arith}
+use lib.Dec.{eqb}
+use lib.IntN.{ℤ}
+use lib.ListN.{length, getD, drop, set, length-append, length-drop, drop-of-length-le}
+use lib.Seq.{drop-cons, set-at, getD-at, append-snoc}
+use Rattle.column.specs.Lists.{parts}
+use Rattle.column.specs.Questions.{endsValid}
+use Rattle.column.specs.Runs.{magnitude}
+use Rattle.column.proofs.Flattened.{AllValid, offset-within, sequences-told}
+use Rattle.column.proofs.Parts.{partsAt, parts-start, length-part}
+use Rattle.plan.specs.Plan.{Place, leastEnd, steppedOn, rests, indexes, stepped}
+use Rattle.plan.specs.Walk.{placeAt}
+use Rattle.plan.proofs.Segments.{least-cons}
+use Rattle.plan.proofs.Step.{ahead}
+use Rattle.plan.proofs.Walking.{place-within}
+use Rattle.many.specs.Workers.{placesOf, Within, InColumn, EndAt, Placed, Stepped}
+use Rattle.many.proofs.Entries.{place-moves, earlier, earlier-next, earlier-small}
+use Rattle.many.proofs.Places.{columnAt, placesFrom, places-cons, within-cons, valid-cons, places-again}
+
+module _ (os : List ℕ) (es : List ℤ) (m : ℕ) (is : List ℕ) where
+  abbrev rest : ℕ → List Place
+  rest c = stepped m (placesFrom os es is c)
+
+  pub record Stepping (is′ : List ℕ) (l c : ℕ) : Type 0 where
+    pub done : List ℕ
+    pub passed : length done ≡ c
+    pub inside : c ≤ length is
+    pub places : is′ ≡ done ++ drop c is
+    pub steps : indexes (stepped m (placesOf os es is)) ≡ done ++ indexes (rest c)
+    pub least : leastEnd (rests (stepped m (placesOf os es is))) ≡ earlier l (leastEnd (rests (rest c)))
+    pub bounded : l < 2 ^ 64
+    pub small : l < 2 ^ 64 - 1 → l < 2 ^ 63
+    pub within : Within (drop c is) (partsAt c os es)
+    pub valid : AllValid (partsAt c os es)
+
+  pub step-start : Placed os es is → Stepping is (2 ^ 64 - 1) 0
+  step-start q =
+      let p = parts-start os es in
+      record {
+        done = [];
+        passed = refl;
+        inside = omega arith;
+        places = refl;
+        steps = rw p;
+        least = rw p;
+        bounded = omega arith;
+        small = λ z. let y : ⊥ = omega arith in absurd y;
+        within = rw p at (q .within);
+        valid = rw p at (sequences-told os es (q .valid));
+      }
+
+module _ {os : List ℕ} {es : List ℤ} {m : ℕ} {is is′ : List ℕ} {l c : ℕ} (s : Stepping os es m is is′ l c) where
+  pub step-long : length is′ ≡ length is
+  step-long = ap length (s .places) ∙ simp (length-append, length-drop) (omega (arith, s .passed, s .inside))
+
+  pub step-end : length is ≤ c → Stepped os es m is is′ l
+  step-end h =
+      let none-left : drop c is ≡ [] = drop-of-length-le is {i = c} h in
+      let n : is′ ≡ indexes (stepped m (placesOf os es is)) = (rw none-left at (s .places)) ∙ sym (rw none-left at (s .steps)) in
+      record {
+        next = n;
+        found = ap (λ (l : List ℕ). leastEnd (rests (placesOf os es l))) n ∙ ap (λ (ps : List Place). leastEnd (rests ps)) (places-again m is (parts os es)) ∙ (rw none-left at (s .least));
+        small = s .small;
+      }
+
+  -- the next column, at its place i
+  module _ (q : Placed os es is) (more : c < length is′) where
+    h : c < length is
+    h = omega (arith, step-long)
+
+    some-offset : c + 1 < length os
+    some-offset = omega (arith, q .count, step-long)
+
+    abbrev column : List ℤ
+    column = columnAt os es is c
+
+    abbrev i : ℕ
+    i = getD is′ c 0
+
+    unmoved : i ≡ getD is c 0
+    unmoved = rw (s .places, drop-cons is c 0 h) (getD-at (s .done) (getD is c 0) (drop (suc c) is) 0 c (s .passed))
+
+    pub step-valid : endsValid column ≡ none
+    step-valid = valid-cons os es is c h some-offset (s .valid) .0
+
+    in-column : (j : ℕ) → j ≤ length column → InColumn es (getD os c 0) (getD os (c + 1) 0) j
+    in-column j k =
+        let o = offset-within os (length es) c (q .offsets) some-offset in
+        record { inside = o .1; place = omega (arith, o .0, length-part (getD os c 0) (getD os (c + 1) 0) es (o .1)) }
+
+    place-inside : i ≤ length column
+    place-inside = omega (arith, unmoved, within-cons os es is c h some-offset (s .within) .0)
+
+    pub step-at : InColumn es (getD os c 0) (getD os (c + 1) 0) i
+    step-at = in-column i place-inside
+
+    module _ {e n : ℕ} (a : EndAt (ahead column i) e) (small : m < 2 ^ 64 - 1) (en : n ≡ i + cond (eqb e m) 1 0) where
+      moved : placeAt column n ≡ steppedOn m i (ahead column i)
+      moved = place-moves m column i a small en
+
+      pub step-moved : InColumn es (getD os c 0) (getD os (c + 1) 0) n
+      step-moved = in-column n (place-within column i n m moved place-inside)
+
+      abbrev others : List Place
+      others = rest os es m is (c + 1)
+
+      step-cons : rest os es m is c ≡ placeAt column n ∷ others
+      step-cons = ap (stepped m) (places-cons os es is c h some-offset) ∙ ap {B = List Place} (λ p. p ∷ others) (sym (rw unmoved at moved))
+
+      -- e is its end, and e′ the next one
+      pub step-next : {e′ l′ : ℕ} → EndAt (map magnitude (drop n column)) e′ → l′ ≡ min l e′ → Stepping os es m is (set is′ c n) l′ (c + 1)
+      step-next b el =
+          record {
+            done = s .done ++ n ∷ [];
+            passed = simp length-append (omega (arith, s .passed));
+            inside = omega (arith, h);
+            places = rw (s .places, drop-cons is c 0 h, set-at (s .done) (getD is c 0) (drop (suc c) is) n c (s .passed), add-one c) (sym (append-snoc (s .done) n (drop (suc c) is)));
+            steps = s .steps ∙ rw step-cons (sym (append-snoc (s .done) n (indexes others)));
+            least = s .least
+                ∙ rw step-cons
+                (ap (earlier l) (least-cons (map magnitude (drop n column)) (rests others))
+                ∙ earlier-next l (map magnitude (drop n column)) (leastEnd (rests others)) b (s .bounded)
+                ∙ ap (λ (x : ℕ). earlier x (leastEnd (rests others))) (sym el));
+            bounded = omega (arith, s .bounded);
+            small = rw el (earlier-small l (map magnitude (drop n column)) b (s .small));
+            within = within-cons os es is c h some-offset (s .within) .1;
+            valid = valid-cons os es is c h some-offset (s .valid) .1;
+          }

@@ -1,0 +1,203 @@
+// Workers that assume what the calls have asked, and the walk over the segments of many columns. The ends are valid.
+use column::inner::Writer;
+ghost use Prim.Native.Nat.{_+_, _*_, _-_, _≤_, _<_, _^_};
+ghost use mathlib.Core.Bool.{cond};
+ghost use mathlib.Core.List.{_++_, map};
+ghost use mathlib.Core.Option.{none};
+ghost use mathlib.Core.Path.{_≡_};
+ghost use lib.Dec.{eqb};
+ghost use lib.ListN.{length, getD, take, drop};
+ghost use Rattle.num.specs.Numbers.{operation};
+ghost use Rattle.column.specs.declared.answer.Fill.the-variants.{Value};
+ghost use Rattle.column.specs.Combine.{many, folded, combined};
+ghost use Rattle.column.specs.Flat.{flat, columns};
+ghost use Rattle.column.specs.Lists.{part, parts};
+ghost use Rattle.column.specs.Questions.{endsValid};
+ghost use Rattle.column.specs.Runs.{magnitude, over, Filled};
+ghost use Rattle.plan.specs.Plan.{segments};
+ghost use Rattle.many.specs.Workers.{InColumn, EndAt, Placed, Stepped, valuesAt, Foldable, Walkable, Combinable, Plannable, Zippable, PlanManyFilled};
+
+// No end is as large: it stands where no run is left.
+const NONE: usize = usize::MAX;
+
+// How many segments were written, and how many indexes.
+pub struct Counts {
+    pub segments: usize,
+    pub indexes: usize,
+}
+
+// The end of the run where a column stands, or `NONE` where the column is spent. The column's runs are those from `from` up to `to`.
+fn end_at(ends: &[i64], from: usize, to: usize, place: usize) -> usize
+    requires { ⌜ InColumn (now ends) from to place × (endsValid (part from to (now ends)) ≡ none) ⌝ }
+    ensures { λ r. ⌜ EndAt (map magnitude (drop place (part from to (now (ends .entry))))) r ⌝ }
+{
+    let at = from + place;
+    if at < to {
+        let end = ends[at];
+        end as usize
+    } else {
+        NONE
+    }
+}
+
+// The place behind a run that ends at `start`; else its own.
+fn stepped(place: usize, end: usize, start: usize) -> usize
+    requires { ⌜ place + 1 < 2 ^ 64 ⌝ }
+    ensures { λ r. ⌜ r ≡ place + cond (eqb end start) 1 0 ⌝ }
+{
+    if end == start { place + 1 } else { place }
+}
+
+// Each column whose current run ends at `start` goes on to its next one. The least of the ends of the runs that are current then, or
+// `NONE`. No branch tells which columns go on.
+pub fn step(offsets: &[usize], ends: &[i64], places: &mut [usize], start: usize) -> usize
+    requires { ⌜ Placed (now offsets) (now ends) (now places) × (start < 2 ^ 64 - 1) ⌝ }
+    ensures { λ r. ⌜ Stepped (now (offsets .entry)) (now (ends .entry)) start (now (places .entry)) (now (places .exit)) r ⌝ }
+{
+    let mut least = NONE;
+    let mut c: usize = 0;
+    while c < places.len() {
+        let from = offsets[c];
+        let to = offsets[c + 1];
+        let place = places[c];
+        let next = stepped(place, end_at(ends, from, to, place), start);
+        places[c] = next;
+        least = num::smaller_count(least, end_at(ends, from, to, next));
+        c += 1;
+    }
+    least
+}
+
+// The value of the run where a column stands, or the fill where it is spent.
+fn value_at(values: &[i64], from: usize, to: usize, place: usize, fill: i64) -> i64
+    requires { ⌜ InColumn (now values) from to place ⌝ }
+    ensures { λ r. ⌜ r ≡ getD (part from to (now (values .entry))) place fill ⌝ }
+{
+    let at = from + place;
+    if at < to { values[at] } else { fill }
+}
+
+// The values where the columns stand, folded from the first column.
+fn fold(code: u8, offsets: &[usize], values: &[i64], places: &[usize], fill: i64) -> i64
+    requires { ⌜ Foldable (now offsets) (now values) (now places) ⌝ }
+    ensures { λ r. ⌜ r ≡ folded (operation code) (valuesAt (now (places .entry)) (parts (now (offsets .entry)) (now (values .entry))) fill) ⌝ }
+{
+    let mut value = value_at(values, offsets[0], offsets[1], places[0], fill);
+    let mut c: usize = 1;
+    while c < places.len() {
+        let next = value_at(values, offsets[c], offsets[c + 1], places[c], fill);
+        value = num::apply(code, value, next);
+        c += 1;
+    }
+    value
+}
+
+// The places, written from `at` on; the index behind them.
+fn put_places(places: &[usize], out: &mut [usize], at: usize) -> usize
+    requires { ⌜ at + length (now places) ≤ length (now out) ⌝ }
+    ensures { λ r. ⌜ (r ≡ at + length (now (places .entry))) × (now (out .exit) ≡ take at (now (out .entry)) ++ over (now (places .entry)) (drop at (now (out .entry)))) ⌝ }
+{
+    let mut c: usize = 0;
+    while c < places.len() {
+        let place = places[c];
+        out[at + c] = place;
+        c += 1;
+    }
+    at + c
+}
+
+// The segments, with the columns' places in a lent buffer.
+fn plan_walk(
+    offsets: &[usize],
+    ends: &[i64],
+    places: &mut [usize],
+    out_ends: &mut [i64],
+    out_idx: &mut [usize],
+) -> Counts
+    requires { ⌜ Walkable (now offsets) (now ends) (now places) × (length (now ends) ≤ length (now «out_ends»)) × (length (now ends) * (length (now offsets) - 1) ≤ length (now «out_idx»)) ⌝ }
+    ensures { λ r. ⌜ PlanManyFilled (segments (map (map magnitude) (parts (now (offsets .entry)) (now (ends .entry))))) (now («out_ends» .entry)) (now («out_ends» .exit)) (now («out_idx» .entry)) (now («out_idx» .exit)) r ⌝ }
+{
+    let mut n: usize = 0;
+    let mut m: usize = 0;
+    let mut end = step(offsets, ends, places, 0);
+    while end < NONE {
+        out_ends[n] = end as i64;
+        n += 1;
+        m = put_places(places, out_idx, m);
+        end = step(offsets, ends, places, end);
+    }
+    Counts {
+        segments: n,
+        indexes: m,
+    }
+}
+
+pub fn plan_many(
+    offsets: &[usize],
+    ends: &[i64],
+    out_ends: &mut [i64],
+    out_idx: &mut [usize],
+) -> Counts
+    requires { ⌜ Plannable (now offsets) (now ends) (now «out_ends») (now «out_idx») ⌝ }
+    ensures { λ r. ⌜ PlanManyFilled (segments (map (map magnitude) (parts (now (offsets .entry)) (now (ends .entry))))) (now («out_ends» .entry)) (now («out_ends» .exit)) (now («out_idx» .entry)) (now («out_idx» .exit)) r ⌝ }
+{
+    let k = offsets.len() - 1;
+    let mut places = [0usize; rle::Rle::MAX_COLUMNS];
+    plan_walk(offsets, ends, &mut places[..k], out_ends, out_idx)
+}
+
+// What the columns show together, merged, with the columns' places in a lent buffer.
+fn zip_walk(
+    offsets: &[usize],
+    ends: &[i64],
+    values: &[i64],
+    fill: i64,
+    code: u8,
+    places: &mut [usize],
+    out_ends: &mut [i64],
+    out_values: &mut [i64],
+) -> usize
+    requires { ⌜ Combinable (now offsets) (now ends) (now values) (now places) (now «out_ends») (now «out_values») ⌝ }
+    ensures { λ r. ⌜ Filled (combined (operation code) (many (Value fill) (columns (flat (now (offsets .entry)) (now (ends .entry)) (now (values .entry))))))
+        (now («out_ends» .entry)) (now («out_ends» .exit)) (now («out_values» .entry)) (now («out_values» .exit)) r ⌝ }
+{
+    if ends.len() == 0 {
+        return 0;
+    }
+    let mut end = step(offsets, ends, places, 0);
+    let first = fold(code, offsets, values, places, fill);
+    let mut writer = Writer { at: 0, last: first };
+    while end < NONE {
+        let value = fold(code, offsets, values, places, fill);
+        writer = column::inner::push_merged(writer, out_ends, out_values, end as i64, value);
+        end = step(offsets, ends, places, end);
+    }
+    writer.at + 1
+}
+
+pub fn zip_many(
+    offsets: &[usize],
+    ends: &[i64],
+    values: &[i64],
+    fill: i64,
+    code: u8,
+    out_ends: &mut [i64],
+    out_values: &mut [i64],
+) -> usize
+    requires { ⌜ Zippable (now offsets) (now ends) (now values) (now «out_ends») (now «out_values») ⌝ }
+    ensures { λ r. ⌜ Filled (combined (operation code) (many (Value fill) (columns (flat (now (offsets .entry)) (now (ends .entry)) (now (values .entry))))))
+        (now («out_ends» .entry)) (now («out_ends» .exit)) (now («out_values» .entry)) (now («out_values» .exit)) r ⌝ }
+{
+    let k = offsets.len() - 1;
+    let mut places = [0usize; rle::Rle::MAX_COLUMNS];
+    zip_walk(
+        offsets,
+        ends,
+        values,
+        fill,
+        code,
+        &mut places[..k],
+        out_ends,
+        out_values,
+    )
+}
