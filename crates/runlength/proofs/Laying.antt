@@ -19,11 +19,13 @@ use Rattle.column.specs.declared.error.InKey.{InKey}
 use Rattle.column.specs.declared.error.InKey.the-variants.{Outside, Position}
 use Rattle.column.specs.declared.error.Refusal.{Refusal}
 use Rattle.column.specs.Paper.{numberOf}
+use Rattle.many.specs.declared.PlannedMany.{PlannedMany}
 use Rattle.rle.specs.declared.Equality.{Equality}
 use Rattle.runlength.specs.declared.RlCounted.{RlCounted}
 use Rattle.runlength.specs.declared.RlEquality.{RlEquality}
+use Rattle.runlength.specs.declared.RlPlannedMany.{RlPlannedMany}
 use Rattle.runlength.specs.declared.RlRefusal.{RlRefusal}
-use Rattle.runlength.specs.Reading.{readError, readInKey, readRefusal, readChecked, readCounted, readEquality, bitsAt, carried, placeOf, fields, laidRefusal, laidChecked, laidCounted, laidEquality}
+use Rattle.runlength.specs.Reading.{readError, readInKey, readRefusal, readChecked, readCounted, readEquality, readPlannedMany, bitsAt, carried, placeOf, fields, laidRefusal, laidChecked, laidCounted, laidEquality, laidPlannedMany}
 
 -- the bits of an i64, as `as_unsigned` tells them, out of which it is read
 pub signed-told : (z : ℤ) {u : ℕ} → mag z < 2 ^ 63 → u ≡ residue (toZ w64 (ofZ w64 z)) → (u ≡ residue z) × (signed u ≡ z)
@@ -67,6 +69,9 @@ counted x n = record { refusal = x; count = n }
 abbrev equality : RlRefusal → ℕ → RlEquality
 equality x n = record { refusal = x; equal = n }
 
+abbrev planned : RlRefusal → ℕ → ℕ → RlPlannedMany
+planned x n m = record { refusal = x; segments = n; indexes = m }
+
 module _ {r : Refusal} {x : RlRefusal} (again : readRefusal x ≡ r) (laid : x ≡ laidRefusal r) where
   refused : eqb (x .number) 0 ≡ false
   refused = ap (λ (y : RlRefusal). eqb (y .number) 0) laid ∙ not-zero (r .error)
@@ -80,6 +85,9 @@ module _ {r : Refusal} {x : RlRefusal} (again : readRefusal x ≡ r) (laid : x �
   pub equality-refused : {c : Equality} → c ≡ Equality.Refused r → (readEquality (equality x 0) ≡ c) × (equality x 0 ≡ laidEquality c)
   equality-refused e = rw (e, refused) (ap Equality.Refused again, ap (λ (y : RlRefusal). equality y 0) laid)
 
+  pub planned-refused : {c : PlannedMany} → c ≡ PlannedMany.Refused r → (readPlannedMany (planned x 0 0) ≡ c) × (planned x 0 0 ≡ laidPlannedMany c)
+  planned-refused e = rw (e, refused) (ap PlannedMany.Refused again, ap (λ (y : RlRefusal). planned y 0 0) laid)
+
 module _ {x : RlRefusal} (laid : x ≡ laidChecked Checked.Valid) where
   pub checked-valid : {c : Checked} → c ≡ Checked.Valid → (readChecked x ≡ c) × (x ≡ laidChecked c)
   checked-valid e = rw (e, laid) (refl, refl)
@@ -92,3 +100,6 @@ module _ {x : RlRefusal} (laid : x ≡ laidChecked Checked.Valid) where
 
   pub equality-different : {c : Equality} → c ≡ Equality.Different → (readEquality (equality x 0) ≡ c) × (equality x 0 ≡ laidEquality c)
   equality-different e = rw (e, laid) (refl, refl)
+
+  pub planned-counts : {c : PlannedMany} {n m : ℕ} → c ≡ PlannedMany.Counts n m → (readPlannedMany (planned x n m) ≡ c) × (planned x n m ≡ laidPlannedMany c)
+  planned-counts e = rw (e, laid) (refl, refl)

@@ -18,12 +18,15 @@ use Rattle.column.specs.declared.error.InKey.the-variants.{Outside, Position}
 use Rattle.column.specs.declared.error.Refusal.{Refusal}
 use Rattle.column.specs.Paper.{Outcome, numberOf, shownBy, shownChecked, WritesRuns, WritesEntries}
 use Rattle.column.specs.Runs.{Runs}
+use Rattle.many.specs.declared.PlannedMany.{PlannedMany}
+use Rattle.many.specs.Many.{WritesPlanMany}
 use Rattle.plan.specs.Plan.{Segment, WritesPlan}
 use Rattle.rle.specs.declared.Equality.{Equality}
 use Rattle.rle.specs.Rle.{shownEquality}
 use Rattle.runlength.specs.declared.RlCounted.{RlCounted}
 use Rattle.runlength.specs.declared.RlEquality.{RlEquality}
 use Rattle.runlength.specs.declared.RlFill.{RlFill}
+use Rattle.runlength.specs.declared.RlPlannedMany.{RlPlannedMany}
 use Rattle.runlength.specs.declared.RlRefusal.{RlRefusal}
 
 -- ---- reading
@@ -64,6 +67,9 @@ readCounted r = cond (eqb (r .refusal .number) 0) (Counted.Count (r .count)) (Co
 
 abbrev pub readEquality : RlEquality → Equality
 readEquality r = cond (eqb (r .refusal .number) 0) (cond (eqb (r .equal) 0) Equality.Different Equality.Equal) (Equality.Refused (readRefusal (r .refusal)))
+
+abbrev pub readPlannedMany : RlPlannedMany → PlannedMany
+readPlannedMany r = cond (eqb (r .refusal .number) 0) (PlannedMany.Counts (r .segments) (r .indexes)) (PlannedMany.Refused (readRefusal (r .refusal)))
 
 -- and a fill that is not given is missing
 abbrev pub readFill : RlFill → Fill
@@ -106,6 +112,10 @@ laidEquality Equality.Equal = record { refusal = laidChecked Checked.Valid; equa
 laidEquality Equality.Different = record { refusal = laidChecked Checked.Valid; equal = 0 }
 laidEquality (Equality.Refused r) = record { refusal = laidRefusal r; equal = 0 }
 
+abbrev pub laidPlannedMany : PlannedMany → RlPlannedMany
+laidPlannedMany (PlannedMany.Counts n m) = record { refusal = laidChecked Checked.Valid; segments = n; indexes = m }
+laidPlannedMany (PlannedMany.Refused r) = record { refusal = laidRefusal r; segments = 0; indexes = 0 }
+
 -- ---- the promises: the Rattle call's own, for the answer that is read, and no field left open
 
 pub record LaidRuns (o : Outcome Runs) (r : RlCounted) (e e′ v v′ : List ℤ) : Type 0 where
@@ -127,3 +137,7 @@ pub record LaidEquality (o : Outcome Bool) (r : RlEquality) : Type 0 where
 pub record LaidPlan (o : Outcome (List Segment)) (r : RlCounted) (e e′ : List ℤ) (a a′ b b′ : List ℕ) : Type 0 where
   pub promise : WritesPlan o (readCounted r) e e′ a a′ b b′
   pub whole : r ≡ laidCounted (readCounted r)
+
+pub record LaidPlanMany (o : Outcome (List Segment)) (r : RlPlannedMany) (e e′ : List ℤ) (x x′ : List ℕ) : Type 0 where
+  pub promise : WritesPlanMany o (readPlannedMany r) e e′ x x′
+  pub whole : r ≡ laidPlannedMany (readPlannedMany r)

@@ -2,6 +2,7 @@
 use crate::RlCounted;
 use crate::RlEquality;
 use crate::RlFill;
+use crate::RlPlannedMany;
 use crate::RlRefusal;
 use column::answer::Checked;
 use column::answer::Counted;
@@ -9,10 +10,11 @@ use column::answer::Fill;
 use column::error::Error;
 use column::error::InKey;
 use column::error::Refusal;
+use many::PlannedMany;
 use rle::Equality;
 ghost use mathlib.Core.Path.{_≡_};
 ghost use Rattle.runlength.specs.Reading as Reading;
-ghost use Rattle.runlength.specs.Reading.{readRefusal, readChecked, readCounted, readEquality, readFill, laidRefusal, laidChecked, laidCounted, laidEquality};
+ghost use Rattle.runlength.specs.Reading.{readRefusal, readChecked, readCounted, readEquality, readPlannedMany, readFill, laidRefusal, laidChecked, laidCounted, laidEquality, laidPlannedMany};
 
 // A number and its values, with the position where there is one.
 fn fields(number: u64, first: u64, second: u64, third: u64, in_key: InKey) -> RlRefusal
@@ -127,6 +129,29 @@ pub fn equality(e: Equality) -> RlEquality
         Equality::Refused(r) => {
             let refusal = refused(r);
             RlEquality { refusal, equal: 0 }
+        }
+    }
+}
+
+pub fn planned_many(p: PlannedMany) -> RlPlannedMany
+    ensures { λ x. ⌜ (readPlannedMany x ≡ p) × (x ≡ laidPlannedMany p) ⌝ }
+{
+    match p {
+        PlannedMany::Counts { segments, indexes } => {
+            let refusal = checked(Checked::Valid);
+            RlPlannedMany {
+                refusal,
+                segments,
+                indexes,
+            }
+        }
+        PlannedMany::Refused(r) => {
+            let refusal = refused(r);
+            RlPlannedMany {
+                refusal,
+                segments: 0,
+                indexes: 0,
+            }
         }
     }
 }

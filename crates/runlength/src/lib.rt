@@ -5,11 +5,13 @@ use rle::Rle;
 ghost use mathlib.Core.List.{[], _∷_};
 ghost use mathlib.Core.Path.{_≡_};
 ghost use lib.ListN.{length};
+ghost use Rattle.column.specs.Flat.{flat};
 ghost use Rattle.column.specs.Runs.{sequence};
+ghost use Rattle.many.specs.Many as many;
 ghost use Rattle.ops.specs.Ops as ops;
 ghost use Rattle.plan.specs.Plan as plan;
 ghost use Rattle.rle.specs.Rle as calls;
-ghost use Rattle.runlength.specs.Reading.{readFill, LaidRuns, LaidEntries, LaidCheck, LaidEquality, LaidPlan};
+ghost use Rattle.runlength.specs.Reading.{readFill, LaidRuns, LaidEntries, LaidCheck, LaidEquality, LaidPlan, LaidPlanMany};
 
 // A refusal: document 01's number, its values in document 01's order as 64 bits each (0 where it has fewer), and the position that it
 // may carry, with 1 in `in_key`. All 0 with an answer.
@@ -35,6 +37,14 @@ pub struct RlCounted {
 pub struct RlEquality {
     pub refusal: RlRefusal,
     pub equal: u64,
+}
+
+// Both counts are 0 with a refusal.
+#[repr(C)]
+pub struct RlPlannedMany {
+    pub refusal: RlRefusal,
+    pub segments: usize,
+    pub indexes: usize,
 }
 
 // What stands where a column has ended: missing where `given` is 0, else the value.
@@ -224,6 +234,46 @@ pub extern "C" fn rl_zip_with_raw(
         b_values,
         laid::fill(fill_a),
         laid::fill(fill_b),
+        code,
+        out_ends,
+        out_values,
+    ))
+}
+
+#[no_mangle]
+pub extern "C" fn rl_plan_many(
+    offsets: &[usize],
+    ends: &[i64],
+    values: &[i64],
+    out_ends: &mut [i64],
+    out_idx: &mut [usize],
+) -> RlPlannedMany
+    ensures { λ r. ⌜ LaidPlanMany
+        (many.planMany (flat (now (offsets .entry)) (now (ends .entry)) (now (values .entry))) (length (now («out_ends» .entry)) ∷ length (now («out_idx» .entry)) ∷ [])) r
+        (now («out_ends» .entry)) (now («out_ends» .exit)) (now («out_idx» .entry)) (now («out_idx» .exit)) ⌝ }
+{
+    laid::planned_many(many::plan_many(offsets, ends, values, out_ends, out_idx))
+}
+
+#[no_mangle]
+pub extern "C" fn rl_zip_many(
+    offsets: &[usize],
+    ends: &[i64],
+    values: &[i64],
+    fill: RlFill,
+    code: u8,
+    out_ends: &mut [i64],
+    out_values: &mut [i64],
+) -> RlCounted
+    ensures { λ r. ⌜ LaidRuns
+        (many.zipMany (flat (now (offsets .entry)) (now (ends .entry)) (now (values .entry))) (readFill fill) code (length (now («out_ends» .entry)) ∷ length (now («out_values» .entry)) ∷ [])) r
+        (now («out_ends» .entry)) (now («out_ends» .exit)) (now («out_values» .entry)) (now («out_values» .exit)) ⌝ }
+{
+    laid::counted(many::zip_many(
+        offsets,
+        ends,
+        values,
+        laid::fill(fill),
         code,
         out_ends,
         out_values,
