@@ -4,6 +4,7 @@ use crate::shape::Places;
 use column::sequence;
 use runlength::RlCounted;
 use runlength::RlFill;
+use runlength::RlPlannedMany;
 use runlength::RlRefusal;
 
 fn numbers_of(refusal: RlRefusal, first: u64, second: u64) -> [i64; 8] {
@@ -53,6 +54,38 @@ fn plan(
     answer
 }
 
+// plan_many, its offsets and indexes as numbers of a row.
+fn plan_many(
+    offsets: &[i64],
+    ends: &[i64],
+    values: &[i64],
+    out_ends: &mut [i64],
+    out_idx: &mut [i64],
+) -> RlPlannedMany {
+    let mut starts = [0usize; row::LONGEST];
+    let mut idx = [0usize; row::LONGEST];
+    let n = row::fill_places(offsets, &mut starts);
+    let m = row::fill_places(out_idx, &mut idx);
+    let answer = runlength::rl_plan_many(&starts[..n], ends, values, out_ends, &mut idx[..m]);
+    row::put_places(&idx, out_idx);
+    answer
+}
+
+// zip_many, its offsets as numbers of a row.
+fn zip_many(
+    offsets: &[i64],
+    ends: &[i64],
+    values: &[i64],
+    fill: RlFill,
+    code: u8,
+    out_ends: &mut [i64],
+    out_values: &mut [i64],
+) -> RlCounted {
+    let mut starts = [0usize; row::LONGEST];
+    let n = row::fill_places(offsets, &mut starts);
+    runlength::rl_zip_many(&starts[..n], ends, values, fill, code, out_ends, out_values)
+}
+
 // The calls with a code.
 fn combined(
     row: &[i64],
@@ -66,12 +99,13 @@ fn combined(
     let c = listed(row, 2);
     let d = listed(row, 3);
     let numbers = sequence::part(row, places.numbers, places.code);
-    let fill_a = fill_at(numbers, 0);
+    let fill = fill_at(numbers, 0);
     let fill_b = fill_at(numbers, 2);
     let code = row::code(row, places.code);
     match call {
-        11 => runlength::rl_zip_with(a, b, c, d, fill_a, fill_b, code, first, second),
-        _ => runlength::rl_zip_with_raw(a, b, c, d, fill_a, fill_b, code, first, second),
+        11 => runlength::rl_zip_with(a, b, c, d, fill, fill_b, code, first, second),
+        12 => runlength::rl_zip_with_raw(a, b, c, d, fill, fill_b, code, first, second),
+        _ => zip_many(a, b, c, fill, code, first, second),
     }
 }
 
@@ -85,6 +119,7 @@ pub fn answer(
 ) -> [i64; 8] {
     let a = listed(row, 0);
     let b = listed(row, 1);
+    let c = listed(row, 2);
     let numbers = sequence::part(row, places.numbers, places.code);
     let behind = sequence::part(row, places.behind, places.answer);
     let used = row::size(behind, 0);
@@ -104,10 +139,18 @@ pub fn answer(
         7 => counted(runlength::rl_from_dense(a, first, second)),
         8 => counted(runlength::rl_to_dense(a, b, first)),
         9 => {
-            let compared = runlength::rl_equals(a, b, listed(row, 2), listed(row, 3));
+            let compared = runlength::rl_equals(a, b, c, listed(row, 3));
             numbers_of(compared.refusal, compared.equal, 0)
         }
         10 => counted(plan(a, b, first, second, third)),
+        13 => {
+            let planned = plan_many(a, b, c, first, second);
+            numbers_of(
+                planned.refusal,
+                planned.segments as u64,
+                planned.indexes as u64,
+            )
+        }
         _ => counted(combined(row, call, places, first, second)),
     }
 }

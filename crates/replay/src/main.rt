@@ -9,7 +9,7 @@ use libc::STDIN_FILENO;
 use libc::STDOUT_FILENO;
 
 // One more than the last call's number.
-const CALLS: usize = 13;
+const CALLS: usize = 15;
 
 // The most numbers that are read of a line, more than any case has.
 const NUMBERS: usize = 128;
@@ -72,6 +72,8 @@ fn main() {
     report(b"plan ", cases[10], agreed[10]);
     report(b"zip_with ", cases[11], agreed[11]);
     report(b"zip_with_raw ", cases[12], agreed[12]);
+    report(b"plan_many ", cases[13], agreed[13]);
+    report(b"zip_many ", cases[14], agreed[14]);
     if cases[0] > 0 {
         io::write_all(STDOUT_FILENO, b"unknown ");
         write_count(cases[0], b" cases\n");

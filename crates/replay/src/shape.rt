@@ -5,13 +5,13 @@ ghost use Prim.Native.Nat.{_<_};
 
 // The call of a number, or 0 for none.
 pub fn known(number: i64) -> usize
-    ensures { λ r. ⌜ r < 13 ⌝ }
+    ensures { λ r. ⌜ r < 15 ⌝ }
 {
     let call = num::as_unsigned(number);
     if call < 2 {
         return 0;
     }
-    if call > 12 {
+    if call > 14 {
         return 0;
     }
     call as usize
@@ -57,7 +57,9 @@ fn shape_of(call: usize) -> Shape {
         9 => shaped(4, 0, false, 0, 0, 1),
         10 => shaped(2, 0, false, 3, 0, 1),
         11 => shaped(4, 4, true, 2, 0, 1),
-        _ => shaped(4, 4, true, 2, 0, 1),
+        12 => shaped(4, 4, true, 2, 0, 1),
+        13 => shaped(3, 0, false, 2, 0, 2),
+        _ => shaped(3, 2, true, 2, 0, 1),
     }
 }
 
