@@ -173,8 +173,8 @@ rl_counted rl_zip_with_raw(const int64_t *a_ends, size_t a_ends_len, const int64
  * offsets[c + 1], not included. */
 
 /* The segments of all sequences. A segment ends at the least of the current ends; each sequence whose end that is steps on.
- * Segment t has entry t of out_ends, and for each c entry t * k + c of out_idx: the index of sequence c's run; a sequence that has ended
- * keeps its number of runs as index. Of the values only their number matters.
+ * Segment t has entry t of out_ends and, for each c, entry t * k + c of out_idx: the index of sequence c's run; a sequence that has
+ * ended keeps its number of runs as index. Of the values only their number matters.
  * Refuses: 2 (what 3); 3 where there are no offsets, or they do not start at 0, fall, or do not finish at ends_len; 4 of the first
  * sequence with such ends, with its position; 5 where k is above RL_MAX_COLUMNS; 12: out_ends needs ends_len entries, out_idx needs
  * ends_len * k (at most 2^64 - 1 is shown). */
