@@ -53,6 +53,24 @@ typedef struct {
     size_t count;
 } rl_counted;
 
+typedef struct {
+    rl_refusal refusal;
+    uint64_t equal; /* 1 or 0; 0 with a refusal */
+} rl_equality;
+
+/* The counts of rl_plan_many. */
+typedef struct {
+    rl_refusal refusal;
+    size_t segments; /* the entries of out_ends; 0 with a refusal */
+    size_t indexes;  /* the entries of out_idx; 0 with a refusal */
+} rl_planned_many;
+
+/* The value that stands where a column has ended. */
+typedef struct {
+    uint64_t given; /* 0: no fill, whatever the value is */
+    int64_t value;
+} rl_fill;
+
 /* rle.rs */
 
 /* A sequence without its buffers: the number of their entries in use. */
@@ -103,6 +121,74 @@ rl_counted rl_from_dense(const int64_t *values, size_t values_len, int64_t *out_
  * Refuses: 2 (what 3); 4; 12: the output needs as many entries as the length. */
 rl_counted rl_to_dense(const int64_t *ends, size_t ends_len, const int64_t *values, size_t values_len, int64_t *out,
                        size_t out_len);
+
+/* Whether two sequences have the same length and show the same value at each position, however their runs are split. Writes
+ * nothing.
+ * Refuses: 2 (what 3) of a, then of b; 4 of a, then of b. */
+rl_equality rl_equals(const int64_t *a_ends, size_t a_ends_len, const int64_t *a_values, size_t a_values_len, const int64_t *b_ends,
+                      size_t b_ends_len, const int64_t *b_values, size_t b_values_len);
+
+/* plan.rs */
+
+/* The segments of two lists of ends. A segment ends at the smaller of the two current ends; each side whose end that is steps on.
+ * The outputs are the ends and the indexes of both sides' runs; a side that has ended keeps its number of runs as index. The
+ * count is the number of segments.
+ * Refuses: 4 of a, then of b; 12: each output needs a_len + b_len entries. */
+rl_counted rl_plan(const int64_t *a, size_t a_len, const int64_t *b, size_t b_len, int64_t *out_ends, size_t out_ends_len,
+                   size_t *out_idx_a, size_t out_idx_a_len, size_t *out_idx_b, size_t out_idx_b_len);
+
+/* ops.rs */
+
+/* The operations. Their first value is x, their second y.
+ *
+ *   code
+ *   0  add        x + y, modulo 2^64, read as signed
+ *   1  subtract   x - y, modulo 2^64, read as signed
+ *   2  multiply   x * y, modulo 2^64, read as signed
+ *   3  smaller    of x and y
+ *   4  larger     of x and y
+ *   5  first      x
+ *   6  second     y
+ *   7  equal      1 where x is y, else 0
+ *   8  less       1 where x is below y, else 0
+ *   9  midpoint   the exact sum of x and y, halved toward zero */
+
+/* The merged sequence that shows, at each position up to the longer length, the operation of a's value and b's. The fill of a side
+ * stands where that side has ended. The count is the number of its runs.
+ * Refuses: 1; 2 (what 3) of a, then of b; 4 of a, then of b; 10 (the lengths of a and b) where the shorter side has no fill; 12:
+ * each output needs a_ends_len + b_ends_len entries. */
+rl_counted rl_zip_with(const int64_t *a_ends, size_t a_ends_len, const int64_t *a_values, size_t a_values_len,
+                       const int64_t *b_ends, size_t b_ends_len, const int64_t *b_values, size_t b_values_len, rl_fill fill_a,
+                       rl_fill fill_b, uint8_t code, int64_t *out_ends, size_t out_ends_len, int64_t *out_values,
+                       size_t out_values_len);
+
+/* As rl_zip_with, with a run for each segment of rl_plan; neighbours are not merged. The count is the number of segments.
+ * Refuses: as rl_zip_with. */
+rl_counted rl_zip_with_raw(const int64_t *a_ends, size_t a_ends_len, const int64_t *a_values, size_t a_values_len,
+                           const int64_t *b_ends, size_t b_ends_len, const int64_t *b_values, size_t b_values_len, rl_fill fill_a,
+                           rl_fill fill_b, uint8_t code, int64_t *out_ends, size_t out_ends_len, int64_t *out_values,
+                           size_t out_values_len);
+
+/* many.rs. These calls take k = offsets_len - 1 sequences: sequence c has the entries of ends and values from offsets[c] up to
+ * offsets[c + 1], not included. */
+
+/* The segments of all sequences. A segment ends at the least of the current ends; each sequence whose end that is steps on.
+ * Segment t has entry t of out_ends and, for each c, entry t * k + c of out_idx: the index of sequence c's run; a sequence that has
+ * ended keeps its number of runs as index. Of the values only their number matters.
+ * Refuses: 2 (what 3); 3 where there are no offsets, or they do not start at 0, fall, or do not finish at ends_len; 4 of the first
+ * sequence with such ends, with its position; 5 where k is above RL_MAX_COLUMNS; 12: out_ends needs ends_len entries, out_idx needs
+ * ends_len * k (at most 2^64 - 1 is shown). */
+rl_planned_many rl_plan_many(const size_t *offsets, size_t offsets_len, const int64_t *ends, size_t ends_len, const int64_t *values,
+                             size_t values_len, int64_t *out_ends, size_t out_ends_len, size_t *out_idx, size_t out_idx_len);
+
+/* The merged sequence that shows, at each position up to the greatest length, the operation from the first value on:
+ * op(op(v0, v1), v2). The fill stands where a sequence has ended. One sequence shows its own values, none gives no runs. The count
+ * is the number of runs.
+ * Refuses: 1; 2 (what 3), 3, 4 and 5 as rl_plan_many; 10 (the least and the greatest length) where they differ and there is no
+ * fill; 12: each output needs ends_len entries. */
+rl_counted rl_zip_many(const size_t *offsets, size_t offsets_len, const int64_t *ends, size_t ends_len, const int64_t *values,
+                       size_t values_len, rl_fill fill, uint8_t code, int64_t *out_ends, size_t out_ends_len, int64_t *out_values,
+                       size_t out_values_len);
 
 #ifdef __cplusplus
 }

@@ -1,13 +1,15 @@
 // Replays stored answers. Each line of standard input, up to 64 KiB in all, is a call with its arguments and what must come of it, in
 // decimal numbers. For each call a line says how many cases there were and how many of them agreed.
+mod answer;
 mod case;
 mod row;
+mod shape;
 
 use libc::STDIN_FILENO;
 use libc::STDOUT_FILENO;
 
 // One more than the last call's number.
-const CALLS: usize = 9;
+const CALLS: usize = 15;
 
 // The most numbers that are read of a line, more than any case has.
 const NUMBERS: usize = 128;
@@ -22,7 +24,7 @@ fn replay_line(line: &[u8], cases: &mut [u64; CALLS], agreed: &mut [u64; CALLS])
     } else {
         -1
     };
-    let call = case::known(number);
+    let call = shape::known(number);
     cases[call] = std::num::wrapping_add_u64(cases[call], 1);
     if case::agrees(&numbers[..n], call) {
         agreed[call] = std::num::wrapping_add_u64(agreed[call], 1);
@@ -66,6 +68,12 @@ fn main() {
     report(b"extend_to ", cases[6], agreed[6]);
     report(b"from_dense ", cases[7], agreed[7]);
     report(b"to_dense ", cases[8], agreed[8]);
+    report(b"equals ", cases[9], agreed[9]);
+    report(b"plan ", cases[10], agreed[10]);
+    report(b"zip_with ", cases[11], agreed[11]);
+    report(b"zip_with_raw ", cases[12], agreed[12]);
+    report(b"plan_many ", cases[13], agreed[13]);
+    report(b"zip_many ", cases[14], agreed[14]);
     if cases[0] > 0 {
         io::write_all(STDOUT_FILENO, b"unknown ");
         write_count(cases[0], b" cases\n");

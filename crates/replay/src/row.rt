@@ -10,6 +10,26 @@ pub fn entry(row: &[i64], at: usize) -> i64 {
     sequence::entry_or(row, at, -1)
 }
 
+// A number as a size or a place, by its bits.
+pub fn size(row: &[i64], at: usize) -> usize {
+    num::as_unsigned(entry(row, at)) as usize
+}
+
+// A number as a code; 255, which no call knows, for any that is no byte.
+pub fn code(row: &[i64], at: usize) -> u8 {
+    let n = num::as_unsigned(entry(row, at));
+    if n < 256 { n as u8 } else { 255 }
+}
+
+// The place behind a code. It is past the row if the number is no byte.
+pub fn code_end(row: &[i64], at: usize) -> usize {
+    if num::as_unsigned(entry(row, at)) < 256 {
+        num::saturating_add(at, 1)
+    } else {
+        usize::MAX
+    }
+}
+
 // The place behind a list, which starts with its length. It is past the row if the list runs past it or is too long.
 fn list_end(row: &[i64], at: usize) -> usize {
     let n = num::as_unsigned(entry(row, at));
@@ -52,6 +72,29 @@ pub fn fill(list: &[i64], buffer: &mut [i64]) -> usize
         i += 1;
     }
     n
+}
+
+// As `fill`, for a buffer of offsets or indexes.
+pub fn fill_places(list: &[i64], buffer: &mut [usize]) -> usize
+    ensures { λ r. ⌜ Counts r (now (buffer .exit)) ⌝ }
+{
+    let n = num::smaller_count(list.len(), buffer.len());
+    let mut i = 0;
+    while i < n {
+        buffer[i] = size(list, i);
+        i += 1;
+    }
+    n
+}
+
+// Fills a list with the front of a buffer of indexes.
+pub fn put_places(places: &[usize; LONGEST], list: &mut [i64]) {
+    let n = num::smaller_count(list.len(), LONGEST);
+    let mut i = 0;
+    while i < n {
+        list[i] = num::as_signed(places[i] as u64);
+        i += 1;
+    }
 }
 
 pub fn same(a: &[i64], b: &[i64]) -> bool {
