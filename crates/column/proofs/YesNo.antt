@@ -73,20 +73,6 @@ module _ (before : ℤ) (i : ℕ) (es : List ℤ) where
   unfolding endsFrom
   ends-end h = rw drop-of-length-le
 
--- four of them, as the code reads and compares them
-module _ (first : ℤ) (i : ℕ) (es : List ℤ) (h : i + 4 ≤ length es) {before a b c d : ℤ} (e : before ≡ first) where
-  pub ends-four : a ≡ getD es i (pos 0) → b ≡ getD es (i + 1) (pos 0) → c ≡ getD es (i + 2) (pos 0) → d ≡ getD es (i + 3) (pos 0)
-      → ltZ before a ≡ true → ltZ a b ≡ true → ltZ b c ≡ true → ltZ c d ≡ true
-      → endsFrom i first (drop i es) ≡ endsFrom (i + 4) (getD es (i + 3) (pos 0)) (drop (i + 4) es)
-  ends-four ea eb ec ed t u v w =
-      let two : i + 1 + 1 ≡ i + 2 = omega arith in
-      let three : i + 2 + 1 ≡ i + 3 = omega arith in
-      let four : i + 3 + 1 ≡ i + 4 = omega arith in
-      ends-next first i es (omega arith) (rw (e, ea) at (lt-le before a t))
-      ∙ rw two at (ends-next (getD es i (pos 0)) (i + 1) es (omega arith) (rw (ea, eb) at (lt-le a b u)))
-      ∙ rw three at (ends-next (getD es (i + 1) (pos 0)) (i + 2) es (omega arith) (rw (eb, ec) at (lt-le b c v)))
-      ∙ rw four at (ends-next (getD es (i + 2) (pos 0)) (i + 3) es (omega arith) (rw (ec, ed) at (lt-le c d w)))
-
 -- ---- 6, 7
 
 pub negative-yes : (i : ℕ) (run : ℤ) → ltZ run (pos 0) ≡ false → notNegative i run ≡ none

@@ -5,19 +5,18 @@ use crate::error::Error;
 use crate::error::InKey;
 use crate::error::Refusal;
 use crate::sequence;
-ghost use Prim.Native.Nat.{_+_, _≤_};
+ghost use Prim.Native.Nat.{_+_, _*_, _≤_};
 ghost use mathlib.Core.Bool.{true, _&&_};
 ghost use mathlib.Core.List.{[], _∷_};
 ghost use mathlib.Core.Path.{_≡_};
 ghost use lib.Dec.{eqb};
-ghost use lib.IntN.{pos};
-ghost use lib.ListN.{length, getD, drop};
+ghost use lib.ListN.{length, drop};
 ghost use lib.Signed.{ltZ};
 ghost use Rattle.column.specs.Asking.{shownAsked, refusal, firstNo, inKey};
 ghost use Rattle.column.specs.Flat.{flat, flatAsked};
 ghost use Rattle.column.specs.Lists.{any};
 ghost use Rattle.column.specs.Paper.{numberOf, shownBy};
-ghost use Rattle.column.specs.Questions.{listed, maskListed, agree, paired, usedWithin, startAndRise, lastOffset, offsetsRise, offsetsValid, endsFrom, endsValid, sequencesValid, atMost, notNegative, fits, runByRun, distinctKeys, intervals, side, isMissing, filled, longEnough, roomAt, room, both};
+ghost use Rattle.column.specs.Questions.{listed, maskListed, agree, paired, usedWithin, startAndRise, lastOffset, offsetsRise, offsetsValid, endsFrom, endsValid, endBefore, sequencesValid, atMost, notNegative, fits, runByRun, distinctKeys, intervals, side, isMissing, filled, longEnough, roomAt, room, both};
 ghost use Rattle.column.specs.Runs.{sequence, magnitude};
 
 // The first length that does not fit i64.
@@ -165,32 +164,67 @@ fn ask_ends_from(ends: &[i64], from: usize, first: i64) -> Asked
     Asked::Yes
 }
 
-// Whether there are four more ends, each above the one before. Four to a turn, as a turn of the loop costs more than a test.
-fn four_rise(ends: &[i64], i: usize, before: i64) -> bool
-    requires { ⌜ i ≤ length (now ends) ⌝ }
-    ensures { λ r. ⌜ (r ≡ true → (i + 4 ≤ length (now (ends .entry))) × (endsFrom i before (drop i (now (ends .entry))) ≡ endsFrom (i + 4) (getD (now (ends .entry)) (i + 3) (pos 0)) (drop (i + 4) (now (ends .entry))))) ⌝ }
+// The end before an index, 0 before the first.
+fn end_before(ends: &[i64], index: usize) -> i64
+    ensures { λ r. ⌜ r ≡ endBefore (now (ends .entry)) index ⌝ }
 {
-    if ends.len() - i < 4 {
+    if index == 0 {
+        0
+    } else {
+        sequence::entry_or(ends, index - 1, 0)
+    }
+}
+
+// Whether each end in four quarters is above the one before. The quarters are read side by side: far memory brings four of them in little
+// more time than one.
+fn quarters_rise(ends: &[i64], quarter: usize) -> bool
+    ensures { λ r. ⌜ (r ≡ true → (quarter * 4 ≤ length (now (ends .entry))) × (endsValid (now (ends .entry)) ≡ endsFrom (quarter * 4) (endBefore (now (ends .entry)) (quarter * 4)) (drop (quarter * 4) (now (ends .entry))))) ⌝ }
+{
+    if quarter != ends.len() / 4 {
         return false;
     }
-    let a = ends[i];
-    let b = ends[i + 1];
-    let c = ends[i + 2];
-    let d = ends[i + 3];
-    before < a && a < b && b < c && c < d
+    let mut first: i64 = 0;
+    let mut second = end_before(ends, quarter);
+    let mut third = end_before(ends, quarter * 2);
+    let mut fourth = end_before(ends, quarter * 3);
+    let mut i: usize = 0;
+    while i < quarter {
+        let a = ends[i];
+        let b = ends[quarter + i];
+        let c = ends[quarter * 2 + i];
+        let d = ends[quarter * 3 + i];
+        if a <= first {
+            return false;
+        }
+        if b <= second {
+            return false;
+        }
+        if c <= third {
+            return false;
+        }
+        if d <= fourth {
+            return false;
+        }
+        first = a;
+        second = b;
+        third = c;
+        fourth = d;
+        i += 1;
+    }
+    true
 }
 
 // 4
 pub fn ask_ends(ends: &[i64]) -> Asked
     ensures { λ r. ⌜ shownAsked r ≡ endsValid (now (ends .entry)) ⌝ }
 {
-    let mut before: i64 = 0;
-    let mut i = 0;
-    while four_rise(ends, i, before) {
-        before = ends[i + 3];
-        i += 4;
+    let quarter = ends.len() / 4;
+    if quarters_rise(ends, quarter) {
+        let seen = quarter * 4;
+        ask_ends_from(ends, seen, end_before(ends, seen))
+    } else {
+        ask_ends_from(ends, 0, 0)
     }
-    ask_ends_from(ends, i, before)
 }
 
 // What 3 of 2, and 4, of one sequence.

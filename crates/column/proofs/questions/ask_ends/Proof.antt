@@ -1,70 +1,42 @@
-use Prim.Native.Nat.{_+_, _-_, _≤_}
-use mathlib.Core.Path.{_≡_, refl, sym, _∙_}
+use mathlib.Core.Path.{sym, _∙_}
 use native.Mathlib.Omega.{arith}
-use lib.IntN.{pos}
-use lib.ListN.{length, getD, drop}
-use denote.Ref.{now}
-use mir.Syntax.{w64}
-use mir.Val.{toZ}
 use Rattle.num.proofs.Bits.{back}
-use Rattle.column.specs.Questions.{endsFrom, endsValid}
+use Rattle.column.specs.Questions.{endsValid}
 use borrow.Author.Needs.{needs}
 use Rattle.column.proofs.questions.ask_ends.Statement.{statement}
 use Rattle.column.proofs.questions.ask_ends.Tie as tie
 
-abbrev Inv-loop : tie.InvT-loop
-Inv-loop ends before₀ i₀ before i = (i ≤ length ends) × (endsValid ends ≡ endsFrom i (toZ w64 before) (drop i ends))
+quarters-rise-requires : tie.Need-quarters-rise-requires
+quarters-rise-requires c κs = search needs
 
-abbrev μ-loop : tie.MeasureT-loop
-μ-loop ends before₀ i₀ before i = length ends - i
+mul-seen : tie.Need-mul-seen
+mul-seen c = omega (arith, c .before .quarters-rise .ensures (c .if1 .taken) .0)
 
-loop-holds : tie.Need-loop-holds Inv-loop μ-loop
-unfolding endsValid
-loop-holds c = (search needs, refl)
+end-before-requires : tie.Need-end-before-requires
+end-before-requires c κs = search needs
 
-four-rise-requires : tie.Need-four-rise-requires Inv-loop μ-loop
-four-rise-requires c κs = search needs
-
-add-before : tie.Need-add-before Inv-loop μ-loop
-add-before c = omega (arith, c .before .four-rise .ensures (c .if1 .taken) .0)
-
-mul-before : tie.Need-mul-before Inv-loop μ-loop
-mul-before c = omega (arith, c .before .four-rise .ensures (c .if1 .taken) .0)
-
-shared-slice-copy-out-before : tie.Need-shared-slice-copy-out-before Inv-loop μ-loop
-shared-slice-copy-out-before c = omega (arith, c .before .four-rise .ensures (c .if1 .taken) .0)
-
-add-i : tie.Need-add-i Inv-loop μ-loop
-add-i c = omega (arith, c .before .before .four-rise .ensures (c .before .if1 .taken) .0)
-
-loop-less : tie.Need-loop-less Inv-loop μ-loop
-loop-less c = omega (arith, c .before .before .four-rise .ensures (c .before .if1 .taken) .0)
-
-loop-again : tie.Need-loop-again Inv-loop μ-loop
-loop-again c = let l = c .before .before .before in
-    let f = c .before .before .four-rise .ensures (c .before .if1 .taken) in
-    let e = back (getD (now (l .before .args .ends)) (l .loop .i + 3) (pos 0)) (c .before2 .given) in
-    (f .0, rw e (l .loop .inv .1 ∙ f .1))
-
-ask-ends-from-requires : tie.Need-ask-ends-from-requires Inv-loop μ-loop
+ask-ends-from-requires : tie.Need-ask-ends-from-requires
 ask-ends-from-requires c κs = search needs
 
-returns : tie.Need-returns Inv-loop μ-loop
-returns c = c .ask-ends-from .ensures ∙ sym (c .before .before .before .loop .inv .1)
+ask-ends-from-requires-2 : tie.Need-ask-ends-from-requires-2
+ask-ends-from-requires-2 c κs = search needs
+
+returns : tie.Need-returns
+returns c = let q = c .before .before .before .quarters-rise .ensures (c .before .before .if1 .taken) .1 in
+    rw (back _ (c .before .end-before .ok), c .before .end-before .ensures) at (c .ask-ends-from .ensures) ∙ sym q
+
+returns-2 : tie.Need-returns-2
+unfolding endsValid
+returns-2 c = c .ask-ends-from2 .ensures
 
 pub ask-ends-spec : {M : Type 1} → statement M
 ask-ends-spec =
     tie.close
     (tie.spec
-    Inv-loop
-    μ-loop
-    loop-holds
-    four-rise-requires
-    add-before
-    mul-before
-    shared-slice-copy-out-before
-    add-i
-    loop-less
-    loop-again
+    quarters-rise-requires
+    mul-seen
+    end-before-requires
     ask-ends-from-requires
-    returns)
+    ask-ends-from-requires-2
+    returns
+    returns-2)
