@@ -50,16 +50,19 @@ pub fn zip_with(
     if total == 0 {
         return 0;
     }
-    let first = shown_at(code, a_values, 0, fill_a, b_values, 0, fill_b);
+    // Values as many as ends, so that one test of an index serves both lists.
+    let left = &a_values[..a_ends.len()];
+    let right = &b_values[..b_ends.len()];
+    let first = shown_at(code, left, 0, fill_a, right, 0, fill_b);
     let mut writer = Writer { at: 0, last: first };
     let mut i: usize = 0;
     let mut j: usize = 0;
     while i + j < total {
-        let value = shown_at(code, a_values, i, fill_a, b_values, j, fill_b);
         let here = Segments { i, j };
         let segment = here.next(a_ends, b_ends);
         let end = segment.end;
         let next = segment.next;
+        let value = shown_at(code, left, i, fill_a, right, j, fill_b);
         writer = column::inner::push_merged(writer, out_ends, out_values, end, value);
         i = next.i;
         j = next.j;
@@ -84,15 +87,17 @@ pub fn zip_with_raw(
         (now («out_ends» .entry)) (now («out_ends» .exit)) (now («out_values» .entry)) (now («out_values» .exit)) r ⌝ }
 {
     let total = a_ends.len() + b_ends.len();
+    let left = &a_values[..a_ends.len()];
+    let right = &b_values[..b_ends.len()];
     let mut n: usize = 0;
     let mut i: usize = 0;
     let mut j: usize = 0;
     while i + j < total {
-        let value = shown_at(code, a_values, i, fill_a, b_values, j, fill_b);
         let here = Segments { i, j };
         let segment = here.next(a_ends, b_ends);
         let end = segment.end;
         let next = segment.next;
+        let value = shown_at(code, left, i, fill_a, right, j, fill_b);
         out_ends[n] = end;
         out_values[n] = value;
         n += 1;
