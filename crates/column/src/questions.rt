@@ -5,18 +5,18 @@ use crate::error::Error;
 use crate::error::InKey;
 use crate::error::Refusal;
 use crate::sequence;
-ghost use Prim.Native.Nat.{_+_, _*_, _≤_};
+ghost use Prim.Native.Nat.{_+_};
 ghost use mathlib.Core.Bool.{true, _&&_};
 ghost use mathlib.Core.List.{[], _∷_};
 ghost use mathlib.Core.Path.{_≡_};
 ghost use lib.Dec.{eqb};
-ghost use lib.ListN.{length, drop};
+ghost use lib.ListN.{drop};
 ghost use lib.Signed.{ltZ};
 ghost use Rattle.column.specs.Asking.{shownAsked, refusal, firstNo, inKey};
 ghost use Rattle.column.specs.Flat.{flat, flatAsked};
 ghost use Rattle.column.specs.Lists.{any};
 ghost use Rattle.column.specs.Paper.{numberOf, shownBy};
-ghost use Rattle.column.specs.Questions.{listed, maskListed, agree, paired, usedWithin, startAndRise, lastOffset, offsetsRise, offsetsValid, endsFrom, endsValid, endBefore, sequencesValid, atMost, notNegative, fits, runByRun, distinctKeys, intervals, side, isMissing, filled, longEnough, roomAt, room, both};
+ghost use Rattle.column.specs.Questions.{listed, maskListed, agree, paired, usedWithin, startAndRise, lastOffset, offsetsRise, offsetsValid, endsFrom, endsValid, endBefore, endsFromQuarters, sequencesValid, atMost, notNegative, fits, runByRun, distinctKeys, intervals, side, isMissing, filled, longEnough, roomAt, room, both};
 ghost use Rattle.column.specs.Runs.{sequence, magnitude};
 
 // The first length that does not fit i64.
@@ -177,12 +177,10 @@ fn end_before(ends: &[i64], index: usize) -> i64
 
 // Whether each end in four quarters is above the one before. The quarters are read side by side: far memory brings four of them in little
 // more time than one.
-fn quarters_rise(ends: &[i64], quarter: usize) -> bool
-    ensures { λ r. ⌜ (r ≡ true → (quarter * 4 ≤ length (now (ends .entry))) × (endsValid (now (ends .entry)) ≡ endsFrom (quarter * 4) (endBefore (now (ends .entry)) (quarter * 4)) (drop (quarter * 4) (now (ends .entry))))) ⌝ }
+fn quarters_rise(ends: &[i64]) -> bool
+    ensures { λ r. ⌜ (r ≡ true → endsValid (now (ends .entry)) ≡ endsFromQuarters (now (ends .entry))) ⌝ }
 {
-    if quarter != ends.len() / 4 {
-        return false;
-    }
+    let quarter = ends.len() / 4;
     let mut first: i64 = 0;
     let mut second = end_before(ends, quarter);
     let mut third = end_before(ends, quarter * 2);
@@ -218,9 +216,8 @@ fn quarters_rise(ends: &[i64], quarter: usize) -> bool
 pub fn ask_ends(ends: &[i64]) -> Asked
     ensures { λ r. ⌜ shownAsked r ≡ endsValid (now (ends .entry)) ⌝ }
 {
-    let quarter = ends.len() / 4;
-    if quarters_rise(ends, quarter) {
-        let seen = quarter * 4;
+    if quarters_rise(ends) {
+        let seen = ends.len() / 4 * 4;
         ask_ends_from(ends, seen, end_before(ends, seen))
     } else {
         ask_ends_from(ends, 0, 0)

@@ -9,7 +9,7 @@ use lib.ListN.{length}
 use lib.Dec.{eqb}
 use borrow.Author.Tests.{eqb-false, eq-eqb}
 use Rattle.num.proofs.Tests.{by-test}
-use Rattle.plan.specs.Plan.{Place, Segment, least, leastEnd, steppedOn, rests, indexes, stepped, segmentsFrom}
+use Rattle.plan.specs.Plan.{Place, least, leastEnd, steppedOn, rests, indexes, stepped, segmentsFrom}
 
 -- the runs that are left
 abbrev pub left : List Place → ℕ
@@ -34,7 +34,7 @@ length-step : (e i : ℕ) (es : List ℕ) → length (steppedOn e i es .rest) �
 length-step e i [] = omega arith
 length-step e i (d ∷ ds) = by-test (eqb d e) (λ t. rw t (omega arith)) (λ t. rw t (omega arith))
 
-pub left-step : (e : ℕ) (ps : List Place) → left (stepped e ps) ≤ left ps
+left-step : (e : ℕ) (ps : List Place) → left (stepped e ps) ≤ left ps
 left-step e [] = omega arith
 left-step e (p ∷ ps) = omega (arith, length-step e (p .index) (p .rest), left-step e ps)
 
@@ -81,23 +81,3 @@ some-left (p ∷ ps) h = go (p .rest) h (some-left ps)
     go : (es : List ℕ) → 0 < length es + left ps → (0 < left ps → (e : ℕ) × (leastEnd (rests ps) ≡ some e)) → (e : ℕ) × (leastEnd (es ∷ rests ps) ≡ some e)
     go [] k f = f (omega arith)
     go (d ∷ ds) k f = (least d (leastEnd (rests ps)), refl)
-
--- ---- so the bound makes no difference, once it is as large as the runs that are left
-
-bound-step : (n m : ℕ) (ps : List Place) (o : Option ℕ) → leastEnd (rests ps) ≡ o
-    → ((e : ℕ) → leastEnd (rests ps) ≡ some e → segmentsFrom n (stepped e ps) ≡ segmentsFrom m (stepped e ps)) → segmentsFrom (suc n) ps ≡ segmentsFrom (suc m) ps
-bound-step n m ps none h k = segments-end (suc n) ps h ∙ sym (segments-end (suc m) ps h)
-bound-step n m ps (some e) h k =
-    segments-step n ps e h
-    ∙ ap {B = List Segment} (λ l. record { end = e; indexes = indexes ps } ∷ l) (k e h)
-    ∙ sym (segments-step m ps e h)
-
-pub segments-bound : (n m : ℕ) (ps : List Place) → left ps ≤ n → left ps ≤ m → segmentsFrom n ps ≡ segmentsFrom m ps
-segments-bound zero m ps h k =
-    let z : left ps ≡ 0 = omega arith in
-    segments-end 0 ps (none-left ps z) ∙ sym (segments-end m ps (none-left ps z))
-segments-bound (suc n) zero ps h k =
-    let z : left ps ≡ 0 = omega arith in
-    segments-end (suc n) ps (none-left ps z) ∙ sym (segments-end 0 ps (none-left ps z))
-segments-bound (suc n) (suc m) ps h k =
-    bound-step n m ps (leastEnd (rests ps)) refl (λ e r. segments-bound n m (stepped e ps) (omega (arith, left-less e ps r)) (omega (arith, left-less e ps r)))

@@ -1,5 +1,4 @@
 use mathlib.Core.Path.{sym, _∙_}
-use native.Mathlib.Omega.{arith}
 use Rattle.num.proofs.Bits.{back}
 use Rattle.column.specs.Questions.{endsValid}
 use borrow.Author.Needs.{needs}
@@ -10,7 +9,7 @@ quarters-rise-requires : tie.Need-quarters-rise-requires
 quarters-rise-requires c κs = search needs
 
 mul-seen : tie.Need-mul-seen
-mul-seen c = omega (arith, c .before .quarters-rise .ensures (c .if1 .taken) .0)
+mul-seen c = search needs
 
 end-before-requires : tie.Need-end-before-requires
 end-before-requires c κs = search needs
@@ -22,7 +21,7 @@ ask-ends-from-requires-2 : tie.Need-ask-ends-from-requires-2
 ask-ends-from-requires-2 c κs = search needs
 
 returns : tie.Need-returns
-returns c = let q = c .before .before .before .quarters-rise .ensures (c .before .before .if1 .taken) .1 in
+returns c = let q = c .before .before .before .quarters-rise .ensures (c .before .before .if1 .taken) in
     rw (back _ (c .before .end-before .ok), c .before .end-before .ensures) at (c .ask-ends-from .ensures) ∙ sym q
 
 returns-2 : tie.Need-returns-2

@@ -1,4 +1,4 @@
-use Prim.Native.Nat.{_*_, _-_, _≤_}
+use Prim.Native.Nat.{_*_, _/_, _-_, _≤_}
 use mathlib.Core.Bool.{false≢true}
 use mathlib.Core.Path.{_∙_}
 use native.Mathlib.Omega.{arith}
@@ -18,15 +18,12 @@ Inv-loop ends quarter first₀ second₀ third₀ fourth₀ i₀ first second th
 abbrev μ-loop : tie.MeasureT-loop
 μ-loop ends quarter first₀ second₀ third₀ fourth₀ i₀ first second third fourth i = quarter - i
 
-returns : tie.Need-returns Inv-loop μ-loop
-returns c = λ t. absurd (false≢true t)
-
 end-before-requires : tie.Need-end-before-requires Inv-loop μ-loop
 end-before-requires c κs = search needs
 
 -- four quarters are no more than all
-room : (c : tie.Else1 Inv-loop μ-loop) → c .before .args .quarter * 4 ≤ length (now (c .before .args .ends))
-room c = omega (arith, c .if1 .left)
+room : (c : tie.Start Inv-loop μ-loop) → length (now (c .args .ends)) / 4 * 4 ≤ length (now (c .args .ends))
+room c = omega arith
 
 mul-end-before : tie.Need-mul-end-before Inv-loop μ-loop
 mul-end-before c = omega (arith, room (c .before))
@@ -82,6 +79,9 @@ mul-d-2 c = omega (arith, room (c .before .before .before .before .before .befor
 shared-slice-copy-out-d : tie.Need-shared-slice-copy-out-d Inv-loop μ-loop
 shared-slice-copy-out-d c = omega (arith, room (c .before .before .before .before .before .before .before .before))
 
+returns : tie.Need-returns Inv-loop μ-loop
+returns c = λ t. absurd (false≢true t)
+
 returns-2 : tie.Need-returns-2 Inv-loop μ-loop
 returns-2 c = λ t. absurd (false≢true t)
 
@@ -90,9 +90,6 @@ returns-3 c = λ t. absurd (false≢true t)
 
 returns-4 : tie.Need-returns-4 Inv-loop μ-loop
 returns-4 c = λ t. absurd (false≢true t)
-
-returns-5 : tie.Need-returns-5 Inv-loop μ-loop
-returns-5 c = λ t. absurd (false≢true t)
 
 add-i : tie.Need-add-i Inv-loop μ-loop
 add-i c = search needs
@@ -107,10 +104,10 @@ loop-again c = let d = c .before .before .before .before in
     let eb = back _ (d .before .before .b .given) in
     let ec = back _ (d .before .c .given) in
     let ed = back _ (d .d .given) in
-    quarters-next _ _ (l .loop .inv) (d .before .before .before .before .loop-test .taken) ea eb ec ed (c .before .before .before .if2 .left) (c .before .before .if3 .left) (c .before .if4 .left) (c .if5 .left)
+    quarters-next _ _ (l .loop .inv) (d .before .before .before .before .loop-test .taken) ea eb ec ed (c .before .before .before .if1 .left) (c .before .before .if2 .left) (c .before .if3 .left) (c .if4 .left)
 
-returns-6 : tie.Need-returns-6 Inv-loop μ-loop
-returns-6 c = λ t. let l = c .before in (room (l .before .before .before .before), quarters-end _ _ (l .loop .inv) (c .loop-test .left) (room (l .before .before .before .before)))
+returns-5 : tie.Need-returns-5 Inv-loop μ-loop
+returns-5 c = λ t. let l = c .before in quarters-end _ _ (l .loop .inv) (c .loop-test .left) (room (l .before .before .before .before))
 
 pub quarters-rise-spec : {M : Type 1} → statement M
 quarters-rise-spec =
@@ -118,7 +115,6 @@ quarters-rise-spec =
     (tie.spec
     Inv-loop
     μ-loop
-    returns
     end-before-requires
     mul-end-before
     end-before-requires-2
@@ -138,11 +134,11 @@ quarters-rise-spec =
     add-d
     mul-d-2
     shared-slice-copy-out-d
+    returns
     returns-2
     returns-3
     returns-4
-    returns-5
     add-i
     loop-less
     loop-again
-    returns-6)
+    returns-5)
