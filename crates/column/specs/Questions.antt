@@ -1,5 +1,5 @@
 -- The questions of document 01, in its order.
-use Prim.Native.Nat.{ℕ, zero, suc, _+_, _*_, _/_, _^_, min}
+use Prim.Native.Nat.{ℕ, suc, _+_, _^_, min}
 use mathlib.Core.Bool.{Bool, true, false, not, _&&_}
 use mathlib.Core.Option.{none}
 use mathlib.Core.List.{List, [], _∷_}
@@ -73,15 +73,6 @@ endsFrom i before (e ∷ es) = firstNo ((refusal 4 (pos i ∷ []) unless ltZ bef
 -- are ends valid, "the first above 0, each above the one before"?
 unfoldable pub endsValid : List ℤ → Question
 endsValid es = endsFrom 0 (pos 0) es
-
--- the end before an index, "0 for the first"
-abbrev pub endBefore : List ℤ → ℕ → ℤ
-endBefore es zero = pos 0
-endBefore es (suc i) = getD es i (pos 0)
-
--- the question behind four quarters of a list
-abbrev pub endsFromQuarters : List ℤ → Question
-endsFromQuarters es = let n = length es / 4 * 4 in endsFrom n (endBefore es n) (drop n es)
 
 -- of the sequence at position p
 abbrev pub sequenceAt : ℕ → List ℤ → Question
