@@ -13,12 +13,10 @@ use Rattle.column.specs.Lists.{part, parts}
 use Rattle.column.specs.Questions.{endsValid}
 use Rattle.column.proofs.Flattened.{AllValid, length-parts}
 use Rattle.column.proofs.Parts.{partsAt, parts-cons}
-use Rattle.plan.specs.Plan.{Place, steppedOn, indexes, stepped}
+use Rattle.plan.specs.Plan.{Place, indexes, stepped}
 use Rattle.plan.specs.Walk.{placeAt}
-use Rattle.plan.proofs.Step.{ahead}
-use Rattle.plan.proofs.Walking.{place-within}
 use Rattle.many.specs.Workers.{placesFor, placesOf, Within, Placed}
-use Rattle.many.proofs.Entries.{place-again}
+use Rattle.many.proofs.Entries.{place-again, place-within}
 
 -- ---- all columns
 
@@ -37,7 +35,7 @@ module _ (m : ℕ) where
   step-within : (is : List ℕ) (ess : List (List ℤ)) → Within is ess → Within (indexes (stepped m (placesFor is ess))) ess
   step-within [] ess w = tt
   step-within (i ∷ is) [] w = tt
-  step-within (i ∷ is) (es ∷ ess) w = (place-within es i (steppedOn m i (ahead es i) .index) m (place-again m es i) (w .0), step-within is ess (w .1))
+  step-within (i ∷ is) (es ∷ ess) w = (place-within m es i (w .0), step-within is ess (w .1))
 
   step-length : (is : List ℕ) (ess : List (List ℤ)) → length is ≡ length ess → length (indexes (stepped m (placesFor is ess))) ≡ length is
   step-length [] ess h = refl

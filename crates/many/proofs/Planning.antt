@@ -1,6 +1,6 @@
 -- The loop of `plan_many`: the segments of the walk so far are written, with an index for each column.
 -- Assumes nothing.
-use Prim.Native.Nat.{ℕ, _+_, _*_, _-_, _≤_, _<_, _^_}
+use Prim.Native.Nat.{ℕ, _+_, _*_, _-_, _≤_, _<_}
 use mathlib.Core.List.{List, [], _∷_, _++_, append-nil, append-assoc}
 use mathlib.Core.Path.{_≡_, refl, ap, sym, _∙_}
 use native.Mathlib.Nat.{suc-mul, zero-mul, mul-le-mul-right}
@@ -11,6 +11,7 @@ use lib.ListN.{length, take, drop, set, length-append}
 use Rattle.column.specs.Runs.{over}
 use Rattle.column.proofs.Buffer.{Written, write-start, write-next, over-rest}
 use Rattle.plan.specs.Plan.{Segment, indexes, segments}
+use Rattle.plan.specs.Walk.{spent}
 use Rattle.plan.proofs.Listing.{segmentAt}
 use Rattle.many.specs.Many.{allIndexes}
 use Rattle.many.specs.Workers.{placesOf, Stepped, Walkable, PlanManyFilled}
@@ -46,13 +47,13 @@ module _ (os : List ℕ) (es e₀ : List ℤ) (x₀ : List ℕ) where
   }
 
 module _ {os : List ℕ} {es e₀ : List ℤ} {x₀ is : List ℕ} {e : List ℤ} {x : List ℕ} {n m end : ℕ} (p : Planning os es e₀ x₀ is e x n m end) where
-  pub planning-end : 2 ^ 64 - 1 ≤ end → PlanManyFilled (segments (endsOfParts os es)) e₀ e x₀ x (record { segments = n; indexes = m })
+  pub planning-end : spent ≤ end → PlanManyFilled (segments (endsOfParts os es)) e₀ e x₀ x (record { segments = n; indexes = m })
   planning-end h = rw (walk-end (p .walk) h) (record { segments = p .ends .count; indexes = p .count; ends-written = p .ends .entries; indexes-written = p .entries })
 
   columns : length os - 1 ≡ length is
   columns = omega (arith, p .walk .placed .count)
 
-  module _ (h : end < 2 ^ 64 - 1) (roomE : length es ≤ length e₀) (roomX : length es * (length os - 1) ≤ length x₀) where
+  module _ (h : end < spent) (roomE : length es ≤ length e₀) (roomX : length es * (length os - 1) ≤ length x₀) where
     pub planning-ends : n < length e
     planning-ends = omega (arith, walk-few (p .walk) h, p .ends .count, p .ends .long)
 

@@ -1,6 +1,6 @@
 -- The loop of a step: columns up to the c-th have gone on, to the indexes `done`, and l is the least of their ends.
 -- Assumes nothing.
-use Prim.Native.Nat.{ℕ, suc, _+_, _-_, _≤_, _<_, _^_, min}
+use Prim.Native.Nat.{ℕ, suc, _+_, _≤_, _<_, _^_, min}
 use mathlib.Core.Bool.{cond}
 use mathlib.Core.Option.{none}
 use mathlib.Core.List.{List, [], _∷_, _++_, map}
@@ -17,12 +17,11 @@ use Rattle.column.specs.Runs.{magnitude}
 use Rattle.column.proofs.Flattened.{AllValid, offset-within, sequences-told}
 use Rattle.column.proofs.Parts.{partsAt, parts-start, length-part}
 use Rattle.plan.specs.Plan.{Place, leastEnd, steppedOn, rests, indexes, stepped}
-use Rattle.plan.specs.Walk.{placeAt}
+use Rattle.plan.specs.Walk.{placeAt, spent, EndAt}
 use Rattle.plan.proofs.Segments.{least-cons}
 use Rattle.plan.proofs.Step.{ahead}
-use Rattle.plan.proofs.Walking.{place-within}
-use Rattle.many.specs.Workers.{placesOf, Within, InColumn, EndAt, Placed, Stepped}
-use Rattle.many.proofs.Entries.{place-moves, earlier, earlier-next, earlier-small}
+use Rattle.many.specs.Workers.{placesOf, Within, InColumn, Placed, Stepped}
+use Rattle.many.proofs.Entries.{place-moves, earlier, earlier-next, earlier-small, place-within}
 use Rattle.many.proofs.Places.{columnAt, placesFrom, places-cons, within-cons, valid-cons, places-again}
 
 module _ (os : List ℕ) (es : List ℤ) (m : ℕ) (is : List ℕ) where
@@ -37,11 +36,11 @@ module _ (os : List ℕ) (es : List ℤ) (m : ℕ) (is : List ℕ) where
     pub steps : indexes (stepped m (placesOf os es is)) ≡ done ++ indexes (rest c)
     pub least : leastEnd (rests (stepped m (placesOf os es is))) ≡ earlier l (leastEnd (rests (rest c)))
     pub bounded : l < 2 ^ 64
-    pub small : l < 2 ^ 64 - 1 → l < 2 ^ 63
+    pub small : l < spent → l < 2 ^ 63
     pub within : Within (drop c is) (partsAt c os es)
     pub valid : AllValid (partsAt c os es)
 
-  pub step-start : Placed os es is → Stepping is (2 ^ 64 - 1) 0
+  pub step-start : Placed os es is → Stepping is spent 0
   step-start q =
       let p = parts-start os es in
       record {
@@ -102,12 +101,12 @@ module _ {os : List ℕ} {es : List ℤ} {m : ℕ} {is is′ : List ℕ} {l c : 
     pub step-at : InColumn es (getD os c 0) (getD os (c + 1) 0) i
     step-at = in-column i place-inside
 
-    module _ {e n : ℕ} (a : EndAt (ahead column i) e) (small : m < 2 ^ 64 - 1) (en : n ≡ i + cond (eqb e m) 1 0) where
+    module _ {e n : ℕ} (a : EndAt (ahead column i) e) (small : m < spent) (en : n ≡ i + cond (eqb e m) 1 0) where
       moved : placeAt column n ≡ steppedOn m i (ahead column i)
       moved = place-moves m column i a small en
 
       pub step-moved : InColumn es (getD os c 0) (getD os (c + 1) 0) n
-      step-moved = in-column n (place-within column i n m moved place-inside)
+      step-moved = in-column n (rw (ap (λ (p : Place). p .index) moved) (place-within m column i place-inside))
 
       abbrev others : List Place
       others = rest os es m is (c + 1)

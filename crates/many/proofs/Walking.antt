@@ -14,7 +14,7 @@ use Rattle.column.specs.Runs.{magnitude}
 use Rattle.column.proofs.Ends.{rising}
 use Rattle.column.proofs.Flattened.{AllValid, offsets-some, length-parts, total-parts, sequences-told}
 use Rattle.plan.specs.Plan.{Place, Segment, steppedOn, leastEnd, rests, indexes, stepped, firstPlaces, segments}
-use Rattle.plan.specs.Walk.{Steps}
+use Rattle.plan.specs.Walk.{Steps, spent}
 use Rattle.plan.proofs.Listing.{Listing, segmentAt, list-start, list-next, list-end, step-less, left-first, segments-first}
 use Rattle.plan.proofs.Segments.{left}
 use Rattle.many.specs.Workers.{placesFor, placesOf, Within, endFound, Placed, Stepped, Walkable}
@@ -63,7 +63,7 @@ module _ (os : List ℕ) (es : List ℤ) where
     pub placed : Placed os es is
     pub listing : Listing (firstPlaces (endsOfParts os es)) done (placesOf os es is)
     pub found : leastEnd (rests (placesOf os es is)) ≡ endFound end
-    pub small : end < 2 ^ 64 - 1 → end < 2 ^ 63
+    pub small : end < spent → end < 2 ^ 63
 
   module _ {is : List ℕ} (q : Walkable os es is) where
     zeros : is ≡ replicate (length (parts os es)) 0
@@ -92,18 +92,18 @@ module _ (os : List ℕ) (es : List ℤ) where
         }
 
 module _ {os : List ℕ} {es : List ℤ} {done : List Segment} {is : List ℕ} {end : ℕ} (w : Walk os es done is end) where
-  pub walk-none : 2 ^ 64 - 1 ≤ end → leastEnd (rests (placesOf os es is)) ≡ none
-  walk-none h = w .found ∙ rw (le-ltb end (2 ^ 64 - 1) h)
+  pub walk-none : spent ≤ end → leastEnd (rests (placesOf os es is)) ≡ none
+  walk-none h = w .found ∙ rw (le-ltb end spent h)
 
-  pub walk-end : 2 ^ 64 - 1 ≤ end → segments (endsOfParts os es) ≡ done
+  pub walk-end : spent ≤ end → segments (endsOfParts os es) ≡ done
   walk-end h = segments-first (endsOfParts os es) ∙ list-end (w .listing) (walk-none h)
 
   pub walk-indexes : indexes (placesOf os es is) ≡ is
   walk-indexes = indexes-places is (parts os es) (placed-paired (w .placed))
 
-  module _ (h : end < 2 ^ 64 - 1) where
+  module _ (h : end < spent) where
     ends : leastEnd (rests (placesOf os es is)) ≡ some end
-    ends = w .found ∙ rw (lt-ltb end (2 ^ 64 - 1) h)
+    ends = w .found ∙ rw (lt-ltb end spent h)
 
     -- there are no more segments than runs
     pub walk-few : length done < length es

@@ -1,6 +1,6 @@
 -- The loop of `zip_many`: the merged runs of the segments so far are written.
 -- Assumes nothing.
-use Prim.Native.Nat.{ℕ, _+_, _≤_, _<_, _^_, _-_}
+use Prim.Native.Nat.{ℕ, _+_, _≤_, _<_, _^_}
 use mathlib.Core.List.{List, []}
 use mathlib.Core.Path.{_≡_, refl, ap, sym, _∙_}
 use native.Mathlib.Omega.{arith}
@@ -18,6 +18,7 @@ use Rattle.column.proofs.Merging.{Merging, merge-start}
 use Rattle.column.proofs.Pushed.{pushAll}
 use Rattle.column.proofs.Rising.{Valid}
 use Rattle.plan.specs.Plan.{Place, Segment, indexes, firstPlaces}
+use Rattle.plan.specs.Walk.{spent}
 use Rattle.plan.proofs.Listing.{Listing}
 use Rattle.plan.proofs.Segments.{left}
 use Rattle.plan.proofs.Zipping.{starts, shownAt, mergedRuns, zip-none, zip-at, zip-last, zip-more, zip-end}
@@ -69,12 +70,12 @@ module _ (op : ℤ → ℤ → ℤ) (fill : ℤ) (os : List ℕ) (es vs e₀ v�
     zipped-none h = zip-none op cs valid (total ∙ h) e₀ v₀
 
     module _ {is : List ℕ} {e v : List ℤ} {w : Writer} {end : ℕ} (z : Zipped is e v w end) where
-      pub zipped-end : 2 ^ 64 - 1 ≤ end → 0 < length es → Filled (combined op cs) e₀ e v₀ v (w .at + 1)
+      pub zipped-end : spent ≤ end → 0 < length es → Filled (combined op cs) e₀ e v₀ v (w .at + 1)
       zipped-end h k =
           let l : Listing (starts op cs) (z .done) (placesOf os es is) = rw started (z .walk .listing) in
           zip-end op cs valid l (z .merging) (walk-none (z .walk) h) (omega (arith, total))
 
-      module _ (h : end < 2 ^ 64 - 1) {x : ℤ} (ex : x ≡ value is) where
+      module _ (h : end < spent) {x : ℤ} (ex : x ≡ value is) where
         is-shown : x ≡ shownAt op cs (indexes (placesOf os es is))
         is-shown = ex ∙ sym (shown (z .walk))
 

@@ -12,7 +12,7 @@ use Rattle.column.specs.Lists.{parts}
 use Rattle.column.specs.Questions.{offsetsValid, sequencesValid}
 use Rattle.column.specs.Runs.{over}
 use Rattle.plan.specs.Plan.{Place, Segment, leastEnd, rests, indexes, stepped, segmentEnds}
-use Rattle.plan.specs.Walk.{placeAt}
+use Rattle.plan.specs.Walk.{placeAt, spent}
 use Rattle.many.specs.declared.inner.Counts.{Counts}
 use Rattle.many.specs.declared.Lengths.{Lengths}
 use Rattle.many.specs.Many.{mostColumns, allIndexes}
@@ -37,20 +37,9 @@ pub record InColumn (xs : List ℤ) (a b i : ℕ) : Type 0 where
   pub inside : b ≤ length xs
   pub place : a + i ≤ b
 
--- the first of the ends that a column has left; where it has none, the greatest number, which is no end
-abbrev pub currentEnd : List ℕ → ℕ
-currentEnd [] = 2 ^ 64 - 1
-currentEnd (e ∷ es) = e
-
--- and what tells the two apart
-pub record EndAt (rest : List ℕ) (r : ℕ) : Type 0 where
-  pub current : r ≡ currentEnd rest
-  pub small : r < 2 ^ 64 - 1 → r < 2 ^ 63
-  pub some : 0 < length rest → r < 2 ^ 64 - 1
-
--- the end that such a number stands for, or none
+-- the end that a number stands for, or none
 abbrev pub endFound : ℕ → Option ℕ
-endFound e = cond (ltb e (2 ^ 64 - 1)) (some e) none
+endFound e = cond (ltb e spent) (some e) none
 
 -- valid columns, each at its place
 pub record Placed (os : List ℕ) (es : List ℤ) (is : List ℕ) : Type 0 where
@@ -63,7 +52,7 @@ pub record Placed (os : List ℕ) (es : List ℤ) (is : List ℕ) : Type 0 where
 pub record Stepped (os : List ℕ) (es : List ℤ) (start : ℕ) (is is′ : List ℕ) (end : ℕ) : Type 0 where
   pub next : is′ ≡ indexes (stepped start (placesOf os es is))
   pub found : leastEnd (rests (placesOf os es is′)) ≡ endFound end
-  pub small : end < 2 ^ 64 - 1 → end < 2 ^ 63
+  pub small : end < spent → end < 2 ^ 63
 
 -- the values of the runs where columns stand, or the fill where one is spent
 abbrev pub valuesAt : List ℕ → List (List ℤ) → ℤ → List ℤ

@@ -1,6 +1,7 @@
 // Workers that assume what the calls have asked, and the walk over the segments of many columns. The ends are valid.
 use column::inner::Writer;
 use column::sequence;
+use plan::inner::SPENT;
 ghost use Prim.Native.Nat.{_+_, _*_, _-_, _≤_, _<_, _^_};
 ghost use mathlib.Core.Bool.{cond};
 ghost use mathlib.Core.List.{_++_, map};
@@ -16,10 +17,8 @@ ghost use Rattle.column.specs.Lists.{part, parts};
 ghost use Rattle.column.specs.Questions.{endsValid};
 ghost use Rattle.column.specs.Runs.{magnitude, lengthOfEnds, over, Filled};
 ghost use Rattle.plan.specs.Plan.{segments};
-ghost use Rattle.many.specs.Workers.{InColumn, EndAt, Placed, Stepped, valuesAt, Foldable, Walkable, Combinable, Plannable, Zippable, PlanManyFilled};
-
-// No end is as large: it stands where no run is left.
-const NONE: usize = usize::MAX;
+ghost use Rattle.plan.specs.Walk.{spent, EndAt};
+ghost use Rattle.many.specs.Workers.{InColumn, Placed, Stepped, valuesAt, Foldable, Walkable, Combinable, Plannable, Zippable, PlanManyFilled};
 
 // How many segments were written, and how many indexes.
 pub struct Counts {
@@ -37,7 +36,7 @@ pub fn length_at(offsets: &[usize], ends: &[i64], c: usize) -> i64
     sequence::length(sequence::part(ends, from, to))
 }
 
-// The end of the run where a column stands, or `NONE` where the column is spent. The column's runs are those from `from` up to `to`.
+// The end of the run where a column stands, or `SPENT` where the column is spent. The column's runs are those from `from` up to `to`.
 fn end_at(ends: &[i64], from: usize, to: usize, place: usize) -> usize
     requires { ⌜ InColumn (now ends) from to place × (endsValid (part from to (now ends)) ≡ none) ⌝ }
     ensures { λ r. ⌜ EndAt (map magnitude (drop place (part from to (now (ends .entry))))) r ⌝ }
@@ -47,7 +46,7 @@ fn end_at(ends: &[i64], from: usize, to: usize, place: usize) -> usize
         let end = ends[at];
         end as usize
     } else {
-        NONE
+        SPENT
     }
 }
 
@@ -60,12 +59,12 @@ fn stepped(place: usize, end: usize, start: usize) -> usize
 }
 
 // Each column whose current run ends at `start` goes on to its next one. The least of the ends of the runs that are current then, or
-// `NONE`. No branch tells which columns go on.
+// `SPENT`. No branch tells which columns go on.
 pub fn step(offsets: &[usize], ends: &[i64], places: &mut [usize], start: usize) -> usize
-    requires { ⌜ Placed (now offsets) (now ends) (now places) × (start < 2 ^ 64 - 1) ⌝ }
+    requires { ⌜ Placed (now offsets) (now ends) (now places) × (start < spent) ⌝ }
     ensures { λ r. ⌜ Stepped (now (offsets .entry)) (now (ends .entry)) start (now (places .entry)) (now (places .exit)) r ⌝ }
 {
-    let mut least = NONE;
+    let mut least = SPENT;
     let mut c: usize = 0;
     while c < places.len() {
         let from = offsets[c];
@@ -131,7 +130,7 @@ fn plan_walk(
     let mut n: usize = 0;
     let mut m: usize = 0;
     let mut end = step(offsets, ends, places, 0);
-    while end < NONE {
+    while end < SPENT {
         out_ends[n] = end as i64;
         n += 1;
         m = put_places(places, out_idx, m);
@@ -178,7 +177,7 @@ fn zip_walk(
     let mut end = step(offsets, ends, places, 0);
     let first = fold(code, offsets, values, places, fill);
     let mut writer = Writer { at: 0, last: first };
-    while end < NONE {
+    while end < SPENT {
         let value = fold(code, offsets, values, places, fill);
         writer = column::inner::push_merged(writer, out_ends, out_values, end as i64, value);
         end = step(offsets, ends, places, end);

@@ -16,11 +16,12 @@ use Rattle.column.proofs.Buffer.{Written, write-start, write-next}
 use Rattle.column.proofs.Merging.{Merging, merge-start}
 use Rattle.column.proofs.Pushed.{pushAll}
 use Rattle.plan.specs.Plan.{Segment, segmentRun, segmentRuns}
-use Rattle.plan.specs.Walk.{placesAt, Steps}
+use Rattle.plan.specs.declared.inner.Segments.{Segments}
+use Rattle.plan.specs.Walk.{placesAt, Starts, Walks}
 use Rattle.plan.proofs.Columns.{ends-in, both-valid, both-start, both-shown}
 use Rattle.plan.proofs.Listing.{Listing, segmentAt}
 use Rattle.plan.proofs.Segments.{left, none-left}
-use Rattle.plan.proofs.Walking.{cursor, Walk, left-at, walk-start, walk-few, walk-next, walk-end}
+use Rattle.plan.proofs.Walking.{firsts, Walk, left-firsts, walk-start, walk-few, walk-none, walk-next, walk-end}
 use Rattle.plan.proofs.Zipping.{starts, shownAt, mergedRuns, zip-none, zip-at, zip-last, zip-more, zip-end}
 use Rattle.ops.specs.Workers.{Zippable}
 
@@ -45,13 +46,13 @@ module _ (op : ℤ → ℤ → ℤ) (fa fb : ℤ) (ae av be bv e₀ v₀ : List 
 
   -- ---- zip_with
 
-  pub record Zipped (e v : List ℤ) (w : Writer) (i j : ℕ) : Type 0 where
+  pub record Zipped (e v : List ℤ) (w : Writer) (c : Segments) : Type 0 where
     pub done : List Segment
-    pub walk : Walk ae be done i j
+    pub walk : Walk ae be done c
     pub merging : Merging (mergedRuns op cs done) (shownAt op cs (0 ∷ 0 ∷ [])) e₀ v₀ e v w
 
-  pub zipped-last : {e v : List ℤ} {w : Writer} {i j : ℕ} → Zipped e v w i j → w .at ≤ length ae + length be
-  zipped-last z = omega (arith, zip-last op cs (z .done) (z .merging), walk-few ae be (z .walk), z .walk .in-a, z .walk .in-b)
+  pub zipped-last : {e v : List ℤ} {w : Writer} {c : Segments} → Zipped e v w c → w .at ≤ length ae + length be
+  zipped-last z = omega (arith, zip-last op cs (z .done) (z .merging), walk-few ae be (z .walk), z .walk .standing .left .within, z .walk .standing .right .within)
 
   -- ---- zip_with_raw
 
@@ -61,74 +62,74 @@ module _ (op : ℤ → ℤ → ℤ) (fa fb : ℤ) (ae av be bv e₀ v₀ : List 
   abbrev runValue : Segment → ℤ
   runValue s = shownAt op cs (s .indexes)
 
-  pub record Listed (e v : List ℤ) (n i j : ℕ) : Type 0 where
+  pub record Listed (e v : List ℤ) (n : ℕ) (c : Segments) : Type 0 where
     pub done : List Segment
-    pub walk : Walk ae be done i j
+    pub walk : Walk ae be done c
     pub ends : Written runEnd done e₀ e n
     pub values : Written runValue done v₀ v n
 
-  pub listed-start : Listed e₀ v₀ 0 0 0
-  listed-start = record { done = []; walk = walk-start ae be; ends = write-start runEnd e₀; values = write-start runValue v₀ }
+  pub listed-start : {c : Segments} → Starts ae be c → Listed e₀ v₀ 0 c
+  listed-start s = record { done = []; walk = walk-start ae be s; ends = write-start runEnd e₀; values = write-start runValue v₀ }
 
   module _ (q : Zippable (sequence ae av) (sequence be bv) e₀ v₀) where
-    started : starts op cs ≡ placesAt ae be (cursor 0 0)
+    started : starts op cs ≡ firsts ae be
     started = both-start op (Value fa) (Value fb) ae av be bv (q .paired-a) (q .paired-b)
 
     shown : (i j : ℕ) → shownAt op cs (i ∷ j ∷ []) ≡ value i j
     shown = both-shown op (Value fa) (Value fb) ae av be bv (q .paired-a) (q .paired-b)
 
     total : left (starts op cs) ≡ length ae + length be
-    total = let l : left (placesAt ae be (cursor 0 0)) ≡ length ae + length be = omega (arith, left-at ae be (cursor 0 0)) in ap left started ∙ l
+    total = ap left started ∙ left-firsts ae be
 
     pub zipped-none : length ae + length be ≡ 0 → Filled (combined op cs) e₀ e₀ v₀ v₀ 0
     zipped-none h = zip-none op cs (both-valid op (Value fa) (Value fb) ae av be bv (q .valid-a) (q .valid-b)) (total ∙ h) e₀ v₀
 
-    pub zipped-start : {first : ℤ} → first ≡ value 0 0 → Zipped e₀ v₀ (record { at = 0; last = first }) 0 0
+    pub zipped-start : {first : ℤ} {c : Segments} → first ≡ value 0 0 → Starts ae be c → Zipped e₀ v₀ (record { at = 0; last = first }) c
     unfolding mergedRuns pushAll
-    zipped-start h = rw (h, ← shown 0 0) (record { done = []; walk = walk-start ae be; merging = merge-start _ e₀ v₀ })
+    zipped-start h s = rw (h, ← shown 0 0) (record { done = []; walk = walk-start ae be s; merging = merge-start _ e₀ v₀ })
 
-    module _ {e v : List ℤ} {w : Writer} {i j : ℕ} (z : Zipped e v w i j) where
-      pub zipped-end : length ae + length be ≤ i + j → 0 < length ae + length be → Filled (combined op cs) e₀ e v₀ v (w .at + 1)
+    module _ {e v : List ℤ} {w : Writer} {c : Segments} (z : Zipped e v w c) where
+      pub zipped-end : length ae + length be ≤ c .a .index + c .b .index → 0 < length ae + length be → Filled (combined op cs) e₀ e v₀ v (w .at + 1)
       zipped-end h k =
-          let l : Listing (starts op cs) (z .done) (placesAt ae be (cursor i j)) = rw started (z .walk .listing) in
+          let l : Listing (starts op cs) (z .done) (placesAt ae be c) = rw started (z .walk .listing) in
           zip-end op cs (both-valid op (Value fa) (Value fb) ae av be bv (q .valid-a) (q .valid-b)) l (z .merging)
-          (none-left (placesAt ae be (cursor i j)) (omega (arith, left-at ae be (cursor i j), z .walk .in-a, z .walk .in-b)))
+          (none-left (placesAt ae be c) (walk-none ae be (z .walk) h))
           (omega (arith, total))
 
-      module _ {x : ℤ} (ex : x ≡ value i j) (h : i + j < length ae + length be) where
+      module _ {x : ℤ} (ex : x ≡ value (c .a .index) (c .b .index)) (h : c .a .index + c .b .index < length ae + length be) where
         pub zipped-room : length ae + length be < 2 ^ 64 → (w .at + 1 < 2 ^ 64) × (nextPlace w x < length e) × (nextPlace w x < length v)
         zipped-room k =
-            let p = zip-at op cs (z .walk .listing) (z .merging) (ex ∙ sym (shown i j)) in
+            let p = zip-at op cs (z .walk .listing) (z .merging) (ex ∙ sym (shown (c .a .index) (c .b .index))) in
             let f = walk-few ae be (z .walk) in
             (omega (arith, zip-last op cs (z .done) (z .merging)), omega (arith, q .room-ends, z .merging .long-ends), omega (arith, q .room-values, z .merging .long-values))
 
-        pub zipped-more : {t t′ : ℤ} {i′ j′ : ℕ} {e′ v′ : List ℤ} {next : Writer} → Steps (placesAt ae be (cursor i j)) t (placesAt ae be (cursor i′ j′)) → t′ ≡ t
-            → PushedMerged w t′ x e e′ v v′ next → Zipped e′ v′ next i′ j′
+        pub zipped-more : {t t′ : ℤ} {c′ : Segments} {e′ v′ : List ℤ} {next : Writer} → Walks ae be c t c′ → t′ ≡ t
+            → PushedMerged w t′ x e e′ v v′ next → Zipped e′ v′ next c′
         zipped-more {e′ = e′} {v′ = v′} {next = next} s et d =
             record {
               done = _;
               walk = walk-next ae be (z .walk) s;
-              merging = zip-more op cs (z .walk .listing) (z .merging) (ex ∙ sym (shown i j)) s (rw et at d)
-                  (omega (arith, q .room-ends, left-at ae be (cursor 0 0))) (omega (arith, q .room-values, left-at ae be (cursor 0 0)));
+              merging = zip-more op cs (z .walk .listing) (z .merging) (ex ∙ sym (shown (c .a .index) (c .b .index))) (s .steps) (rw et at d)
+                  (omega (arith, q .room-ends, left-firsts ae be)) (omega (arith, q .room-values, left-firsts ae be));
             }
 
     -- ---- zip_with_raw
 
-    module _ {e v : List ℤ} {n i j : ℕ} (z : Listed e v n i j) where
-      pub listed-few : n ≤ i + j
+    module _ {e v : List ℤ} {n : ℕ} {c : Segments} (z : Listed e v n c) where
+      pub listed-few : n ≤ c .a .index + c .b .index
       listed-few = omega (arith, walk-few ae be (z .walk), z .ends .count)
 
-      pub listed-next : {t t′ x : ℤ} {i′ j′ : ℕ} → Steps (placesAt ae be (cursor i j)) t (placesAt ae be (cursor i′ j′)) → t′ ≡ t → x ≡ value i j
-          → i + j < length ae + length be → Listed (set e n t′) (set v n x) (n + 1) i′ j′
+      pub listed-next : {t t′ x : ℤ} {c′ : Segments} → Walks ae be c t c′ → t′ ≡ t → x ≡ value (c .a .index) (c .b .index)
+          → c .a .index + c .b .index < length ae + length be → Listed (set e n t′) (set v n x) (n + 1) c′
       listed-next {t} s et ex h =
           record {
             done = _;
             walk = walk-next ae be (z .walk) s;
-            ends = write-next runEnd (z .ends) (omega (arith, listed-few, q .room-ends)) (segmentAt (placesAt ae be (cursor i j)) t) (et ∙ s .natural);
-            values = write-next runValue (z .values) (omega (arith, listed-few, q .room-values)) (segmentAt (placesAt ae be (cursor i j)) t) (ex ∙ sym (shown i j));
+            ends = write-next runEnd (z .ends) (omega (arith, listed-few, q .room-ends)) (segmentAt (placesAt ae be c) t) (et ∙ s .steps .natural);
+            values = write-next runValue (z .values) (omega (arith, listed-few, q .room-values)) (segmentAt (placesAt ae be c) t) (ex ∙ sym (shown (c .a .index) (c .b .index)));
           }
 
-      pub listed-end : length ae + length be ≤ i + j → Filled (segmentRuns op cs) e₀ e v₀ v n
+      pub listed-end : length ae + length be ≤ c .a .index + c .b .index → Filled (segmentRuns op cs) e₀ e v₀ v n
       unfolding segmentRuns endsOf valuesOf
       listed-end h =
           let all = walk-end ae be (z .walk) h in

@@ -55,17 +55,21 @@ pub fn zip_with(
     let right = &b_values[..b_ends.len()];
     let first = shown_at(code, left, 0, fill_a, right, 0, fill_b);
     let mut writer = Writer { at: 0, last: first };
-    let mut i: usize = 0;
-    let mut j: usize = 0;
-    while i + j < total {
-        let here = Segments { i, j };
+    let mut here = Segments::start(a_ends, b_ends);
+    while here.more() {
         let segment = here.next(a_ends, b_ends);
         let end = segment.end;
-        let next = segment.next;
-        let value = shown_at(code, left, i, fill_a, right, j, fill_b);
+        let value = shown_at(
+            code,
+            left,
+            here.a.index,
+            fill_a,
+            right,
+            here.b.index,
+            fill_b,
+        );
         writer = column::inner::push_merged(writer, out_ends, out_values, end, value);
-        i = next.i;
-        j = next.j;
+        here = segment.next;
     }
     writer.at + 1
 }
@@ -86,23 +90,26 @@ pub fn zip_with_raw(
         (segmentRuns (operation code) (sides (sequence (now («a_ends» .entry)) (now («a_values» .entry))) (sequence (now («b_ends» .entry)) (now («b_values» .entry))) (Value «fill_a») (Value «fill_b»)))
         (now («out_ends» .entry)) (now («out_ends» .exit)) (now («out_values» .entry)) (now («out_values» .exit)) r ⌝ }
 {
-    let total = a_ends.len() + b_ends.len();
     let left = &a_values[..a_ends.len()];
     let right = &b_values[..b_ends.len()];
     let mut n: usize = 0;
-    let mut i: usize = 0;
-    let mut j: usize = 0;
-    while i + j < total {
-        let here = Segments { i, j };
+    let mut here = Segments::start(a_ends, b_ends);
+    while here.more() {
         let segment = here.next(a_ends, b_ends);
         let end = segment.end;
-        let next = segment.next;
-        let value = shown_at(code, left, i, fill_a, right, j, fill_b);
+        let value = shown_at(
+            code,
+            left,
+            here.a.index,
+            fill_a,
+            right,
+            here.b.index,
+            fill_b,
+        );
         out_ends[n] = end;
         out_values[n] = value;
         n += 1;
-        i = next.i;
-        j = next.j;
+        here = segment.next;
     }
     n
 }

@@ -15,9 +15,8 @@ use Rattle.column.proofs.All.{All}
 use Rattle.column.proofs.Ends.{rising, runs-rise, values-runs}
 use Rattle.column.proofs.Rising.{Valid}
 use Rattle.plan.specs.Plan.{endsIn, segmentsOf, segmentRun, segmentRuns}
-use Rattle.plan.specs.Walk.{placesAt}
 use Rattle.plan.proofs.Raw.{raw-dense}
-use Rattle.plan.proofs.Walking.{cursor}
+use Rattle.plan.proofs.Walking.{firsts}
 use Rattle.plan.proofs.Zipping.{starts, shownAt}
 
 pub ends-in : (es vs : List ℤ) → length es ≡ length vs → endsIn (runsOf es vs) ≡ map magnitude es
@@ -34,7 +33,7 @@ module _ (op : ℤ → ℤ → ℤ) (fa fb : Fill) (ae av be bv : List ℤ) wher
   both-valid va vb = (runs-rise 0 ae av (rising ae va), (runs-rise 0 be bv (rising be vb), tt))
 
   module _ (la : length ae ≡ length av) (lb : length be ≡ length bv) where
-    pub both-start : starts op both ≡ placesAt ae be (cursor 0 0)
+    pub both-start : starts op both ≡ firsts ae be
     both-start = rw (ends-in ae av la, ends-in be bv lb)
 
     pub both-shown : (i j : ℕ) → shownAt op both (i ∷ j ∷ []) ≡ op (getD av i (valueOf fa)) (getD bv j (valueOf fb))

@@ -13,9 +13,10 @@ use Rattle.column.specs.Asking.{Question, _otherwise_}
 use Rattle.column.specs.Paper.{answers, paper}
 use Rattle.column.proofs.Buffer.{Written, write-start, write-next}
 use Rattle.plan.specs.Plan.{Segment, segmentsOf, WritesPlan}
-use Rattle.plan.specs.Walk.{placesAt, Steps, PlanFilled}
+use Rattle.plan.specs.declared.inner.Segments.{Segments}
+use Rattle.plan.specs.Walk.{placesAt, Starts, Walks, PlanFilled}
 use Rattle.plan.proofs.Listing.{segmentAt}
-use Rattle.plan.proofs.Walking.{cursor, Walk, walk-start, walk-few, walk-next, walk-end}
+use Rattle.plan.proofs.Walking.{Walk, walk-start, walk-few, walk-next, walk-end}
 
 abbrev endOf : Segment → ℤ
 endOf s = pos (s .end)
@@ -23,35 +24,35 @@ endOf s = pos (s .end)
 abbrev indexIn : ℕ → Segment → ℕ
 indexIn c s = getD (s .indexes) c 0
 
-pub record Planning (a b e₀ : List ℤ) (x₀ y₀ : List ℕ) (e : List ℤ) (x y : List ℕ) (n i j : ℕ) : Type 0 where
+pub record Planning (a b e₀ : List ℤ) (x₀ y₀ : List ℕ) (e : List ℤ) (x y : List ℕ) (n : ℕ) (c : Segments) : Type 0 where
   pub done : List Segment
-  pub walk : Walk a b done i j
+  pub walk : Walk a b done c
   pub ends : Written endOf done e₀ e n
   pub left : Written (indexIn 0) done x₀ x n
   pub right : Written (indexIn 1) done y₀ y n
 
-pub planning-start : (a b e₀ : List ℤ) (x₀ y₀ : List ℕ) → Planning a b e₀ x₀ y₀ e₀ x₀ y₀ 0 0 0
-planning-start a b e₀ x₀ y₀ =
-    record { done = []; walk = walk-start a b; ends = write-start endOf e₀; left = write-start (indexIn 0) x₀; right = write-start (indexIn 1) y₀ }
+pub planning-start : (a b e₀ : List ℤ) (x₀ y₀ : List ℕ) {c : Segments} → Starts a b c → Planning a b e₀ x₀ y₀ e₀ x₀ y₀ 0 c
+planning-start a b e₀ x₀ y₀ s =
+    record { done = []; walk = walk-start a b s; ends = write-start endOf e₀; left = write-start (indexIn 0) x₀; right = write-start (indexIn 1) y₀ }
 
-module _ {a b e₀ : List ℤ} {x₀ y₀ : List ℕ} {e : List ℤ} {x y : List ℕ} {n i j : ℕ} (p : Planning a b e₀ x₀ y₀ e x y n i j) where
-  pub planning-few : n ≤ i + j
+module _ {a b e₀ : List ℤ} {x₀ y₀ : List ℕ} {e : List ℤ} {x y : List ℕ} {n : ℕ} {c : Segments} (p : Planning a b e₀ x₀ y₀ e x y n c) where
+  pub planning-few : n ≤ c .a .index + c .b .index
   planning-few = omega (arith, walk-few a b (p .walk), p .ends .count)
 
-  pub planning-next : {z z′ : ℤ} {i′ j′ : ℕ} → Steps (placesAt a b (cursor i j)) z (placesAt a b (cursor i′ j′)) → z′ ≡ z → i + j < length a + length b
+  pub planning-next : {z z′ : ℤ} {c′ : Segments} → Walks a b c z c′ → z′ ≡ z → c .a .index + c .b .index < length a + length b
       → length a + length b ≤ length e₀ → length a + length b ≤ length x₀ → length a + length b ≤ length y₀
-      → Planning a b e₀ x₀ y₀ (set e n z′) (set x n i) (set y n j) (n + 1) i′ j′
+      → Planning a b e₀ x₀ y₀ (set e n z′) (set x n (c .a .index)) (set y n (c .b .index)) (n + 1) c′
   planning-next {z} s ez h re rx ry =
-      let t = segmentAt (placesAt a b (cursor i j)) z in
+      let t = segmentAt (placesAt a b c) z in
       record {
         done = _;
         walk = walk-next a b (p .walk) s;
-        ends = write-next endOf (p .ends) (omega (arith, planning-few)) t (ez ∙ s .natural);
+        ends = write-next endOf (p .ends) (omega (arith, planning-few)) t (ez ∙ s .steps .natural);
         left = write-next (indexIn 0) (p .left) (omega (arith, planning-few)) t refl;
         right = write-next (indexIn 1) (p .right) (omega (arith, planning-few)) t refl;
       }
 
-  pub planning-end : length a + length b ≤ i + j → PlanFilled (segmentsOf a b) e₀ e x₀ x y₀ y n
+  pub planning-end : length a + length b ≤ c .a .index + c .b .index → PlanFilled (segmentsOf a b) e₀ e x₀ x y₀ y n
   planning-end h =
       rw (walk-end a b (p .walk) h)
       (record { count = p .ends .count; ends = p .ends .entries; left = p .left .entries; right = p .right .entries })

@@ -1,25 +1,23 @@
--- One step of a walk: a column by itself, and two columns together.
+-- One step of a walk by cursors: a column by itself, and two columns together.
 -- Assumes nothing.
-use Prim.Native.Nat.{ℕ, suc, _+_, _-_, _≤_, _<_, min}
-use mathlib.Core.Bool.{Bool, cond}
+use Prim.Native.Nat.{ℕ, suc, _+_, _-_, _≤_, _<_, _^_, min}
+use mathlib.Core.Bool.{Bool, cond, true, false}
+use mathlib.Core.Option.{some}
 use mathlib.Core.List.{List, [], _∷_, map}
 use mathlib.Core.Path.{_≡_, refl, ap, sym, _∙_}
-use native.Mathlib.Nat.{add-zero}
 use native.Mathlib.Numerals.{add-one}
 use native.Mathlib.Omega.{arith}
-use lib.Dec.{eqb, leb, ltb}
+use lib.Dec.{ltb}
 use lib.IntN.{ℤ, pos}
 use lib.ListN.{length, getD, drop, drop-of-length-le}
 use lib.Seq.{drop-cons}
-use lib.Signed.{leZ}
-use borrow.Author.Tests.{leb-true, leb-false, le-leb, lt-leb, ltb-true, ltb-false, eq-eqb, ne-eqb}
-use Rattle.num.specs.Numbers.{eqZ, smallerOf}
-use Rattle.num.proofs.Tests.{by-test, eqZ-refl}
+use borrow.Author.Tests.{ltb-true, ltb-false, eq-eqb, ne-eqb}
+use Rattle.num.proofs.Tests.{by-test}
 use Rattle.column.specs.Runs.{magnitude}
-use Rattle.column.proofs.Naturals.{smaller-naturals}
+use Rattle.plan.specs.declared.inner.Cursor.{Cursor}
 use Rattle.plan.specs.declared.inner.Segments.{Segments}
-use Rattle.plan.specs.Plan.{steppedOn}
-use Rattle.plan.specs.Walk.{placeAt, placesAt, Steps}
+use Rattle.plan.specs.Plan.{leastEnd, rests, steppedOn}
+use Rattle.plan.specs.Walk.{placeAt, placesAt, spent, currentEnd, EndAt, Stands, Standing, steppedCursor, Walks}
 
 -- ---- a column
 
@@ -34,79 +32,107 @@ module _ (es : List ℤ) (i : ℕ) where
   pub ahead-none : length es ≤ i → ahead ≡ []
   ahead-none h = rw (drop-of-length-le es {i = i} h)
 
-  -- it steps on if its current end x is where the segment ends
-  pub place-steps : {x e : ℤ} {m n : ℕ} → i < length es → x ≡ getD es i (pos 0) → x ≡ pos (magnitude x) → e ≡ pos m → n ≡ i + cond (eqZ x e) 1 0
-      → placeAt es n ≡ steppedOn m i ahead
-  place-steps {x} {e} {m} {n} h ex nx ne en =
-      let t : eqZ x e ≡ eqb (magnitude x) m = rw (nx, ne) in
-      let a : ahead ≡ magnitude x ∷ map magnitude (drop (suc i) es) = rw ex (ahead-some h) in
-      by-test (eqb (magnitude x) m)
-      (λ y. rw (en, t, y, a, y, add-one i))
-      (λ y. rw (en, t, y, add-zero i, a, y))
-
   pub place-stays : (m : ℕ) → length es ≤ i → placeAt es i ≡ steppedOn m i ahead
   place-stays m h = rw (ahead-none h)
 
+-- as the code reads it
+pub end-some : {r : ℕ} {rest : List ℕ} (e : ℕ) {es : List ℕ} → rest ≡ e ∷ es → r ≡ e → e < 2 ^ 63 → EndAt rest r
+end-some e h er f = rw (er, h) (record { current = refl; small = λ z. f; some = λ z. omega arith })
+
+pub end-none : {rest : List ℕ} → rest ≡ [] → EndAt rest spent
+end-none h = rw h (record { current = refl; small = λ z. let y : ⊥ = omega arith in absurd y; some = λ z. let y : ⊥ = omega arith in absurd y })
+
+-- as the code steps
+pub cursor-steps : (c : Cursor) (other behind : ℕ) {b e : ℕ} → b ≡ cond (ltb other (c .end)) 1 0 → e ≡ cond (ltb other (c .end)) (c .end) behind
+    → (b ≤ c .index + 1) × (_≡_ {A = Cursor} (record { index = c .index + 1 - b; end = e }) (steppedCursor c other behind))
+cursor-steps c other behind {b} {e} eb ee =
+    by-test (ltb other (c .end))
+    (λ t. let n : b ≡ 1 = eb ∙ rw t in let i : c .index + 1 - b ≡ c .index = omega arith in (omega arith, rw (i, ee, t)))
+    (λ t. let n : b ≡ 0 = eb ∙ rw t in let i : c .index + 1 - b ≡ c .index + 1 = omega arith in (omega arith, rw (i, ee, t)))
+
+module _ {es : List ℤ} {c : Cursor} (s : Stands es c) where
+  ahead-run : c .index < length es → ahead es (c .index) ≡ c .end ∷ ahead es (suc (c .index))
+  ahead-run h = let a = ahead-some es (c .index) h in
+      let e : c .end ≡ magnitude (getD es (c .index) (pos 0)) = s .ends .current ∙ ap currentEnd a in
+      a ∙ rw e
+
+  -- it is spent where its end says so
+  pub unspent-run : c .end < spent → c .index < length es
+  unspent-run h =
+      by-test (ltb (c .index) (length es))
+      (λ t. ltb-true _ _ t)
+      (λ t. let e : c .end ≡ spent = s .ends .current ∙ ap currentEnd (ahead-none es (c .index) (ltb-false _ _ t)) in let z : ⊥ = omega arith in absurd z)
+
+  pub spent-run : spent ≤ c .end → length es ≤ c .index
+  spent-run h =
+      by-test (ltb (c .index) (length es))
+      (λ t. let z : ⊥ = omega (arith, s .ends .some (rw (ahead-run (ltb-true _ _ t)) (omega arith))) in absurd z)
+      (λ t. ltb-false _ _ t)
+
+  module _ (other behind : ℕ) (h : min (c .end) other < spent) (n : EndAt (ahead es (c .index + 1)) behind) where
+    stays : other < c .end → placeAt es (c .index) ≡ steppedOn (min (c .end) other) (c .index) (ahead es (c .index))
+    stays l =
+        by-test (ltb (c .index) (length es))
+        (λ t. rw (ahead-run (ltb-true _ _ t), ne-eqb (c .end) (min (c .end) other) (λ e. omega arith)))
+        (λ t. place-stays es (c .index) (min (c .end) other) (ltb-false _ _ t))
+
+    goes : c .end ≤ other → placeAt es (c .index + 1) ≡ steppedOn (min (c .end) other) (c .index) (ahead es (c .index))
+    goes l = rw (ahead-run (unspent-run (omega arith)), eq-eqb (c .end) (min (c .end) other) (omega arith), add-one (c .index))
+
+    place-steps : Stands es (steppedCursor c other behind)
+        × (placeAt es (steppedCursor c other behind .index) ≡ steppedOn (min (c .end) other) (c .index) (ahead es (c .index)))
+    place-steps =
+        by-test (ltb other (c .end))
+        (λ t. rw t (s, stays (ltb-true _ _ t)))
+        (λ t. let l = ltb-false other (c .end) t in rw t (record { within = omega (arith, unspent-run (omega arith)); ends = n }, goes l))
+
 -- ---- two columns
 
-smaller-natural : (x y : ℤ) → x ≡ pos (magnitude x) → y ≡ pos (magnitude y) → smallerOf x y ≡ pos (min (magnitude x) (magnitude y))
-smaller-natural x y nx ny = rw (nx, ny) (smaller-naturals (magnitude x) (magnitude y))
+module _ {a b : List ℤ} {c : Segments} (s : Standing a b c) where
+  abbrev least : ℕ
+  least = min (c .a .end) (c .b .end)
 
-least-test : (m n k : ℕ) → k ≡ min m n → leb m n ≡ eqb m k
-least-test m n k e =
-    by-test (leb m n)
-    (λ t. let h = leb-true m n t in let q : m ≡ k = omega arith in t ∙ sym (eq-eqb m k q))
-    (λ t. let h = leb-false m n t in t ∙ sym (ne-eqb m k (λ q. omega arith)))
+  -- the smaller end is where the segment ends
+  pub least-fits : least < spent → least < 2 ^ 63
+  least-fits h =
+      by-test (ltb (c .a .end) spent)
+      (λ t. omega (arith, s .left .ends .small (ltb-true _ _ t)))
+      (λ t. let l = ltb-false (c .a .end) spent t in omega (arith, s .right .ends .small (omega arith)))
 
--- a run that no other ends before ends where the segment does
-ends-here : (x y : ℤ) {e : ℤ} (k : ℕ) → x ≡ pos (magnitude x) → y ≡ pos (magnitude y) → e ≡ pos k → k ≡ min (magnitude x) (magnitude y) → leZ x y ≡ eqZ x e
-ends-here x y {e} k nx ny ek h =
-    let l : leZ x y ≡ leb (magnitude x) (magnitude y) = rw (nx, ny) in
-    let r : eqZ x e ≡ eqb (magnitude x) k = rw (nx, ek) in
-    l ∙ least-test (magnitude x) (magnitude y) k h ∙ sym r
+  least-ends : least < spent → leastEnd (rests (placesAt a b c)) ≡ some least
+  least-ends h =
+      by-test (ltb (c .a .end) spent)
+      (λ t. let ra = ahead-run (s .left) (unspent-run (s .left) (ltb-true _ _ t)) in
+      by-test (ltb (c .b .end) spent)
+      (λ u. rw (ra, ahead-run (s .right) (unspent-run (s .right) (ltb-true _ _ u))))
+      (λ u. let l = ltb-false (c .b .end) spent u in
+      let m : c .a .end ≡ least = omega arith in
+      rw (ra, ahead-none b (c .b .index) (spent-run (s .right) l), ← m)))
+      (λ t. let l = ltb-false (c .a .end) spent t in
+      let m : c .b .end ≡ least = omega arith in
+      rw (ahead-none a (c .a .index) (spent-run (s .left) l), ahead-run (s .right) (unspent-run (s .right) (omega arith)), ← m))
 
--- as the code finds it
-pub index-steps : (i : ℕ) (x y : ℤ) {b m n : ℕ} → x ≡ pos (magnitude x) → y ≡ pos (magnitude y) → m ≡ magnitude x → n ≡ magnitude y → b ≡ cond (ltb n m) 1 0
-    → (b ≤ i + 1) × (i + 1 - b ≡ i + cond (leZ x y) 1 0)
-index-steps i x y {b} {m} {n} nx ny em en eb =
-    let l : leZ x y ≡ leb m n = rw (nx, ny, em, en) in
-    by-test (ltb n m)
-    (λ t. let h = ltb-true n m t in let e : b ≡ 1 = eb ∙ rw t in rw (l, lt-leb m n h) (omega arith, omega arith))
-    (λ t. let h = ltb-false n m t in let e : b ≡ 0 = eb ∙ rw t in rw (l, le-leb m n h) (omega arith, omega arith))
+  -- what the test for more tells
+  module _ {t : Bool} (e : t ≡ ltb least spent) where
+    pub more-left : t ≡ true → (least < spent) × (c .a .index + c .b .index < length a + length b)
+    more-left h =
+        let l = ltb-true least spent (sym e ∙ h) in (
+          l,
+          by-test (ltb (c .a .end) spent)
+              (λ u. omega (arith, unspent-run (s .left) (ltb-true _ _ u), s .right .within))
+              (λ u. let k = ltb-false (c .a .end) spent u in omega (arith, unspent-run (s .right) (omega arith), s .left .within)),
+        )
 
-module _ (a b : List ℤ) (c : Segments) where
-  abbrev x : ℤ
-  x = getD a (c .i) (pos 0)
+    pub none-more : t ≡ false → length a + length b ≤ c .a .index + c .b .index
+    none-more h = let l = ltb-false least spent (sym e ∙ h) in omega (arith, spent-run (s .left) (omega arith), spent-run (s .right) (omega arith))
 
-  abbrev y : ℤ
-  y = getD b (c .j) (pos 0)
-
-  pub step-both : c .i < length a → c .j < length b → x ≡ pos (magnitude x) → y ≡ pos (magnitude y) → {e : ℤ} {i j : ℕ}
-      → e ≡ smallerOf x y → i ≡ c .i + cond (leZ x y) 1 0 → j ≡ c .j + cond (leZ y x) 1 0 → Steps (placesAt a b c) e (placesAt a b (record { i = i; j = j }))
-  step-both hx hy nx ny {e} ee ei ej =
-      let m : e ≡ pos (min (magnitude x) (magnitude y)) = ee ∙ smaller-natural x y nx ny in
-      let n : e ≡ pos (magnitude e) = rw m in
-      record {
-        natural = n;
-        ends = rw (ahead-some a (c .i) hx, ahead-some b (c .j) hy, m);
-        next = rw (
-          place-steps a (c .i) hx refl nx n (ei ∙ ap (λ (t : Bool). c .i + cond t 1 0) (ends-here x y (min (magnitude x) (magnitude y)) nx ny m refl)),
-          place-steps b (c .j) hy refl ny n (ej ∙ ap (λ (t : Bool). c .j + cond t 1 0) (ends-here y x (min (magnitude x) (magnitude y)) ny nx m (omega arith))),
-        );
-      }
-
-  pub step-left : c .i < length a → length b ≤ c .j → x ≡ pos (magnitude x) → Steps (placesAt a b c) x (placesAt a b (record { i = c .i + 1; j = c .j }))
-  step-left hx hy nx =
-      record {
-        natural = nx;
-        ends = rw (ahead-some a (c .i) hx, ahead-none b (c .j) hy);
-        next = rw (place-steps a (c .i) {n = c .i + 1} hx refl nx nx (rw (eqZ-refl x)), place-stays b (c .j) (magnitude x) hy);
-      }
-
-  pub step-right : length a ≤ c .i → c .j < length b → y ≡ pos (magnitude y) → Steps (placesAt a b c) y (placesAt a b (record { i = c .i; j = c .j + 1 }))
-  step-right hx hy ny =
-      record {
-        natural = ny;
-        ends = rw (ahead-none a (c .i) hx, ahead-some b (c .j) hy);
-        next = rw (place-stays a (c .i) (magnitude y) hx, place-steps b (c .j) {n = c .j + 1} hy refl ny ny (rw (eqZ-refl y)));
-      }
+  pub walks : least < spent → {e : ℤ} {c′ : Segments} (behind-a behind-b : ℕ) → EndAt (ahead a (c .a .index + 1)) behind-a → EndAt (ahead b (c .b .index + 1)) behind-b
+      → e ≡ pos least → c′ ≡ record { a = steppedCursor (c .a) (c .b .end) behind-a; b = steppedCursor (c .b) (c .a .end) behind-b } → Walks a b c e c′
+  walks h {e} {c′} behind-a behind-b na nb ee ec =
+      let m : min (c .b .end) (c .a .end) ≡ least = omega arith in
+      let p = place-steps (s .left) (c .b .end) behind-a h na in
+      let q = rw m at (place-steps (s .right) (c .a .end) behind-b (omega arith) nb) in
+      rw (ee, ec) (record {
+        steps = record { natural = refl; ends = least-ends h; next = rw (p .1, q .1) };
+        standing = record { left = p .0; right = q .0 };
+      })

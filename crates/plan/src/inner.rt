@@ -1,27 +1,48 @@
 // The walk over the segments of two columns, and what it is used for. The ends are valid.
-ghost use Prim.Native.Nat.{_+_, _≤_, _<_, _^_};
+ghost use Prim.Native.Nat.{_+_, _≤_, _<_, _^_, min};
 ghost use mathlib.Core.Bool.{cond};
+ghost use mathlib.Core.List.{map};
 ghost use mathlib.Core.Option.{none};
 ghost use mathlib.Core.Path.{_≡_};
 ghost use lib.Dec.{ltb};
-ghost use lib.IntN.{pos};
-ghost use lib.ListN.{length};
-ghost use lib.Signed.{leZ};
+ghost use lib.ListN.{length, drop};
 ghost use Rattle.column.specs.Questions.{endsValid};
 ghost use Rattle.column.specs.Runs.{magnitude};
-ghost use Rattle.plan.specs.Walk.{placesAt, Steps, Walkable, PlanFilled};
+ghost use Rattle.plan.specs.Walk.{spent, EndAt, steppedCursor, Starts, Walkable, Walks, PlanFilled};
 ghost use Rattle.plan.specs.Plan.{segmentsOf};
 
-// Where a walk stands: the next run of each column, or its run count where it is spent.
+// No end is as large: it stands where a column is spent.
+pub const SPENT: usize = usize::MAX;
+
+// Where a walk stands in a column: its current run, or its run count where it is spent, and where that ends.
+pub struct Cursor {
+    pub index: usize,
+    pub end: usize,
+}
+
+// Where a walk stands in two columns.
 pub struct Segments {
-    pub i: usize,
-    pub j: usize,
+    pub a: Cursor,
+    pub b: Cursor,
 }
 
 // Where a segment ends, and where the walk stands behind it.
 pub struct Segment {
     pub end: i64,
     pub next: Segments,
+}
+
+// Where the run at an index ends.
+fn end_at(ends: &[i64], index: usize) -> usize
+    requires { ⌜ endsValid (now ends) ≡ none ⌝ }
+    ensures { λ r. ⌜ EndAt (map magnitude (drop index (now (ends .entry)))) r ⌝ }
+{
+    if index < ends.len() {
+        let end = ends[index];
+        end as usize
+    } else {
+        SPENT
+    }
 }
 
 // 1 if a is below b.
@@ -31,45 +52,65 @@ fn below(a: usize, b: usize) -> usize
     if a < b { 1 } else { 0 }
 }
 
-// The index behind a run if no other ends before it, else its own. Of natural numbers, and by a subtraction: the shortest way from one
-// segment to the next.
-fn stepped(index: usize, end: i64, other: i64) -> usize
-    requires { ⌜ (index + 1 < 2 ^ 64) × (end ≡ pos (magnitude end)) × (other ≡ pos (magnitude other)) ⌝ }
-    ensures { λ r. ⌜ r ≡ index + cond (leZ end other) 1 0 ⌝ }
+// Where the current run ends behind a segment; the next one ends at `behind`.
+fn end_after(end: usize, other: usize, behind: usize) -> usize
+    ensures { λ r. ⌜ r ≡ cond (ltb other end) end behind ⌝ }
 {
-    index + 1 - below(other as usize, end as usize)
+    if other < end { end } else { behind }
+}
+
+// Behind a segment a column stays if the other's run ends before its own. By numbers, not branches: which run ends first cannot be
+// foretold.
+fn stepped(here: Cursor, other: usize, behind: usize) -> Cursor
+    requires { ⌜ here .index + 1 < 2 ^ 64 ⌝ }
+    ensures { λ r. ⌜ r ≡ steppedCursor here other behind ⌝ }
+{
+    let index = here.index + 1 - below(other, here.end);
+    let end = end_after(here.end, other, behind);
+    Cursor { index, end }
 }
 
 impl Segments {
-    // The next segment. Where both columns have runs left no branch tells which of them ends first.
+    pub fn start(a: &[i64], b: &[i64]) -> Segments
+        requires { ⌜ (endsValid (now a) ≡ none) × (endsValid (now b) ≡ none) ⌝ }
+        ensures { λ r. ⌜ Starts (now (a .entry)) (now (b .entry)) r ⌝ }
+    {
+        Segments {
+            a: Cursor {
+                index: 0,
+                end: end_at(a, 0),
+            },
+            b: Cursor {
+                index: 0,
+                end: end_at(b, 0),
+            },
+        }
+    }
+
+    // Whether a column has runs left.
+    pub fn more(self) -> bool
+        ensures { λ r. ⌜ r ≡ ltb (min (self .a .end) (self .b .end)) spent ⌝ }
+    {
+        num::smaller_count(self.a.end, self.b.end) < SPENT
+    }
+
+    // The next segment. The ends behind the current ones are read before it is known which are wanted, so that the next segment does not
+    // wait for them.
     pub fn next(self, a: &[i64], b: &[i64]) -> Segment
         requires { ⌜ Walkable (now a) (now b) self ⌝ }
-        ensures { λ r. ⌜ Steps (placesAt (now (a .entry)) (now (b .entry)) self) (r .end) (placesAt (now (a .entry)) (now (b .entry)) (r .next)) ⌝ }
+        ensures { λ r. ⌜ Walks (now (a .entry)) (now (b .entry)) self (r .end) (r .next) ⌝ }
     {
-        let i = self.i;
-        let j = self.j;
-        if i < a.len() {
-            let x = a[i];
-            if j < b.len() {
-                let y = b[j];
-                let end = num::smaller(x, y);
-                return Segment {
-                    end,
-                    next: Segments {
-                        i: stepped(i, x, y),
-                        j: stepped(j, y, x),
-                    },
-                };
-            }
-            return Segment {
-                end: x,
-                next: Segments { i: i + 1, j },
-            };
-        }
-        let y = b[j];
+        let here_a = self.a;
+        let here_b = self.b;
+        let behind_a = end_at(a, here_a.index + 1);
+        let behind_b = end_at(b, here_b.index + 1);
+        let end = num::smaller_count(here_a.end, here_b.end);
         Segment {
-            end: y,
-            next: Segments { i, j: j + 1 },
+            end: end as i64,
+            next: Segments {
+                a: stepped(here_a, here_b.end, behind_a),
+                b: stepped(here_b, here_a.end, behind_b),
+            },
         }
     }
 }
@@ -86,21 +127,16 @@ pub fn plan(
     ensures { λ r. ⌜ PlanFilled (segmentsOf (now (a .entry)) (now (b .entry)))
         (now («out_ends» .entry)) (now («out_ends» .exit)) (now («out_idx_a» .entry)) (now («out_idx_a» .exit)) (now («out_idx_b» .entry)) (now («out_idx_b» .exit)) r ⌝ }
 {
-    let total = a.len() + b.len();
     let mut n: usize = 0;
-    let mut i: usize = 0;
-    let mut j: usize = 0;
-    while i + j < total {
-        let here = Segments { i, j };
+    let mut here = Segments::start(a, b);
+    while here.more() {
         let segment = here.next(a, b);
         let end = segment.end;
-        let next = segment.next;
         out_ends[n] = end;
-        out_idx_a[n] = i;
-        out_idx_b[n] = j;
+        out_idx_a[n] = here.a.index;
+        out_idx_b[n] = here.b.index;
         n += 1;
-        i = next.i;
-        j = next.j;
+        here = segment.next;
     }
     n
 }

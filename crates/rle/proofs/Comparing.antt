@@ -1,6 +1,6 @@
 -- The loop of `equals`: the walk of two columns, as long as their values agree.
 -- Assumes nothing.
-use Prim.Native.Nat.{ℕ, _+_, _≤_}
+use Prim.Native.Nat.{_+_, _≤_}
 use mathlib.Core.Bool.{Bool, true, false, not, _||_}
 use mathlib.Core.List.{List, [], _∷_, _++_, map, map-append}
 use mathlib.Core.Path.{_≡_, refl, ap, sym, _∙_}
@@ -15,10 +15,11 @@ use Rattle.column.proofs.Ends.{rising, runs-rise, length-of-ends}
 use Rattle.column.proofs.Lists.{any-append}
 use Rattle.column.proofs.Rising.{Valid}
 use Rattle.plan.specs.Plan.{Segment, segments, segmentsFrom, segmentRun, segmentRuns}
-use Rattle.plan.specs.Walk.{placesAt, Steps}
+use Rattle.plan.specs.declared.inner.Segments.{Segments}
+use Rattle.plan.specs.Walk.{placesAt, Starts, Walks}
 use Rattle.plan.proofs.Columns.{ends-in, both-shown}
 use Rattle.plan.proofs.Listing.{segmentAt, segments-first}
-use Rattle.plan.proofs.Walking.{cursor, Walk, walk-start, walk-next, walk-end}
+use Rattle.plan.proofs.Walking.{Walk, walk-start, walk-next, walk-end}
 use Rattle.rle.specs.Rle.{same}
 use Rattle.rle.specs.Workers.{Comparable}
 use Rattle.rle.proofs.Same.{same-segments, same-lengths}
@@ -42,14 +43,14 @@ module _ (ae av be bv : List ℤ) where
   unfoldable pub differing : List Segment → Bool
   differing ss = any differs (map (segmentRun (operation 7) cs) ss)
 
-  pub record Compared (i j : ℕ) : Type 0 where
+  pub record Compared (c : Segments) : Type 0 where
     pub done : List Segment
-    pub walk : Walk ae be done i j
+    pub walk : Walk ae be done c
     pub alike : differing done ≡ false
 
-  pub compared-start : Compared 0 0
+  pub compared-start : {c : Segments} → Starts ae be c → Compared c
   unfolding differing
-  compared-start = record { done = []; walk = walk-start ae be; alike = refl }
+  compared-start s = record { done = []; walk = walk-start ae be s; alike = refl }
 
   module _ (q : Comparable (sequence ae av) (sequence be bv)) where
     valid-a : Valid (runsOf ae av)
@@ -76,31 +77,31 @@ module _ (ae av be bv : List ℤ) where
           same-segments Missing Missing (runsOf ae av) (runsOf be bv) valid-a valid-b e
           ∙ rw (ends-in ae av (q .paired-a), ends-in be bv (q .paired-b))
 
-      pub compared-end : {i j : ℕ} (c : Compared i j) → length ae + length be ≤ i + j → true ≡ sameShown
-      compared-end c k = sym (by-segments ∙ ap (λ (ss : List Segment). not (differing ss)) (walk-end ae be (c .walk) k) ∙ ap not (c .alike))
+      pub compared-end : {c : Segments} (d : Compared c) → length ae + length be ≤ c .a .index + c .b .index → true ≡ sameShown
+      compared-end d k = sym (by-segments ∙ ap (λ (ss : List Segment). not (differing ss)) (walk-end ae be (d .walk) k) ∙ ap not (d .alike))
 
-      module _ {i j i′ j′ : ℕ} {e : ℤ} (c : Compared i j) (s : Steps (placesAt ae be (cursor i j)) e (placesAt ae be (cursor i′ j′))) {x y : ℤ} {b : Bool}
-          (ex : x ≡ getD av i (pos 0)) (ey : y ≡ getD bv j (pos 0)) (t : eqZ x y ≡ b) where
-        one-more : differing (c .done ++ segmentAt (placesAt ae be (cursor i j)) e ∷ []) ≡ not b
+      module _ {c c′ : Segments} {e : ℤ} (d : Compared c) (s : Walks ae be c e c′) {x y : ℤ} {b : Bool}
+          (ex : x ≡ getD av (c .a .index) (pos 0)) (ey : y ≡ getD bv (c .b .index) (pos 0)) (t : eqZ x y ≡ b) where
+        one-more : differing (d .done ++ segmentAt (placesAt ae be c) e ∷ []) ≡ not b
         unfolding differing operation
         one-more =
-            let here = segmentAt (placesAt ae be (cursor i j)) e in
+            let here = segmentAt (placesAt ae be c) e in
             let run = segmentRun (operation 7) cs in
-            ap (any differs) (map-append run (c .done) (here ∷ []))
-            ∙ any-append differs (map run (c .done)) (run here ∷ [])
-            ∙ rw (c .alike, both-shown (operation 7) Missing Missing ae av be bv (q .paired-a) (q .paired-b) i j, ← ex, ← ey, t) (flag-differs b)
+            ap (any differs) (map-append run (d .done) (here ∷ []))
+            ∙ any-append differs (map run (d .done)) (run here ∷ [])
+            ∙ rw (d .alike, both-shown (operation 7) Missing Missing ae av be bv (q .paired-a) (q .paired-b) (c .a .index) (c .b .index), ← ex, ← ey, t) (flag-differs b)
 
-        pub compared-next : b ≡ true → Compared i′ j′
-        compared-next h′ = record { done = _; walk = walk-next ae be (c .walk) s; alike = one-more ∙ ap not h′ }
+        pub compared-next : b ≡ true → Compared c′
+        compared-next h′ = record { done = _; walk = walk-next ae be (d .walk) s; alike = one-more ∙ ap not h′ }
 
         pub compared-differ : b ≡ false → false ≡ sameShown
         unfolding differing
         compared-differ h′ =
             let ends = map magnitude ae ∷ map magnitude be ∷ [] in
-            let l = walk-next ae be (c .walk) s .listing in
+            let l = walk-next ae be (d .walk) s .listing in
             let run = segmentRun (operation 7) cs in
-            let more = segmentsFrom (l .bound) (placesAt ae be (cursor i′ j′)) in
-            let found = c .done ++ segmentAt (placesAt ae be (cursor i j)) e ∷ [] in
+            let more = segmentsFrom (l .bound) (placesAt ae be c′) in
+            let found = d .done ++ segmentAt (placesAt ae be c) e ∷ [] in
             let told : differing (found ++ more) ≡ true =
             ap (any differs) (map-append run found more) ∙ any-append differs (map run found) (map run more) ∙ rw (one-more, h′) in
             sym (by-segments ∙ ap (λ (ss : List Segment). not (differing ss)) (segments-first ends ∙ l .all) ∙ ap not told)

@@ -230,20 +230,15 @@ pub fn equals(a_ends: &[i64], a_values: &[i64], b_ends: &[i64], b_values: &[i64]
     if sequence::length(a_ends) != sequence::length(b_ends) {
         return false;
     }
-    let total = a_ends.len() + b_ends.len();
-    let mut i: usize = 0;
-    let mut j: usize = 0;
-    while i + j < total {
-        let x = sequence::entry_or(a_values, i, 0);
-        let y = sequence::entry_or(b_values, j, 0);
-        let here = Segments { i, j };
+    let mut here = Segments::start(a_ends, b_ends);
+    while here.more() {
+        let x = sequence::entry_or(a_values, here.a.index, 0);
+        let y = sequence::entry_or(b_values, here.b.index, 0);
         let segment = here.next(a_ends, b_ends);
-        let next = segment.next;
         if x != y {
             return false;
         }
-        i = next.i;
-        j = next.j;
+        here = segment.next;
     }
     true
 }

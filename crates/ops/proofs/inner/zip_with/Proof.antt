@@ -1,26 +1,27 @@
-use Prim.Native.Nat.{_+_, _-_}
-use mathlib.Core.Path.{_≡_, _∙_}
-use native.Mathlib.Omega.{arith}
-use lib.ListN.{length, take}
-use Rattle.column.specs.Runs.{sequence}
-use Rattle.ops.specs.Workers.{Zippable}
-use denote.Ref.{now}
-use mir.Syntax.{w64}
-use mir.Val.{toZ, ofZ}
-use mir.Facts.{toZ-ofZ}
-use Rattle.num.specs.Numbers.{operation}
-use Rattle.num.proofs.Bits.{back}
-use Rattle.plan.proofs.Walking.{walk-moves}
 use Rattle.ops.proofs.Zips.{Zipped, cut-length, cut-all, zippable-cut, zipped-none, zipped-start, zipped-end, zipped-room, zipped-last, zipped-more}
+use Rattle.plan.proofs.Walking.{walk-moves}
+use Rattle.plan.proofs.Step.{more-left, none-more}
+use Rattle.num.proofs.Bits.{back}
+use Rattle.num.specs.Numbers.{operation}
+use mir.Facts.{toZ-ofZ}
+use mir.Val.{toZ, ofZ}
+use mir.Syntax.{w64}
+use denote.Ref.{now}
+use Rattle.ops.specs.Workers.{Zippable}
+use Rattle.column.specs.Runs.{sequence}
+use lib.ListN.{length, take}
+use native.Mathlib.Omega.{arith}
+use mathlib.Core.Path.{_≡_, _∙_}
+use Prim.Native.Nat.{_+_, _-_}
 use borrow.Author.Needs.{needs}
 use Rattle.ops.proofs.inner.zip_with.Statement.{statement}
 use Rattle.ops.proofs.inner.zip_with.Tie as tie
 
 abbrev Inv-loop : tie.InvT-loop
-Inv-loop a-ends a-values b-ends b-values fill-a fill-b code out-ends₀ out-values₀ total left right first writer₀ i₀ j₀ out-ends out-values writer i j = Zipped (operation code) (toZ w64 fill-a) (toZ w64 fill-b) a-ends left b-ends right out-ends₀ out-values₀ out-ends out-values writer i j
+Inv-loop a-ends a-values b-ends b-values fill-a fill-b code out-ends₀ out-values₀ total left right first writer₀ here₀ out-ends out-values writer here = Zipped (operation code) (toZ w64 fill-a) (toZ w64 fill-b) a-ends left b-ends right out-ends₀ out-values₀ out-ends out-values writer here
 
 abbrev μ-loop : tie.MeasureT-loop
-μ-loop a-ends a-values b-ends b-values fill-a fill-b code out-ends₀ out-values₀ total left right first writer₀ i₀ j₀ out-ends out-values writer i j = length a-ends + length b-ends - (i + j)
+μ-loop a-ends a-values b-ends b-values fill-a fill-b code out-ends₀ out-values₀ total left right first writer₀ here₀ out-ends out-values writer here = length a-ends + length b-ends - (here .a .index + here .b .index)
 
 add-total : tie.Need-add-total Inv-loop μ-loop
 add-total c = search needs
@@ -37,50 +38,55 @@ slice-aggregate-right c = let s = c .before .before .before in cut-length (now (
 shown-at-requires : tie.Need-shown-at-requires Inv-loop μ-loop
 shown-at-requires c κs = search needs
 
+start-requires : tie.Need-start-requires Inv-loop μ-loop
+start-requires c κs = let q = c .before .before .before .before .pre in (q .valid-a, q .valid-b)
+
 -- the values that the loop reads
 zippable : (c : tie.After-right Inv-loop μ-loop) → let s = c .before .before .before .args in
     Zippable (sequence (now (s .a-ends)) (take (length (now (s .a-ends))) (now (s .a-values)))) (sequence (now (s .b-ends)) (take (length (now (s .b-ends))) (now (s .b-values)))) (now (s .out-ends)) (now (s .out-values))
 zippable c = zippable-cut _ _ _ _ _ _ (c .before .before .before .pre)
 
 loop-holds : tie.Need-loop-holds Inv-loop μ-loop
-loop-holds c = zipped-start _ _ _ _ _ _ _ _ _ (zippable (c .before)) (back _ (c .shown-at .ok) ∙ c .shown-at .ensures)
+loop-holds c = let v = c .before in zipped-start _ _ _ _ _ _ _ _ _ (zippable (v .before)) (back _ (v .shown-at .ok) ∙ v .shown-at .ensures) (c .start .ensures)
 
-add-loop : tie.Need-add-loop Inv-loop μ-loop
-add-loop c = omega (arith, c .loop .inv .walk .in-a, c .loop .inv .walk .in-b)
+more-requires : tie.Need-more-requires Inv-loop μ-loop
+more-requires c κs = search needs
 
 next-requires : tie.Need-next-requires Inv-loop μ-loop
-next-requires c κs = let l = c .before in let q = l .before .before .before .before .before .pre in record { valid-a = q .valid-a; valid-b = q .valid-b; in-a = l .loop .inv .walk .in-a; in-b = l .loop .inv .walk .in-b; unspent = c .loop-test .taken }
+next-requires c κs = let m = c .before in let l = m .before in let k = l .loop .inv .walk .standing in let q = l .before .before .before .before .before .before .pre in record { valid-a = q .valid-a; valid-b = q .valid-b; standing = k; unspent = more-left k (m .more .ensures) (c .if2 .taken) .0 }
 
 shown-at-requires-2 : tie.Need-shown-at-requires-2 Inv-loop μ-loop
 shown-at-requires-2 c κs = search needs
 
 push-merged-requires : tie.Need-push-merged-requires Inv-loop μ-loop
-push-merged-requires c κs = let v = c .before .before in let l = v .before .before .before .before .before in zipped-room _ _ _ _ _ _ _ _ _ (zippable (l .before .before)) (l .loop .inv) (back _ (v .shown-at2 .ok) ∙ v .shown-at2 .ensures) (v .before .before .before .before .loop-test .taken) (omega (arith, l .before .before .before .before .before .good))
+push-merged-requires c κs = let v = c .before .before in let t = v .before .before .before in let m = t .before in let l = m .before in let k = l .loop .inv in zipped-room _ _ _ _ _ _ _ _ _ (zippable (l .before .before .before)) k (back _ (v .shown-at2 .ok) ∙ v .shown-at2 .ensures) (more-left (k .walk .standing) (m .more .ensures) (t .if2 .taken) .1) (omega (arith, l .before .before .before .before .before .before .good))
 
 loop-less : tie.Need-loop-less Inv-loop μ-loop
-loop-less c = let v = c .before .before .before .before .before in let l = v .before .before .before .before .before in omega (arith, walk-moves _ _ (l .loop .inv .walk) (v .before .before .before .next .ensures))
+loop-less c = let n = c .before .before .before .before .before .before .before .before in let t = n .before in let m = t .before in let k = m .before .loop .inv in omega (arith, walk-moves _ _ (k .walk) (n .next .ensures), more-left (k .walk .standing) (m .more .ensures) (t .if2 .taken) .1)
 
 -- the end that `next` gives
 end : (c : tie.After-struct-told Inv-loop μ-loop) → toZ w64 (ofZ w64 (c .before .next .result .end)) ≡ c .before .next .result .end
 end c = search needs
 
 loop-again : tie.Need-loop-again Inv-loop μ-loop
-loop-again c = let v = c .before .before .before .before .before in let l = v .before .before .before .before .before in zipped-more _ _ _ _ _ _ _ _ _ (zippable (l .before .before)) (l .loop .inv) (back _ (v .shown-at2 .ok) ∙ v .shown-at2 .ensures) (v .before .before .before .before .loop-test .taken) (v .before .before .before .next .ensures) (end (v .before .before)) (c .before .before .push-merged .ensures)
+loop-again c = let v = c .before .before .before .before .before .before in let n = v .before .before in let t = n .before in let m = t .before in let l = m .before in let k = l .loop .inv in zipped-more _ _ _ _ _ _ _ _ _ (zippable (l .before .before .before)) k (back _ (v .shown-at2 .ok) ∙ v .shown-at2 .ensures) (more-left (k .walk .standing) (m .more .ensures) (t .if2 .taken) .1) (n .next .ensures) (end (v .before)) (c .before .before .before .push-merged .ensures)
 
 add-result : tie.Need-add-result Inv-loop μ-loop
-add-result c = omega (arith, zipped-last _ _ _ _ _ _ _ _ _ (c .before .before .loop .inv))
+add-result c = omega (arith, zipped-last _ _ _ _ _ _ _ _ _ (c .before .before .before .loop .inv), c .before .before .before .before .before .before .before .before .before .good)
 
 same-length : tie.Need-same-length Inv-loop μ-loop
-same-length c = c .before .before .loop .inv .merging .long-ends
+same-length c = c .before .before .before .loop .inv .merging .long-ends
 
 same-length-2 : tie.Need-same-length-2 Inv-loop μ-loop
-same-length-2 c = c .before .before .loop .inv .merging .long-values
+same-length-2 c = c .before .before .before .loop .inv .merging .long-values
 
 returns-2 : tie.Need-returns-2 Inv-loop μ-loop
-returns-2 c = let l = c .before .before in
-    let s = l .before .before .before .before .before in
+returns-2 c = let m = c .before .before in
+    let l = m .before in
+    let k = l .loop .inv in
+    let s = l .before .before .before .before .before .before in
     rw (toZ-ofZ (s .fits .fill-a), toZ-ofZ (s .fits .fill-b), cut-all (now (s .args .a-ends)) (now (s .args .a-values)) (s .pre .paired-a), cut-all (now (s .args .b-ends)) (now (s .args .b-values)) (s .pre .paired-b)) at
-    (zipped-end _ _ _ _ _ _ _ _ _ (zippable (l .before .before)) (l .loop .inv) (c .before .loop-test .left) (omega arith))
+    (zipped-end _ _ _ _ _ _ _ _ _ (zippable (l .before .before .before)) k (none-more (k .walk .standing) (m .more .ensures) (c .before .if2 .left)) (omega (arith, l .before .before .before .before .before .if1 .left)))
 
 pub zip-with-spec : {M : Type 1} → statement M
 zip-with-spec =
@@ -93,8 +99,9 @@ zip-with-spec =
     slice-aggregate-left
     slice-aggregate-right
     shown-at-requires
+    start-requires
     loop-holds
-    add-loop
+    more-requires
     next-requires
     shown-at-requires-2
     push-merged-requires

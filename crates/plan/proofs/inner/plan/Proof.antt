@@ -1,68 +1,69 @@
-use Prim.Native.Nat.{_+_, _-_}
-use native.Mathlib.Omega.{arith}
-use lib.ListN.{length}
-use Rattle.plan.proofs.Planning.{Planning, planning-start, planning-few, planning-next, planning-end}
 use Rattle.plan.proofs.Walking.{walk-moves}
+use Rattle.plan.proofs.Step.{more-left, none-more}
+use Rattle.plan.proofs.Planning.{Planning, planning-start, planning-few, planning-next, planning-end}
+use lib.ListN.{length}
+use native.Mathlib.Omega.{arith}
+use Prim.Native.Nat.{_+_, _-_}
 use borrow.Author.Needs.{needs}
 use Rattle.plan.proofs.inner.plan.Statement.{statement}
 use Rattle.plan.proofs.inner.plan.Tie as tie
 
 abbrev Inv-loop : tie.InvT-loop
-Inv-loop a b out-ends₀ out-idx-a₀ out-idx-b₀ total n₀ i₀ j₀ out-ends out-idx-a out-idx-b n i j = Planning a b out-ends₀ out-idx-a₀ out-idx-b₀ out-ends out-idx-a out-idx-b n i j
+Inv-loop a b out-ends₀ out-idx-a₀ out-idx-b₀ n₀ here₀ out-ends out-idx-a out-idx-b n here = Planning a b out-ends₀ out-idx-a₀ out-idx-b₀ out-ends out-idx-a out-idx-b n here
 
 abbrev μ-loop : tie.MeasureT-loop
-μ-loop a b out-ends₀ out-idx-a₀ out-idx-b₀ total n₀ i₀ j₀ out-ends out-idx-a out-idx-b n i j = length a + length b - (i + j)
+μ-loop a b out-ends₀ out-idx-a₀ out-idx-b₀ n₀ here₀ out-ends out-idx-a out-idx-b n here = length a + length b - (here .a .index + here .b .index)
 
-add-total : tie.Need-add-total Inv-loop μ-loop
-add-total c = search needs
+start-requires : tie.Need-start-requires Inv-loop μ-loop
+start-requires c κs = search needs
 
 loop-holds : tie.Need-loop-holds Inv-loop μ-loop
-loop-holds c = planning-start _ _ _ _ _
+loop-holds c = planning-start _ _ _ _ _ (c .start .ensures)
 
-add-loop : tie.Need-add-loop Inv-loop μ-loop
-add-loop c = omega (arith, c .loop .inv .walk .in-a, c .loop .inv .walk .in-b)
+more-requires : tie.Need-more-requires Inv-loop μ-loop
+more-requires c κs = search needs
 
 next-requires : tie.Need-next-requires Inv-loop μ-loop
-next-requires c κs = let q = c .before .before .before .before .pre in record { valid-a = q .0; valid-b = q .1; in-a = c .before .loop .inv .walk .in-a; in-b = c .before .loop .inv .walk .in-b; unspent = c .loop-test .taken }
+next-requires c κs = let l = c .before .before in let k = l .loop .inv .walk .standing in let s = l .before .before .before .before in record { valid-a = s .pre .0; valid-b = s .pre .1; standing = k; unspent = more-left k (c .before .more .ensures) (c .if1 .taken) .0 }
 
 mul-end : tie.Need-mul-end Inv-loop μ-loop
-mul-end c = omega (arith, planning-few (c .before .before .before .before .loop .inv))
+mul-end c = let m = c .before .before .before in let l = m .before in let k = l .loop .inv in omega (arith, planning-few k, more-left (k .walk .standing) (m .more .ensures) (c .before .before .if1 .taken) .1, l .before .before .before .before .pre .2, l .before .before .before .before .good)
 
 slice-set-from-end : tie.Need-slice-set-from-end Inv-loop μ-loop
-slice-set-from-end c = omega (arith, planning-few (c .before .before .before .before .loop .inv), c .before .before .before .before .loop .inv .ends .long)
+slice-set-from-end c = let m = c .before .before .before in let l = m .before in let k = l .loop .inv in omega (arith, planning-few k, more-left (k .walk .standing) (m .more .ensures) (c .before .before .if1 .taken) .1, l .before .before .before .before .pre .2, k .ends .long)
 
 mul-out-idx-a : tie.Need-mul-out-idx-a Inv-loop μ-loop
-mul-out-idx-a c = omega (arith, planning-few (c .before .before .before .before .loop .inv))
+mul-out-idx-a c = let m = c .before .before .before in let l = m .before in let k = l .loop .inv in omega (arith, planning-few k, more-left (k .walk .standing) (m .more .ensures) (c .before .before .if1 .taken) .1, l .before .before .before .before .pre .2, l .before .before .before .before .good)
 
 slice-write-out-idx-a : tie.Need-slice-write-out-idx-a Inv-loop μ-loop
-slice-write-out-idx-a c = omega (arith, planning-few (c .before .before .before .before .loop .inv), c .before .before .before .before .loop .inv .left .long)
+slice-write-out-idx-a c = let m = c .before .before .before in let l = m .before in let k = l .loop .inv in omega (arith, planning-few k, more-left (k .walk .standing) (m .more .ensures) (c .before .before .if1 .taken) .1, l .before .before .before .before .pre .3, k .left .long)
 
 mul-out-idx-b : tie.Need-mul-out-idx-b Inv-loop μ-loop
-mul-out-idx-b c = omega (arith, planning-few (c .before .before .before .before .loop .inv))
+mul-out-idx-b c = let m = c .before .before .before in let l = m .before in let k = l .loop .inv in omega (arith, planning-few k, more-left (k .walk .standing) (m .more .ensures) (c .before .before .if1 .taken) .1, l .before .before .before .before .pre .2, l .before .before .before .before .good)
 
 slice-write-out-idx-b : tie.Need-slice-write-out-idx-b Inv-loop μ-loop
-slice-write-out-idx-b c = omega (arith, planning-few (c .before .before .before .before .loop .inv), c .before .before .before .before .loop .inv .right .long)
+slice-write-out-idx-b c = let m = c .before .before .before in let l = m .before in let k = l .loop .inv in omega (arith, planning-few k, more-left (k .walk .standing) (m .more .ensures) (c .before .before .if1 .taken) .1, l .before .before .before .before .pre .4, k .right .long)
 
 add-n : tie.Need-add-n Inv-loop μ-loop
-add-n c = omega (arith, planning-few (c .before .before .before .before .loop .inv))
+add-n c = let m = c .before .before .before in let l = m .before in let k = l .loop .inv in omega (arith, planning-few k, more-left (k .walk .standing) (m .more .ensures) (c .before .before .if1 .taken) .1, l .before .before .before .before .pre .2, l .before .before .before .before .good)
 
 loop-less : tie.Need-loop-less Inv-loop μ-loop
-loop-less c = omega (arith, walk-moves _ _ (c .before .before .before .before .loop .inv .walk) (c .before .before .next .ensures))
+loop-less c = let n = c .before .before in let m = n .before .before in let k = m .before .loop .inv in omega (arith, walk-moves _ _ (k .walk) (n .next .ensures), more-left (k .walk .standing) (m .more .ensures) (n .before .if1 .taken) .1)
 
 loop-again : tie.Need-loop-again Inv-loop μ-loop
-loop-again c = let l = c .before .before .before .before in let q = l .before .before .before .pre in planning-next (l .loop .inv) (c .before .before .next .ensures) (search needs) (c .before .before .before .loop-test .taken) (q .2) (q .3) (q .4)
+loop-again c = let n = c .before .before in let m = n .before .before in let l = m .before in let q = l .before .before .before .before .pre in planning-next (l .loop .inv) (n .next .ensures) (search needs) (more-left (l .loop .inv .walk .standing) (m .more .ensures) (n .before .if1 .taken) .1) (q .2) (q .3) (q .4)
 
 same-length : tie.Need-same-length Inv-loop μ-loop
-same-length c = c .before .loop .inv .ends .long
+same-length c = c .before .before .loop .inv .ends .long
 
 same-length-2 : tie.Need-same-length-2 Inv-loop μ-loop
-same-length-2 c = c .before .loop .inv .left .long
+same-length-2 c = c .before .before .loop .inv .left .long
 
 same-length-3 : tie.Need-same-length-3 Inv-loop μ-loop
-same-length-3 c = c .before .loop .inv .right .long
+same-length-3 c = c .before .before .loop .inv .right .long
 
 returns : tie.Need-returns Inv-loop μ-loop
-returns c = planning-end (c .before .loop .inv) (c .loop-test .left)
+returns c = let k = c .before .before .loop .inv in planning-end k (none-more (k .walk .standing) (c .before .more .ensures) (c .if1 .left))
 
 pub plan-spec : {M : Type 1} → statement M
 plan-spec =
@@ -70,9 +71,9 @@ plan-spec =
     (tie.spec
     Inv-loop
     μ-loop
-    add-total
+    start-requires
     loop-holds
-    add-loop
+    more-requires
     next-requires
     mul-end
     slice-set-from-end
