@@ -88,7 +88,7 @@ fn value_at(values: &[i64], from: usize, to: usize, place: usize, fill: i64) -> 
 }
 
 // The values where the columns stand, folded from the first column.
-fn fold(code: u8, offsets: &[usize], values: &[i64], places: &[usize], fill: i64) -> i64
+fn fold_by(code: u8, offsets: &[usize], values: &[i64], places: &[usize], fill: i64) -> i64
     requires { ⌜ Foldable (now offsets) (now values) (now places) ⌝ }
     ensures { λ r. ⌜ r ≡ folded (operation code) (valuesAt (now (places .entry)) (parts (now (offsets .entry)) (now (values .entry))) fill) ⌝ }
 {
@@ -100,6 +100,25 @@ fn fold(code: u8, offsets: &[usize], values: &[i64], places: &[usize], fill: i64
         c += 1;
     }
     value
+}
+
+// The same, with a loop for each operation: where the code is written out, the compiler keeps its test out of the loop.
+fn fold(code: u8, offsets: &[usize], values: &[i64], places: &[usize], fill: i64) -> i64
+    requires { ⌜ Foldable (now offsets) (now values) (now places) ⌝ }
+    ensures { λ r. ⌜ r ≡ folded (operation code) (valuesAt (now (places .entry)) (parts (now (offsets .entry)) (now (values .entry))) fill) ⌝ }
+{
+    match code {
+        0 => fold_by(0, offsets, values, places, fill),
+        1 => fold_by(1, offsets, values, places, fill),
+        2 => fold_by(2, offsets, values, places, fill),
+        3 => fold_by(3, offsets, values, places, fill),
+        4 => fold_by(4, offsets, values, places, fill),
+        5 => fold_by(5, offsets, values, places, fill),
+        6 => fold_by(6, offsets, values, places, fill),
+        7 => fold_by(7, offsets, values, places, fill),
+        8 => fold_by(8, offsets, values, places, fill),
+        _ => fold_by(code, offsets, values, places, fill),
+    }
 }
 
 // The places, written from `at` on; the index behind them.

@@ -1,98 +1,108 @@
-use Prim.Native.Nat.{_-_}
-use mathlib.Core.Path.{_∙_}
-use native.Mathlib.Omega.{arith}
-use lib.ListN.{length}
-use mir.Syntax.{w64}
-use mir.Val.{toZ}
-use mir.Facts.{toZ-ofZ}
 use Rattle.num.specs.Numbers.{operation}
 use Rattle.num.proofs.Bits.{back}
-use Rattle.many.proofs.Folding.{Folding, fold-first, fold-start, fold-at, fold-next, fold-end}
+use denote.Ref.{now}
+use Rattle.column.specs.Combine.{folded}
+use Rattle.column.specs.Lists.{parts}
+use Rattle.many.specs.Workers.{valuesAt}
+use mir.Facts.{toZ-ofZ}
+use mir.Val.{toZ, ofZ}
+use mir.Syntax.{w64}
+use lib.Signed.{mag}
+use lib.IntN.{ℤ}
+use mathlib.Core.Path.{_≡_, _∙_}
+use Prim.Native.Nat.{ℕ, _<_, _^_}
 use borrow.Author.Needs.{needs}
 use Rattle.many.proofs.inner.fold.Statement.{statement}
 use Rattle.many.proofs.inner.fold.Tie as tie
 
-abbrev Inv-loop : tie.InvT-loop
-Inv-loop code offsets values places fill value₀ c₀ value c = Folding (operation code) offsets values places (toZ w64 fill) (toZ w64 value) c
+-- what the values show together, as `fold_by` gives it
+abbrev shown : tie.Start → ℕ → ℤ → ℤ
+shown s code fill = folded (operation code) (valuesAt (now (s .args .places)) (parts (now (s .args .offsets)) (now (s .args .values))) fill)
 
-abbrev μ-loop : tie.MeasureT-loop
-μ-loop code offsets values places fill value₀ c₀ value c = length places - c
+told : (s : tie.Start) (code : ℕ) {r : ℤ} → mag r < 2 ^ 63 → r ≡ shown s code (toZ w64 (ofZ w64 (s .args .fill))) → toZ w64 (ofZ w64 r) ≡ shown s code (s .args .fill)
+told s code {r} h e = back r h ∙ e ∙ rw (toZ-ofZ (s .fits .fill))
 
-shared-slice-read-value-at : tie.Need-shared-slice-read-value-at Inv-loop μ-loop
-shared-slice-read-value-at c = omega (arith, c .before .before .before .pre .count)
+fold-by-requires : tie.Need-fold-by-requires
+fold-by-requires c κs = search needs
 
-shared-slice-read-value-at-2 : tie.Need-shared-slice-read-value-at-2 Inv-loop μ-loop
-shared-slice-read-value-at-2 c = search needs
+fold-by-requires-2 : tie.Need-fold-by-requires-2
+fold-by-requires-2 c κs = search needs
 
-shared-slice-read-value-at-3 : tie.Need-shared-slice-read-value-at-3 Inv-loop μ-loop
-shared-slice-read-value-at-3 c = search needs
+fold-by-requires-3 : tie.Need-fold-by-requires-3
+fold-by-requires-3 c κs = search needs
 
-value-at-requires : tie.Need-value-at-requires Inv-loop μ-loop
-value-at-requires c κs = fold-first _ _ _ (c .before .before .before .before .before .pre)
+fold-by-requires-4 : tie.Need-fold-by-requires-4
+fold-by-requires-4 c κs = search needs
 
-loop-holds : tie.Need-loop-holds Inv-loop μ-loop
-loop-holds c = fold-start (c .before .before .before .before .before .before .pre) (back _ (c .value-at .ok) ∙ c .value-at .ensures)
+fold-by-requires-5 : tie.Need-fold-by-requires-5
+fold-by-requires-5 c κs = search needs
 
-mul-value-at : tie.Need-mul-value-at Inv-loop μ-loop
-mul-value-at c = search needs
+fold-by-requires-6 : tie.Need-fold-by-requires-6
+fold-by-requires-6 c κs = search needs
 
-shared-slice-read-value-at-4 : tie.Need-shared-slice-read-value-at-4 Inv-loop μ-loop
-shared-slice-read-value-at-4 c = search needs
+fold-by-requires-7 : tie.Need-fold-by-requires-7
+fold-by-requires-7 c κs = search needs
 
-add-value-at : tie.Need-add-value-at Inv-loop μ-loop
-add-value-at c = search needs
+fold-by-requires-8 : tie.Need-fold-by-requires-8
+fold-by-requires-8 c κs = search needs
 
-mul-value-at-2 : tie.Need-mul-value-at-2 Inv-loop μ-loop
-mul-value-at-2 c = search needs
+fold-by-requires-9 : tie.Need-fold-by-requires-9
+fold-by-requires-9 c κs = search needs
 
-shared-slice-read-value-at-5 : tie.Need-shared-slice-read-value-at-5 Inv-loop μ-loop
-shared-slice-read-value-at-5 c = search needs
+fold-by-requires-10 : tie.Need-fold-by-requires-10
+fold-by-requires-10 c κs = search needs
 
-mul-value-at-3 : tie.Need-mul-value-at-3 Inv-loop μ-loop
-mul-value-at-3 c = search needs
+returns : tie.Need-returns
+returns c = let s = c .before .before .before .before in rw (c .before .match .keys1) (told s 0 (c .fold-by .ok) (c .fold-by .ensures))
 
-shared-slice-read-value-at-6 : tie.Need-shared-slice-read-value-at-6 Inv-loop μ-loop
-shared-slice-read-value-at-6 c = search needs
+returns-2 : tie.Need-returns-2
+returns-2 c = let s = c .before .before .before .before in rw (c .before .match .keys2) (told s 1 (c .fold-by2 .ok) (c .fold-by2 .ensures))
 
-value-at-requires-2 : tie.Need-value-at-requires-2 Inv-loop μ-loop
-value-at-requires-2 c κs = let l = c .before .before .before .before in fold-at (l .loop .inv) (l .before .before .before .before .before .before .before .pre) (c .before .before .before .loop-test .taken)
+returns-3 : tie.Need-returns-3
+returns-3 c = let s = c .before .before .before .before in rw (c .before .match .keys3) (told s 2 (c .fold-by3 .ok) (c .fold-by3 .ensures))
 
-apply-requires : tie.Need-apply-requires Inv-loop μ-loop
-apply-requires c κs = search needs
+returns-4 : tie.Need-returns-4
+returns-4 c = let s = c .before .before .before .before in rw (c .before .match .keys4) (told s 3 (c .fold-by4 .ok) (c .fold-by4 .ensures))
 
-add-c : tie.Need-add-c Inv-loop μ-loop
-add-c c = search needs
+returns-5 : tie.Need-returns-5
+returns-5 c = let s = c .before .before .before .before in rw (c .before .match .keys5) (told s 4 (c .fold-by5 .ok) (c .fold-by5 .ensures))
 
-loop-less : tie.Need-loop-less Inv-loop μ-loop
-loop-less c = omega arith
+returns-6 : tie.Need-returns-6
+returns-6 c = let s = c .before .before .before .before in rw (c .before .match .keys6) (told s 5 (c .fold-by6 .ok) (c .fold-by6 .ensures))
 
-loop-again : tie.Need-loop-again Inv-loop μ-loop
-loop-again c = let l = c .before .before .before .before .before .before in fold-next (l .loop .inv) (l .before .before .before .before .before .before .before .pre) (c .before .before .before .before .before .loop-test .taken) (back _ (c .before .value-at2 .ok) ∙ c .before .value-at2 .ensures) (back _ (c .apply .ok) ∙ c .apply .ensures)
+returns-7 : tie.Need-returns-7
+returns-7 c = let s = c .before .before .before .before in rw (c .before .match .keys7) (told s 6 (c .fold-by7 .ok) (c .fold-by7 .ensures))
 
-returns : tie.Need-returns Inv-loop μ-loop
-returns c = rw (toZ-ofZ (c .before .before .before .before .before .before .before .before .fits .fill)) at (fold-end (c .before .loop .inv) (c .loop-test .left))
+returns-8 : tie.Need-returns-8
+returns-8 c = let s = c .before .before .before .before in rw (c .before .match .keys8) (told s 7 (c .fold-by8 .ok) (c .fold-by8 .ensures))
+
+returns-9 : tie.Need-returns-9
+returns-9 c = let s = c .before .before .before .before in rw (c .before .match .keys9) (told s 8 (c .fold-by9 .ok) (c .fold-by9 .ensures))
+
+returns-10 : tie.Need-returns-10
+returns-10 c = let s = c .before .before .before .before in told s (s .args .code) (c .fold-by10 .ok) (c .fold-by10 .ensures)
 
 pub fold-spec : {M : Type 1} → statement M
 fold-spec =
     tie.close
     (tie.spec
-    Inv-loop
-    μ-loop
-    shared-slice-read-value-at
-    shared-slice-read-value-at-2
-    shared-slice-read-value-at-3
-    value-at-requires
-    loop-holds
-    mul-value-at
-    shared-slice-read-value-at-4
-    add-value-at
-    mul-value-at-2
-    shared-slice-read-value-at-5
-    mul-value-at-3
-    shared-slice-read-value-at-6
-    value-at-requires-2
-    apply-requires
-    add-c
-    loop-less
-    loop-again
-    returns)
+    fold-by-requires
+    fold-by-requires-2
+    fold-by-requires-3
+    fold-by-requires-4
+    fold-by-requires-5
+    fold-by-requires-6
+    fold-by-requires-7
+    fold-by-requires-8
+    fold-by-requires-9
+    fold-by-requires-10
+    returns
+    returns-2
+    returns-3
+    returns-4
+    returns-5
+    returns-6
+    returns-7
+    returns-8
+    returns-9
+    returns-10)
