@@ -63,12 +63,13 @@ module _ (os : List ℕ) (es vs : List ℤ) where
       let y = all-yes (flatAsked f ++ most ∷ qs) h in
       (agree-told 3 (length es) (length vs) (y .0), y .1 .0, y .1 .1 .0, most-told mostColumns (count f) (y .1 .1 .1 .0), y .1 .1 .1 .1)
 
-  pub plan-many-yes : (e : List ℤ) (x : List ℕ) → planManyAsked f (length e ∷ length x ∷ []) ≡ none → Plannable os es e x
+  pub plan-many-yes : (e : List ℤ) (x : List ℕ) → planManyAsked f (length e ∷ length x ∷ []) ≡ none → Plannable os es vs e x
   unfolding planManyAsked
   plan-many-yes e x h =
       let y = flat-yes (room needs (length e ∷ length x ∷ []) ∷ []) h in
       let r = all-yes (roomAt 0 (length es) (length e) ∷ roomAt 1 (length es * count f) (length x) ∷ []) (sym (room-each needs (length e ∷ length x ∷ [])) ∙ y .4 .0) in
       record {
+        paired = y .0;
         offsets = y .1;
         valid = y .2;
         columns = y .3;

@@ -22,7 +22,7 @@ use Rattle.column.proofs.Positions.{eachPosition-cong}
 use Rattle.column.proofs.Rising.{Valid}
 use Rattle.plan.specs.Plan.{endsIn, valuesFor}
 use Rattle.plan.proofs.Columns.{ends-in}
-use Rattle.many.specs.Workers.{Within, Placed, Foldable, valuesAt}
+use Rattle.many.specs.Workers.{Placed, valuesAt}
 use Rattle.many.proofs.Places.{placed-paired}
 use Rattle.many.proofs.Walking.{endsOfParts}
 
@@ -62,30 +62,13 @@ values-columns fill [] es vs [] l = refl
 values-columns fill [] es vs (i ∷ is) l = refl
 values-columns fill (a ∷ os) es vs is l = values-from fill a os es vs is l
 
--- ---- the places fit the values as they fit the ends
-
-within-from : (a : ℕ) (os : List ℕ) (es vs : List ℤ) (is : List ℕ) → length es ≡ length vs → Within is (partsFrom a os es) → Within is (partsFrom a os vs)
-unfolding partsFrom
-within-from a [] es vs [] l w = tt
-within-from a [] es vs (i ∷ is) l w = tt
-within-from a (b ∷ os) es vs [] l w = tt
-within-from a (b ∷ os) es vs (i ∷ is) l w = (omega (arith, w .0, part-paired a b es vs l), within-from b os es vs is l (w .1))
-
-within-values : (os : List ℕ) (es vs : List ℤ) (is : List ℕ) → length es ≡ length vs → Within is (parts os es) → Within is (parts os vs)
-within-values [] es vs [] l w = tt
-within-values [] es vs (i ∷ is) l w = tt
-within-values (a ∷ os) es vs is l w = within-from a os es vs is l w
-
 -- where there are runs, there is a column
-placed-some : {os : List ℕ} {es : List ℤ} {is : List ℕ} → Placed os es is → 0 < length es → 0 < length is
+pub placed-some : {os : List ℕ} {es : List ℤ} {is : List ℕ} → Placed os es is → 0 < length es → 0 < length is
 placed-some {os} {es} q h = go (parts os es) (placed-paired q) (total-parts os es (q .offsets))
   where
     go : {n : ℕ} (ess : List (List ℤ)) → n ≡ length ess → total (map length ess) ≡ length es → 0 < n
     go [] e t = let z : ⊥ = omega arith in absurd z
     go (xs ∷ ess) e t = omega arith
-
-pub placed-foldable : {os : List ℕ} {es : List ℤ} {is : List ℕ} (vs : List ℤ) → Placed os es is → length es ≡ length vs → 0 < length es → Foldable os vs is
-placed-foldable {os} {es} {is} vs q l h = record { offsets = rw l at (q .offsets); count = q .count; some = placed-some q h; within = within-values os es vs is l (q .within) }
 
 -- ---- a fill that is missing shows nowhere: the result is that of its value
 

@@ -2,6 +2,7 @@ pub mod Asks
 pub mod Entries
 pub mod Flats
 pub mod Folding
+pub mod Keeping
 pub mod Places
 pub mod Planning
 pub mod Ranging

@@ -9,13 +9,13 @@ use native.Mathlib.Omega.{arith}
 use lib.IntN.{ℤ}
 use lib.ListN.{length, getD, drop}
 use lib.Seq.{drop-cons}
-use Rattle.column.specs.Lists.{part, parts}
+use Rattle.column.specs.Lists.{parts}
 use Rattle.column.specs.Questions.{endsValid}
 use Rattle.column.proofs.Flattened.{AllValid, length-parts}
 use Rattle.column.proofs.Parts.{partsAt, parts-cons}
 use Rattle.plan.specs.Plan.{Place, indexes, stepped}
 use Rattle.plan.specs.Walk.{placeAt}
-use Rattle.many.specs.Workers.{placesFor, placesOf, Within, Placed}
+use Rattle.many.specs.Workers.{columnAt, placesFor, placesOf, Within, Placed}
 use Rattle.many.proofs.Entries.{place-again, place-within}
 
 -- ---- all columns
@@ -56,18 +56,15 @@ placed-next m {os} {es} {is} q = record {
 -- ---- the columns from the c-th on
 
 module _ (os : List ℕ) (es : List ℤ) (is : List ℕ) (c : ℕ) where
-  abbrev pub columnAt : List ℤ
-  columnAt = part (getD os c 0) (getD os (c + 1) 0) es
-
   abbrev pub placesFrom : List Place
   placesFrom = placesFor (drop c is) (partsAt c os es)
 
   module _ (h : c < length is) (k : c + 1 < length os) where
-    pub places-cons : placesFrom ≡ placeAt columnAt (getD is c 0) ∷ placesFor (drop (c + 1) is) (partsAt (c + 1) os es)
+    pub places-cons : placesFrom ≡ placeAt (columnAt os es c) (getD is c 0) ∷ placesFor (drop (c + 1) is) (partsAt (c + 1) os es)
     places-cons = rw (drop-cons is c 0 h, parts-cons c os es k, add-one c)
 
-    pub within-cons : Within (drop c is) (partsAt c os es) → (getD is c 0 ≤ length columnAt) × Within (drop (c + 1) is) (partsAt (c + 1) os es)
+    pub within-cons : Within (drop c is) (partsAt c os es) → (getD is c 0 ≤ length (columnAt os es c)) × Within (drop (c + 1) is) (partsAt (c + 1) os es)
     within-cons w = rw add-one (rw (drop-cons is c 0 h, parts-cons c os es k, add-one c) at w)
 
-    pub valid-cons : AllValid (partsAt c os es) → (endsValid columnAt ≡ none) × AllValid (partsAt (c + 1) os es)
+    pub valid-cons : AllValid (partsAt c os es) → (endsValid (columnAt os es c) ≡ none) × AllValid (partsAt (c + 1) os es)
     valid-cons v = rw (parts-cons c os es k) at v

@@ -20,9 +20,9 @@ use Rattle.plan.specs.Plan.{Place, leastEnd, steppedOn, rests, indexes, stepped
 use Rattle.plan.specs.Walk.{placeAt, spent, EndAt}
 use Rattle.plan.proofs.Segments.{least-cons}
 use Rattle.plan.proofs.Step.{ahead}
-use Rattle.many.specs.Workers.{placesOf, Within, InColumn, Placed, Stepped}
-use Rattle.many.proofs.Entries.{place-moves, earlier, earlier-next, earlier-small, place-within}
-use Rattle.many.proofs.Places.{columnAt, placesFrom, places-cons, within-cons, valid-cons, places-again}
+use Rattle.many.specs.Workers.{columnAt, placesOf, Within, InColumn, Placed, ColumnPlaced, Stepped}
+use Rattle.many.proofs.Entries.{place-moves, earlier, earlier-next, earlier-small}
+use Rattle.many.proofs.Places.{placesFrom, places-cons, within-cons, valid-cons, places-again}
 
 module _ (os : List ℕ) (es : List ℤ) (m : ℕ) (is : List ℕ) where
   abbrev rest : ℕ → List Place
@@ -79,7 +79,7 @@ module _ {os : List ℕ} {es : List ℤ} {m : ℕ} {is is′ : List ℕ} {l c : 
     some-offset = omega (arith, q .count, step-long)
 
     abbrev column : List ℤ
-    column = columnAt os es is c
+    column = columnAt os es c
 
     abbrev i : ℕ
     i = getD is′ c 0
@@ -87,7 +87,7 @@ module _ {os : List ℕ} {es : List ℤ} {m : ℕ} {is is′ : List ℕ} {l c : 
     unmoved : i ≡ getD is c 0
     unmoved = rw (s .places, drop-cons is c 0 h) (getD-at (s .done) (getD is c 0) (drop (suc c) is) 0 c (s .passed))
 
-    pub step-valid : endsValid column ≡ none
+    step-valid : endsValid column ≡ none
     step-valid = valid-cons os es is c h some-offset (s .valid) .0
 
     in-column : (j : ℕ) → j ≤ length column → InColumn es (getD os c 0) (getD os (c + 1) 0) j
@@ -98,15 +98,15 @@ module _ {os : List ℕ} {es : List ℤ} {m : ℕ} {is is′ : List ℕ} {l c : 
     place-inside : i ≤ length column
     place-inside = omega (arith, unmoved, within-cons os es is c h some-offset (s .within) .0)
 
-    pub step-at : InColumn es (getD os c 0) (getD os (c + 1) 0) i
+    step-at : InColumn es (getD os c 0) (getD os (c + 1) 0) i
     step-at = in-column i place-inside
+
+    pub step-placed : ColumnPlaced os es is′ c
+    step-placed = record { offset = some-offset; place = step-at; valid = step-valid }
 
     module _ {e n : ℕ} (a : EndAt (ahead column i) e) (small : m < spent) (en : n ≡ i + cond (eqb e m) 1 0) where
       moved : placeAt column n ≡ steppedOn m i (ahead column i)
       moved = place-moves m column i a small en
-
-      pub step-moved : InColumn es (getD os c 0) (getD os (c + 1) 0) n
-      step-moved = in-column n (rw (ap (λ (p : Place). p .index) moved) (place-within m column i place-inside))
 
       abbrev others : List Place
       others = rest os es m is (c + 1)

@@ -6,6 +6,7 @@ use mathlib.Core.List.{List, [], _∷_, _++_, map}
 use mathlib.Core.Path.{_≡_, refl, ap, ap₂, sym, _∙_}
 use native.Mathlib.Omega.{arith}
 use lib.IntN.{ℤ, pos}
+use lib.Seq.{length-take-le}
 use lib.ListN.{length, take, replicate, length-map, length-replicate}
 use borrow.Author.Tests.{lt-ltb, le-ltb, ne-eqb}
 use Rattle.column.specs.Lists.{total, parts}
@@ -38,6 +39,9 @@ pub take-zeros : (n m : ℕ) → n ≤ m → _≡_ {A = List ℕ} (take n (repli
 take-zeros zero m h = refl
 take-zeros (suc n) zero h = let z : ⊥ = omega arith in absurd z
 take-zeros (suc n) (suc m) h = ap {B = List ℕ} (λ l. 0 ∷ l) (take-zeros n m (omega arith))
+
+pub length-front : {A : Type 0} (x : A) (n m : ℕ) → n ≤ m → length (take n (replicate m x)) ≡ n
+length-front x n m h = length-take-le n (replicate m x) (rw (length-replicate m x) h)
 
 -- no run ends at 0
 first-stays : (ess : List (List ℤ)) → AllValid ess → stepped 0 (firstPlaces (map (map magnitude) ess)) ≡ firstPlaces (map (map magnitude) ess)

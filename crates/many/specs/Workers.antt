@@ -2,17 +2,17 @@
 use Prim.Native.Nat.{ℕ, _+_, _*_, _-_, _≤_, _<_, _^_}
 use mathlib.Core.Bool.{cond}
 use mathlib.Core.Option.{Option, none, some}
-use mathlib.Core.List.{List, [], _∷_}
+use mathlib.Core.List.{List, [], _∷_, map}
 use mathlib.Core.Path.{_≡_}
-use lib.Dec.{ltb}
+use lib.Dec.{eqb, ltb}
 use lib.IntN.{ℤ, pos}
-use lib.ListN.{length, getD, replicate}
+use lib.ListN.{length, getD, drop, set, replicate}
 use Rattle.num.specs.Numbers.{smallerOf, largerOf}
-use Rattle.column.specs.Lists.{parts}
-use Rattle.column.specs.Questions.{offsetsValid, sequencesValid}
-use Rattle.column.specs.Runs.{over}
+use Rattle.column.specs.Lists.{part, parts}
+use Rattle.column.specs.Questions.{endsValid, offsetsValid, sequencesValid}
+use Rattle.column.specs.Runs.{magnitude, over}
 use Rattle.plan.specs.Plan.{Place, Segment, leastEnd, rests, indexes, stepped, segmentEnds}
-use Rattle.plan.specs.Walk.{placeAt, spent}
+use Rattle.plan.specs.Walk.{placeAt, spent, EndAt}
 use Rattle.many.specs.declared.inner.Counts.{Counts}
 use Rattle.many.specs.declared.Lengths.{Lengths}
 use Rattle.many.specs.Many.{mostColumns, allIndexes}
@@ -48,6 +48,35 @@ pub record Placed (os : List ℕ) (es : List ℤ) (is : List ℕ) : Type 0 where
   pub count : length os ≡ length is + 1
   pub within : Within is (parts os es)
 
+-- column c
+abbrev pub columnAt : List ℕ → List ℤ → ℕ → List ℤ
+columnAt os xs c = part (getD os c 0) (getD os (c + 1) 0) xs
+
+-- as many values as ends, and two buffers for what is kept of each column
+pub record Paired (es vs : List ℤ) (is xs : List ℕ) (ys : List ℤ) : Type 0 where
+  pub paired : length es ≡ length vs
+  pub room-ends : length xs ≡ length is
+  pub room-values : length ys ≡ length is
+
+-- what is kept of the first n columns where they stand: the end of each one's run, and its value or the fill
+pub record Kept (os : List ℕ) (es vs : List ℤ) (fill : ℤ) (is xs : List ℕ) (ys : List ℤ) (n : ℕ) : Type 0 where
+  pub long-ends : length xs ≡ length is
+  pub long-values : length ys ≡ length is
+  pub ends : (c : ℕ) → c < n → EndAt (map magnitude (drop (getD is c 0) (columnAt os es c))) (getD xs c 0)
+  pub values : (c : ℕ) → c < n → getD ys c (pos 0) ≡ getD (columnAt os vs c) (getD is c 0) fill
+
+-- a valid column at its place
+pub record ColumnPlaced (os : List ℕ) (es : List ℤ) (is : List ℕ) (c : ℕ) : Type 0 where
+  pub offset : c + 1 < length os
+  pub place : InColumn es (getD os c 0) (getD os (c + 1) 0) (getD is c 0)
+  pub valid : endsValid (columnAt os es c) ≡ none
+
+-- the place of column c, and what is kept, before and after its step from a run that ends at `start`, and its end then
+pub record ColumnStepped (os : List ℕ) (es vs : List ℤ) (fill : ℤ) (c start : ℕ) (is is′ xs xs′ : List ℕ) (ys′ : List ℤ) (end : ℕ) : Type 0 where
+  pub places : is′ ≡ set is c (getD is c 0 + cond (eqb (getD xs c 0) start) 1 0)
+  pub kept : Kept os es vs fill is′ xs′ ys′ (length is′)
+  pub found : end ≡ getD xs′ c 0
+
 -- the places, before and after a step from the runs that end at `start`, and the next end
 pub record Stepped (os : List ℕ) (es : List ℤ) (start : ℕ) (is is′ : List ℕ) (end : ℕ) : Type 0 where
   pub next : is′ ≡ indexes (stepped start (placesOf os es is))
@@ -59,13 +88,6 @@ abbrev pub valuesAt : List ℕ → List (List ℤ) → ℤ → List ℤ
 valuesAt [] columns fill = []
 valuesAt (i ∷ is) [] fill = []
 valuesAt (i ∷ is) (vs ∷ columns) fill = getD vs i fill ∷ valuesAt is columns fill
-
--- columns whose values can be folded where they stand
-pub record Foldable (os : List ℕ) (vs : List ℤ) (is : List ℕ) : Type 0 where
-  pub offsets : offsetsValid os (length vs) ≡ none
-  pub count : length os ≡ length is + 1
-  pub some : 0 < length is
-  pub within : Within is (parts os vs)
 
 -- valid columns, each at its first run
 pub record Walkable (os : List ℕ) (es : List ℤ) (is : List ℕ) : Type 0 where
@@ -81,7 +103,8 @@ pub record Combinable (os : List ℕ) (es vs : List ℤ) (is : List ℕ) (e v : 
   pub room-values : length es ≤ length v
 
 -- every question of plan_many answered "yes", and of zip_many
-pub record Plannable (os : List ℕ) (es e : List ℤ) (x : List ℕ) : Type 0 where
+pub record Plannable (os : List ℕ) (es vs e : List ℤ) (x : List ℕ) : Type 0 where
+  pub paired : length es ≡ length vs
   pub offsets : offsetsValid os (length es) ≡ none
   pub valid : sequencesValid os es ≡ none
   pub columns : length os - 1 ≤ mostColumns

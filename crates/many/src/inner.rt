@@ -18,7 +18,7 @@ ghost use Rattle.column.specs.Questions.{endsValid};
 ghost use Rattle.column.specs.Runs.{magnitude, lengthOfEnds, over, Filled};
 ghost use Rattle.plan.specs.Plan.{segments};
 ghost use Rattle.plan.specs.Walk.{spent, EndAt};
-ghost use Rattle.many.specs.Workers.{InColumn, Placed, Stepped, valuesAt, Foldable, Walkable, Combinable, Plannable, Zippable, PlanManyFilled};
+ghost use Rattle.many.specs.Workers.{InColumn, Placed, Paired, Kept, ColumnPlaced, ColumnStepped, Stepped, Walkable, Combinable, Plannable, Zippable, PlanManyFilled};
 
 // How many segments were written, and how many indexes.
 pub struct Counts {
@@ -50,34 +50,6 @@ fn end_at(ends: &[i64], from: usize, to: usize, place: usize) -> usize
     }
 }
 
-// The place behind a run that ends at `start`; else its own.
-fn stepped(place: usize, end: usize, start: usize) -> usize
-    requires { ⌜ place + 1 < 2 ^ 64 ⌝ }
-    ensures { λ r. ⌜ r ≡ place + cond (eqb end start) 1 0 ⌝ }
-{
-    if end == start { place + 1 } else { place }
-}
-
-// Each column whose current run ends at `start` goes on to its next one. The least of the ends of the runs that are current then, or
-// `SPENT`. No branch tells which columns go on.
-pub fn step(offsets: &[usize], ends: &[i64], places: &mut [usize], start: usize) -> usize
-    requires { ⌜ Placed (now offsets) (now ends) (now places) × (start < spent) ⌝ }
-    ensures { λ r. ⌜ Stepped (now (offsets .entry)) (now (ends .entry)) start (now (places .entry)) (now (places .exit)) r ⌝ }
-{
-    let mut least = SPENT;
-    let mut c: usize = 0;
-    while c < places.len() {
-        let from = offsets[c];
-        let to = offsets[c + 1];
-        let place = places[c];
-        let next = stepped(place, end_at(ends, from, to, place), start);
-        places[c] = next;
-        least = num::smaller_count(least, end_at(ends, from, to, next));
-        c += 1;
-    }
-    least
-}
-
 // The value of the run where a column stands, or the fill where it is spent.
 fn value_at(values: &[i64], from: usize, to: usize, place: usize, fill: i64) -> i64
     requires { ⌜ InColumn (now values) from to place ⌝ }
@@ -87,37 +59,131 @@ fn value_at(values: &[i64], from: usize, to: usize, place: usize, fill: i64) -> 
     if at < to { values[at] } else { fill }
 }
 
-// The values where the columns stand, folded from the first column.
-fn fold_by(code: u8, offsets: &[usize], values: &[i64], places: &[usize], fill: i64) -> i64
-    requires { ⌜ Foldable (now offsets) (now values) (now places) ⌝ }
-    ensures { λ r. ⌜ r ≡ folded (operation code) (valuesAt (now (places .entry)) (parts (now (offsets .entry)) (now (values .entry))) fill) ⌝ }
+// The end and the value of each column's run where it stands, read into `current` and `shown`.
+fn enter(
+    offsets: &[usize],
+    ends: &[i64],
+    values: &[i64],
+    fill: i64,
+    places: &[usize],
+    current: &mut [usize],
+    shown: &mut [i64],
+)
+    requires { ⌜ Placed (now offsets) (now ends) (now places) × Paired (now ends) (now values) (now places) (now current) (now shown) ⌝ }
+    ensures { λ r. ⌜ Kept (now (offsets .entry)) (now (ends .entry)) (now (values .entry)) fill (now (places .entry)) (now (current .exit)) (now (shown .exit)) (length (now (places .entry))) ⌝ }
 {
-    let mut value = value_at(values, offsets[0], offsets[1], places[0], fill);
-    let mut c: usize = 1;
+    let mut c: usize = 0;
     while c < places.len() {
-        let next = value_at(values, offsets[c], offsets[c + 1], places[c], fill);
-        value = num::apply(code, value, next);
+        let from = offsets[c];
+        let to = offsets[c + 1];
+        let place = places[c];
+        let end = end_at(ends, from, to, place);
+        let value = value_at(values, from, to, place, fill);
+        current[c] = end;
+        shown[c] = value;
+        c += 1;
+    }
+}
+
+// Column c goes on to its next run if its current one ends at `start`. Where its current run ends then.
+fn step_column(
+    offsets: &[usize],
+    ends: &[i64],
+    values: &[i64],
+    fill: i64,
+    c: usize,
+    start: usize,
+    places: &mut [usize],
+    current: &mut [usize],
+    shown: &mut [i64],
+) -> usize
+    requires { ⌜ ColumnPlaced (now offsets) (now ends) (now places) c × (c < length (now places)) × (length (now ends) ≡ length (now values))
+        × Kept (now offsets) (now ends) (now values) fill (now places) (now current) (now shown) (length (now places)) × (start < spent) ⌝ }
+    ensures { λ r. ⌜ ColumnStepped (now (offsets .entry)) (now (ends .entry)) (now (values .entry)) fill c start
+        (now (places .entry)) (now (places .exit)) (now (current .entry)) (now (current .exit)) (now (shown .exit)) r ⌝ }
+{
+    let end = current[c];
+    if end != start {
+        return end;
+    }
+    let from = offsets[c];
+    let to = offsets[c + 1];
+    let place = places[c] + 1;
+    let next = end_at(ends, from, to, place);
+    let value = value_at(values, from, to, place, fill);
+    places[c] = place;
+    current[c] = next;
+    shown[c] = value;
+    next
+}
+
+// Each column whose current run ends at `start` goes on to its next one. The least of the ends of the runs that are current then, or
+// `SPENT`. What a column shows is kept beside its place: of many columns few go on, and only those are looked up.
+pub fn step(
+    offsets: &[usize],
+    ends: &[i64],
+    values: &[i64],
+    fill: i64,
+    start: usize,
+    places: &mut [usize],
+    current: &mut [usize],
+    shown: &mut [i64],
+) -> usize
+    requires { ⌜ Placed (now offsets) (now ends) (now places) × (length (now ends) ≡ length (now values))
+        × Kept (now offsets) (now ends) (now values) fill (now places) (now current) (now shown) (length (now places)) × (start < spent) ⌝ }
+    ensures { λ r. ⌜ Stepped (now (offsets .entry)) (now (ends .entry)) start (now (places .entry)) (now (places .exit)) r
+        × Kept (now (offsets .entry)) (now (ends .entry)) (now (values .entry)) fill (now (places .exit)) (now (current .exit)) (now (shown .exit)) (length (now (places .exit))) ⌝ }
+{
+    let mut least = SPENT;
+    let mut c: usize = 0;
+    while c < places.len() {
+        let end = step_column(
+            offsets,
+            ends,
+            values,
+            fill,
+            c,
+            start,
+            places,
+            current,
+            shown,
+        );
+        least = num::smaller_count(least, end);
+        c += 1;
+    }
+    least
+}
+
+// What the columns show, folded from the first one.
+fn fold_by(code: u8, shown: &[i64]) -> i64
+    requires { ⌜ 0 < length (now shown) ⌝ }
+    ensures { λ r. ⌜ r ≡ folded (operation code) (now (shown .entry)) ⌝ }
+{
+    let mut value = shown[0];
+    let mut c: usize = 1;
+    while c < shown.len() {
+        value = num::apply(code, value, shown[c]);
         c += 1;
     }
     value
 }
 
 // The same, with a loop for each operation: where the code is written out, the compiler keeps its test out of the loop.
-fn fold(code: u8, offsets: &[usize], values: &[i64], places: &[usize], fill: i64) -> i64
-    requires { ⌜ Foldable (now offsets) (now values) (now places) ⌝ }
-    ensures { λ r. ⌜ r ≡ folded (operation code) (valuesAt (now (places .entry)) (parts (now (offsets .entry)) (now (values .entry))) fill) ⌝ }
+fn fold(code: u8, shown: &[i64]) -> i64
+    requires { ⌜ 0 < length (now shown) ⌝ }
+    ensures { λ r. ⌜ r ≡ folded (operation code) (now (shown .entry)) ⌝ }
 {
     match code {
-        0 => fold_by(0, offsets, values, places, fill),
-        1 => fold_by(1, offsets, values, places, fill),
-        2 => fold_by(2, offsets, values, places, fill),
-        3 => fold_by(3, offsets, values, places, fill),
-        4 => fold_by(4, offsets, values, places, fill),
-        5 => fold_by(5, offsets, values, places, fill),
-        6 => fold_by(6, offsets, values, places, fill),
-        7 => fold_by(7, offsets, values, places, fill),
-        8 => fold_by(8, offsets, values, places, fill),
-        _ => fold_by(code, offsets, values, places, fill),
+        0 => fold_by(0, shown),
+        1 => fold_by(1, shown),
+        2 => fold_by(2, shown),
+        3 => fold_by(3, shown),
+        4 => fold_by(4, shown),
+        5 => fold_by(5, shown),
+        6 => fold_by(6, shown),
+        7 => fold_by(7, shown),
+        8 => fold_by(8, shown),
+        _ => fold_by(code, shown),
     }
 }
 
@@ -139,21 +205,25 @@ fn put_places(places: &[usize], out: &mut [usize], at: usize) -> usize
 fn plan_walk(
     offsets: &[usize],
     ends: &[i64],
+    values: &[i64],
     places: &mut [usize],
+    current: &mut [usize],
+    shown: &mut [i64],
     out_ends: &mut [i64],
     out_idx: &mut [usize],
 ) -> Counts
-    requires { ⌜ Walkable (now offsets) (now ends) (now places) × (length (now ends) ≤ length (now «out_ends»)) × (length (now ends) * (length (now offsets) - 1) ≤ length (now «out_idx»)) ⌝ }
+    requires { ⌜ Walkable (now offsets) (now ends) (now places) × Paired (now ends) (now values) (now places) (now current) (now shown) × (length (now ends) ≤ length (now «out_ends»)) × (length (now ends) * (length (now offsets) - 1) ≤ length (now «out_idx»)) ⌝ }
     ensures { λ r. ⌜ PlanManyFilled (segments (map (map magnitude) (parts (now (offsets .entry)) (now (ends .entry))))) (now («out_ends» .entry)) (now («out_ends» .exit)) (now («out_idx» .entry)) (now («out_idx» .exit)) r ⌝ }
 {
     let mut n: usize = 0;
     let mut m: usize = 0;
-    let mut end = step(offsets, ends, places, 0);
+    enter(offsets, ends, values, 0, places, current, shown);
+    let mut end = step(offsets, ends, values, 0, 0, places, current, shown);
     while end < SPENT {
         out_ends[n] = end as i64;
         n += 1;
         m = put_places(places, out_idx, m);
-        end = step(offsets, ends, places, end);
+        end = step(offsets, ends, values, 0, end, places, current, shown);
     }
     Counts {
         segments: n,
@@ -164,15 +234,27 @@ fn plan_walk(
 pub fn plan_many(
     offsets: &[usize],
     ends: &[i64],
+    values: &[i64],
     out_ends: &mut [i64],
     out_idx: &mut [usize],
 ) -> Counts
-    requires { ⌜ Plannable (now offsets) (now ends) (now «out_ends») (now «out_idx») ⌝ }
+    requires { ⌜ Plannable (now offsets) (now ends) (now values) (now «out_ends») (now «out_idx») ⌝ }
     ensures { λ r. ⌜ PlanManyFilled (segments (map (map magnitude) (parts (now (offsets .entry)) (now (ends .entry))))) (now («out_ends» .entry)) (now («out_ends» .exit)) (now («out_idx» .entry)) (now («out_idx» .exit)) r ⌝ }
 {
     let k = offsets.len() - 1;
     let mut places = [0usize; rle::Rle::MAX_COLUMNS];
-    plan_walk(offsets, ends, &mut places[..k], out_ends, out_idx)
+    let mut current = [0usize; rle::Rle::MAX_COLUMNS];
+    let mut shown = [0i64; rle::Rle::MAX_COLUMNS];
+    plan_walk(
+        offsets,
+        ends,
+        values,
+        &mut places[..k],
+        &mut current[..k],
+        &mut shown[..k],
+        out_ends,
+        out_idx,
+    )
 }
 
 // What the columns show together, merged, with the columns' places in a lent buffer.
@@ -183,23 +265,26 @@ fn zip_walk(
     fill: i64,
     code: u8,
     places: &mut [usize],
+    current: &mut [usize],
+    shown: &mut [i64],
     out_ends: &mut [i64],
     out_values: &mut [i64],
 ) -> usize
-    requires { ⌜ Combinable (now offsets) (now ends) (now values) (now places) (now «out_ends») (now «out_values») ⌝ }
+    requires { ⌜ Combinable (now offsets) (now ends) (now values) (now places) (now «out_ends») (now «out_values») × Paired (now ends) (now values) (now places) (now current) (now shown) ⌝ }
     ensures { λ r. ⌜ Filled (combined (operation code) (many (Value fill) (columns (flat (now (offsets .entry)) (now (ends .entry)) (now (values .entry))))))
         (now («out_ends» .entry)) (now («out_ends» .exit)) (now («out_values» .entry)) (now («out_values» .exit)) r ⌝ }
 {
     if ends.len() == 0 {
         return 0;
     }
-    let mut end = step(offsets, ends, places, 0);
-    let first = fold(code, offsets, values, places, fill);
+    enter(offsets, ends, values, fill, places, current, shown);
+    let mut end = step(offsets, ends, values, fill, 0, places, current, shown);
+    let first = fold(code, shown);
     let mut writer = Writer { at: 0, last: first };
     while end < SPENT {
-        let value = fold(code, offsets, values, places, fill);
+        let value = fold(code, shown);
         writer = column::inner::push_merged(writer, out_ends, out_values, end as i64, value);
-        end = step(offsets, ends, places, end);
+        end = step(offsets, ends, values, fill, end, places, current, shown);
     }
     writer.at + 1
 }
@@ -219,6 +304,8 @@ pub fn zip_many(
 {
     let k = offsets.len() - 1;
     let mut places = [0usize; rle::Rle::MAX_COLUMNS];
+    let mut current = [0usize; rle::Rle::MAX_COLUMNS];
+    let mut shown = [0i64; rle::Rle::MAX_COLUMNS];
     zip_walk(
         offsets,
         ends,
@@ -226,6 +313,8 @@ pub fn zip_many(
         fill,
         code,
         &mut places[..k],
+        &mut current[..k],
+        &mut shown[..k],
         out_ends,
         out_values,
     )

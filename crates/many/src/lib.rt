@@ -67,7 +67,7 @@ pub fn plan_many(
     let asked = plan_many_asks(offsets, ends, values, out_ends.len(), out_idx.len());
     match asked {
         Asked::Yes => {
-            let counts = inner::plan_many(offsets, ends, out_ends, out_idx);
+            let counts = inner::plan_many(offsets, ends, values, out_ends, out_idx);
             PlannedMany::Counts {
                 segments: counts.segments,
                 indexes: counts.indexes,

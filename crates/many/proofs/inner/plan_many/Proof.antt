@@ -1,8 +1,8 @@
-use mathlib.Core.Path.{_∙_, ap, sym}
-use native.Mathlib.Omega.{arith}
-use lib.ListN.{length, length-replicate}
+use Rattle.many.proofs.Walking.{take-zeros, length-front}
 use Rattle.column.proofs.Flattened.{offsets-some}
-use Rattle.many.proofs.Walking.{take-zeros}
+use native.Mathlib.Omega.{arith}
+use lib.IntN.{pos}
+use mathlib.Core.Path.{refl, _∙_, sym}
 use borrow.Author.Needs.{needs}
 use Rattle.many.proofs.inner.plan_many.Statement.{statement}
 use Rattle.many.proofs.inner.plan_many.Tie as tie
@@ -14,10 +14,22 @@ array-borrow-prefix-places : tie.Need-array-borrow-prefix-places
 array-borrow-prefix-places c = search needs
 
 slice-aggregate-plan-walk : tie.Need-slice-aggregate-plan-walk
-slice-aggregate-plan-walk c = let q = c .before .before .before .pre in sym (ap length (take-zeros _ 128 (q .columns)) ∙ length-replicate _ 0)
+slice-aggregate-plan-walk c = let q = c .before .before .before .pre in sym (length-front 0 _ 128 (q .columns))
+
+array-borrow-prefix-current : tie.Need-array-borrow-prefix-current
+array-borrow-prefix-current c = search needs
+
+slice-aggregate-plan-walk-2 : tie.Need-slice-aggregate-plan-walk-2
+slice-aggregate-plan-walk-2 c = let q = c .before .before .before .before .pre in sym (length-front 0 _ 128 (q .columns))
+
+array-borrow-prefix-shown : tie.Need-array-borrow-prefix-shown
+array-borrow-prefix-shown c = search needs
+
+slice-aggregate-plan-walk-3 : tie.Need-slice-aggregate-plan-walk-3
+slice-aggregate-plan-walk-3 c = let q = c .before .before .before .before .before .pre in sym (length-front (pos 0) _ 128 (q .columns))
 
 plan-walk-requires : tie.Need-plan-walk-requires
-plan-walk-requires c κs = let q = c .before .before .before .before .before .pre in (record { offsets = q .offsets; valid = q .valid; first = take-zeros _ 128 (q .columns) }, q .room-ends, q .room-indexes)
+plan-walk-requires c κs = let q = c .before .before .before .before .before .before .before .pre in (record { offsets = q .offsets; valid = q .valid; first = take-zeros _ 128 (q .columns) }, record { paired = q .paired; room-ends = refl; room-values = length-front (pos 0) _ 128 (q .columns) ∙ sym (length-front 0 _ 128 (q .columns)) }, q .room-ends, q .room-indexes)
 
 same-length : tie.Need-same-length
 same-length c = search needs
@@ -35,6 +47,10 @@ plan-many-spec =
     sub-k
     array-borrow-prefix-places
     slice-aggregate-plan-walk
+    array-borrow-prefix-current
+    slice-aggregate-plan-walk-2
+    array-borrow-prefix-shown
+    slice-aggregate-plan-walk-3
     plan-walk-requires
     same-length
     same-length-2

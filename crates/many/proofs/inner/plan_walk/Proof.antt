@@ -1,60 +1,72 @@
-use mir.Syntax.{w64}
-use mir.Facts.{toZ-pos}
-use native.Mathlib.Omega.{arith}
-use Rattle.plan.proofs.Segments.{left}
-use Rattle.many.specs.Workers.{placesOf}
-use Rattle.many.proofs.Walking.{walk-placed, walk-less}
 use Rattle.many.proofs.Planning.{Planning, planning-start, planning-end, planning-ends, planning-indexes, planning-next}
+use Rattle.many.proofs.Walking.{walk-placed, walk-less}
+use lib.IntN.{pos}
+use lib.ListN.{length}
+use Rattle.many.specs.Workers.{placesOf, Kept}
+use Rattle.plan.proofs.Segments.{left}
+use mir.Facts.{toZ-pos}
+use mir.Syntax.{w64}
+use native.Mathlib.Omega.{arith}
 use Rattle.many.proofs.inner.plan_walk.Statement.{statement}
 use Rattle.many.proofs.inner.plan_walk.Tie as tie
 
 abbrev Inv-loop : tie.InvT-loop
-Inv-loop offsets ends places₀ out-ends₀ out-idx₀ n₀ m₀ end₀ places out-ends out-idx n m end = Planning offsets ends out-ends₀ out-idx₀ places out-ends out-idx n m end
+Inv-loop offsets ends values places₀ current₀ shown₀ out-ends₀ out-idx₀ n₀ m₀ end₀ places current shown out-ends out-idx n m end = Planning offsets ends out-ends₀ out-idx₀ places out-ends out-idx n m end × Kept offsets ends values (pos 0) places current shown (length places)
 
 abbrev μ-loop : tie.MeasureT-loop
-μ-loop offsets ends places₀ out-ends₀ out-idx₀ n₀ m₀ end₀ places out-ends out-idx n m end = left (placesOf offsets ends places)
+μ-loop offsets ends values places₀ current₀ shown₀ out-ends₀ out-idx₀ n₀ m₀ end₀ places current shown out-ends out-idx n m end = left (placesOf offsets ends places)
+
+enter-requires : tie.Need-enter-requires Inv-loop μ-loop
+enter-requires c κs = let s = c .before .before .before .before .before .before .before in (walk-placed _ _ (s .pre .0), s .pre .1)
 
 step-requires : tie.Need-step-requires Inv-loop μ-loop
-step-requires c κs = (walk-placed _ _ (c .before .before .before .before .pre .0), omega arith)
+step-requires c κs = let s = c .before .before .before .before .before .before .before .before .before .before .before .before .before .before in let en = c .before .before .before .before .before .before in (walk-placed _ _ (s .pre .0), s .pre .1 .paired, en .enter .ensures, omega arith)
 
 loop-holds : tie.Need-loop-holds Inv-loop μ-loop
-loop-holds c = planning-start _ _ _ _ (c .before .before .before .before .before .before .before .pre .0) (c .before .before .step .ensures)
+loop-holds c = let s = c .before .before .before .before .before .before .before .before .before .before .before .before .before .before .before .before .before .before .before .before in let st = c .before .before .before .before .before in (planning-start _ _ _ _ (s .pre .0) (st .step .ensures .0), st .step .ensures .1)
 
 cast-out-ends : tie.Need-cast-out-ends Inv-loop μ-loop
-cast-out-ends c = record { sfits = c .before .loop .inv .walk .small (c .loop-test .taken) }
+cast-out-ends c = let t = c in let l = c .before in record { sfits = l .loop .inv .0 .walk .small (t .loop-test .taken) }
 
-mul-t13 : tie.Need-mul-t13 Inv-loop μ-loop
-mul-t13 c = let l = c .before in let q = l .before .before .before .before .before .before .before .before .pre in let t = c .loop-test .taken in omega (arith, planning-ends (l .loop .inv) t (q .1) (q .2))
+mul-t27 : tie.Need-mul-t27 Inv-loop μ-loop
+mul-t27 c = let s = c .before .before .before .before .before .before .before .before .before .before .before .before .before .before .before .before .before .before .before .before .before .before in let l = c .before in let t = c in omega (arith, planning-ends (l .loop .inv .0) (t .loop-test .taken) (s .pre .2) (s .pre .3))
 
 slice-set-from-out-ends : tie.Need-slice-set-from-out-ends Inv-loop μ-loop
-slice-set-from-out-ends c = let l = c .before in let q = l .before .before .before .before .before .before .before .before .pre in let t = c .loop-test .taken in planning-ends (l .loop .inv) t (q .1) (q .2)
+slice-set-from-out-ends c = let s = c .before .before .before .before .before .before .before .before .before .before .before .before .before .before .before .before .before .before .before .before .before .before in let l = c .before in let t = c in planning-ends (l .loop .inv .0) (t .loop-test .taken) (s .pre .2) (s .pre .3)
 
 add-n : tie.Need-add-n Inv-loop μ-loop
-add-n c = let l = c .before in let q = l .before .before .before .before .before .before .before .before .pre in let t = c .loop-test .taken in omega (arith, planning-ends (l .loop .inv) t (q .1) (q .2))
+add-n c = let s = c .before .before .before .before .before .before .before .before .before .before .before .before .before .before .before .before .before .before .before .before .before .before in let l = c .before in let t = c in omega (arith, planning-ends (l .loop .inv .0) (t .loop-test .taken) (s .pre .2) (s .pre .3))
 
 put-places-requires : tie.Need-put-places-requires Inv-loop μ-loop
-put-places-requires c κs = let l = c .before .before .before in let q = l .before .before .before .before .before .before .before .before .pre in let t = c .before .before .loop-test .taken in planning-indexes (l .loop .inv) t (q .1) (q .2)
+put-places-requires c κs = let s = c .before .before .before .before .before .before .before .before .before .before .before .before .before .before .before .before .before .before .before .before .before .before .before .before in let l = c .before .before .before in let t = c .before .before in planning-indexes (l .loop .inv .0) (t .loop-test .taken) (s .pre .2) (s .pre .3)
 
 step-requires-2 : tie.Need-step-requires-2 Inv-loop μ-loop
-step-requires-2 c κs = let l = c .before .before .before .before .before .before .before in (l .loop .inv .walk .placed, c .before .before .before .before .before .before .loop-test .taken)
+step-requires-2 c κs = let s = c .before .before .before .before .before .before .before .before .before .before .before .before .before .before .before .before .before .before .before .before .before .before .before .before .before .before .before .before .before .before in let l = c .before .before .before .before .before .before .before .before .before in let t = c .before .before .before .before .before .before .before .before in (l .loop .inv .0 .walk .placed, s .pre .1 .paired, l .loop .inv .1, t .loop-test .taken)
 
 loop-less : tie.Need-loop-less Inv-loop μ-loop
-loop-less c = let l = c .before .before .before .before .before .before .before .before .before .before in let q = l .before .before .before .before .before .before .before .before .pre in let t = c .before .before .before .before .before .before .before .before .before .loop-test .taken in walk-less (l .loop .inv .walk) t (c .before .before .step2 .ensures)
+loop-less c = let l = c .before .before .before .before .before .before .before .before .before .before .before .before .before .before .before in let t = c .before .before .before .before .before .before .before .before .before .before .before .before .before .before in let st = c .before .before .before .before .before in walk-less (l .loop .inv .0 .walk) (t .loop-test .taken) (st .step2 .ensures .0)
 
 loop-again : tie.Need-loop-again Inv-loop μ-loop
-loop-again c = let l = c .before .before .before .before .before .before .before .before .before .before in let q = l .before .before .before .before .before .before .before .before .pre in let t = c .before .before .before .before .before .before .before .before .before .loop-test .taken in planning-next (l .loop .inv) t (q .1) (q .2) (toZ-pos w64 (l .loop .inv .walk .small t)) (c .before .before .before .before .before .before .put-places .ensures .0) (c .before .before .before .before .before .before .put-places .kept .1 .0) (c .before .before .before .before .before .before .put-places .ensures .1) (c .before .before .step2 .ensures)
+loop-again c = let s = c .before .before .before .before .before .before .before .before .before .before .before .before .before .before .before .before .before .before .before .before .before .before .before .before .before .before .before .before .before .before .before .before .before .before .before .before in let l = c .before .before .before .before .before .before .before .before .before .before .before .before .before .before .before in let t = c .before .before .before .before .before .before .before .before .before .before .before .before .before .before in let pp = c .before .before .before .before .before .before .before .before .before .before .before in let st = c .before .before .before .before .before in
+    (planning-next (l .loop .inv .0) (t .loop-test .taken) (s .pre .2) (s .pre .3) (toZ-pos w64 (l .loop .inv .0 .walk .small (t .loop-test .taken))) (pp .put-places .ensures .0) (pp .put-places .kept .1 .0) (pp .put-places .ensures .1) (st .step2 .ensures .0), st .step2 .ensures .1)
 
 same-length : tie.Need-same-length Inv-loop μ-loop
-same-length c = omega (arith, c .before .loop .inv .walk .placed .count, walk-placed _ _ (c .before .before .before .before .before .before .before .before .before .pre .0) .count)
+same-length c = let s = c .before .before .before .before .before .before .before .before .before .before .before .before .before .before .before .before .before .before .before .before .before .before in let l = c .before in omega (arith, l .loop .inv .0 .walk .placed .count, walk-placed _ _ (s .pre .0) .count)
 
 same-length-2 : tie.Need-same-length-2 Inv-loop μ-loop
-same-length-2 c = c .before .loop .inv .ends .long
+same-length-2 c = let s = c .before .before .before .before .before .before .before .before .before .before .before .before .before .before .before .before .before .before .before .before .before .before in let l = c .before in omega (arith, l .loop .inv .0 .walk .placed .count, walk-placed _ _ (s .pre .0) .count, l .loop .inv .1 .long-ends, s .pre .1 .room-ends)
 
 same-length-3 : tie.Need-same-length-3 Inv-loop μ-loop
-same-length-3 c = c .before .loop .inv .long
+same-length-3 c = let s = c .before .before .before .before .before .before .before .before .before .before .before .before .before .before .before .before .before .before .before .before .before .before in let l = c .before in omega (arith, l .loop .inv .0 .walk .placed .count, walk-placed _ _ (s .pre .0) .count, l .loop .inv .1 .long-values, s .pre .1 .room-values)
+
+same-length-4 : tie.Need-same-length-4 Inv-loop μ-loop
+same-length-4 c = let l = c .before in l .loop .inv .0 .ends .long
+
+same-length-5 : tie.Need-same-length-5 Inv-loop μ-loop
+same-length-5 c = let l = c .before in l .loop .inv .0 .long
 
 returns : tie.Need-returns Inv-loop μ-loop
-returns c = planning-end (c .before .loop .inv) (c .loop-test .left)
+returns c = let l = c .before in planning-end (l .loop .inv .0) (c .loop-test .left)
 
 pub plan-walk-spec : {M : Type 1} → statement M
 plan-walk-spec =
@@ -62,10 +74,11 @@ plan-walk-spec =
     (tie.spec
     Inv-loop
     μ-loop
+    enter-requires
     step-requires
     loop-holds
     cast-out-ends
-    mul-t13
+    mul-t27
     slice-set-from-out-ends
     add-n
     put-places-requires
@@ -75,4 +88,6 @@ plan-walk-spec =
     same-length
     same-length-2
     same-length-3
+    same-length-4
+    same-length-5
     returns)
