@@ -5,8 +5,7 @@ use mathlib.Core.List.{List, [], _∷_, map-map}
 use mathlib.Core.Path.{_≡_, ap, sym, _∙_}
 use native.Mathlib.Omega.{arith}
 use lib.IntN.{ℤ, pos}
-use lib.ListN.{length, getD, take, set, length-map}
-use lib.Seq.{length-take-le, take-all}
+use lib.ListN.{length, getD, set, length-map}
 use Rattle.column.specs.declared.answer.Fill.the-variants.{Value}
 use Rattle.column.specs.declared.inner.Writer.{Writer}
 use Rattle.column.specs.Combine.{Column, two, combined}
@@ -24,17 +23,6 @@ use Rattle.plan.proofs.Segments.{left, none-left}
 use Rattle.plan.proofs.Walking.{firsts, Walk, left-firsts, walk-start, walk-few, walk-none, walk-next, walk-end}
 use Rattle.plan.proofs.Zipping.{starts, shownAt, mergedRuns, zip-none, zip-at, zip-last, zip-more, zip-end}
 use Rattle.ops.specs.Workers.{Zippable}
-
--- values cut to the number of ends are all values
-module _ (es vs : List ℤ) (l : length es ≡ length vs) where
-  pub cut-length : length es ≡ length (take (length es) vs)
-  cut-length = sym (length-take-le (length es) vs (omega arith))
-
-  pub cut-all : take (length es) vs ≡ vs
-  cut-all = take-all (length es) vs (omega arith)
-
-pub zippable-cut : (ae av be bv e v : List ℤ) → Zippable (sequence ae av) (sequence be bv) e v → Zippable (sequence ae (take (length ae) av)) (sequence be (take (length be) bv)) e v
-zippable-cut ae av be bv e v q = rw (cut-all ae av (q .paired-a), cut-all be bv (q .paired-b)) q
 
 module _ (op : ℤ → ℤ → ℤ) (fa fb : ℤ) (ae av be bv e₀ v₀ : List ℤ) where
   abbrev pub cs : List Column

@@ -50,10 +50,7 @@ pub fn zip_with(
     if total == 0 {
         return 0;
     }
-    // Values as many as ends, so that one test of an index serves both lists.
-    let left = &a_values[..a_ends.len()];
-    let right = &b_values[..b_ends.len()];
-    let first = shown_at(code, left, 0, fill_a, right, 0, fill_b);
+    let first = shown_at(code, a_values, 0, fill_a, b_values, 0, fill_b);
     let mut writer = Writer { at: 0, last: first };
     let mut here = Segments::start(a_ends, b_ends);
     while here.more() {
@@ -61,10 +58,10 @@ pub fn zip_with(
         let end = segment.end;
         let value = shown_at(
             code,
-            left,
+            a_values,
             here.a.index,
             fill_a,
-            right,
+            b_values,
             here.b.index,
             fill_b,
         );
@@ -90,8 +87,6 @@ pub fn zip_with_raw(
         (segmentRuns (operation code) (sides (sequence (now («a_ends» .entry)) (now («a_values» .entry))) (sequence (now («b_ends» .entry)) (now («b_values» .entry))) (Value «fill_a») (Value «fill_b»)))
         (now («out_ends» .entry)) (now («out_ends» .exit)) (now («out_values» .entry)) (now («out_values» .exit)) r ⌝ }
 {
-    let left = &a_values[..a_ends.len()];
-    let right = &b_values[..b_ends.len()];
     let mut n: usize = 0;
     let mut here = Segments::start(a_ends, b_ends);
     while here.more() {
@@ -99,10 +94,10 @@ pub fn zip_with_raw(
         let end = segment.end;
         let value = shown_at(
             code,
-            left,
+            a_values,
             here.a.index,
             fill_a,
-            right,
+            b_values,
             here.b.index,
             fill_b,
         );

@@ -1,4 +1,4 @@
-use Rattle.ops.proofs.Zips.{Zipped, cut-length, cut-all, zippable-cut, zipped-none, zipped-start, zipped-end, zipped-room, zipped-last, zipped-more}
+use Rattle.ops.proofs.Zips.{Zipped, zipped-none, zipped-start, zipped-end, zipped-room, zipped-last, zipped-more}
 use Rattle.plan.proofs.Walking.{walk-moves}
 use Rattle.plan.proofs.Step.{more-left, none-more}
 use Rattle.num.proofs.Bits.{back}
@@ -6,10 +6,7 @@ use Rattle.num.specs.Numbers.{operation}
 use mir.Facts.{toZ-ofZ}
 use mir.Val.{toZ, ofZ}
 use mir.Syntax.{w64}
-use denote.Ref.{now}
-use Rattle.ops.specs.Workers.{Zippable}
-use Rattle.column.specs.Runs.{sequence}
-use lib.ListN.{length, take}
+use lib.ListN.{length}
 use native.Mathlib.Omega.{arith}
 use mathlib.Core.Path.{_≡_, _∙_}
 use Prim.Native.Nat.{_+_, _-_}
@@ -18,10 +15,10 @@ use Rattle.ops.proofs.inner.zip_with.Statement.{statement}
 use Rattle.ops.proofs.inner.zip_with.Tie as tie
 
 abbrev Inv-loop : tie.InvT-loop
-Inv-loop a-ends a-values b-ends b-values fill-a fill-b code out-ends₀ out-values₀ total left right first writer₀ here₀ out-ends out-values writer here = Zipped (operation code) (toZ w64 fill-a) (toZ w64 fill-b) a-ends left b-ends right out-ends₀ out-values₀ out-ends out-values writer here
+Inv-loop a-ends a-values b-ends b-values fill-a fill-b code out-ends₀ out-values₀ total first writer₀ here₀ out-ends out-values writer here = Zipped (operation code) (toZ w64 fill-a) (toZ w64 fill-b) a-ends a-values b-ends b-values out-ends₀ out-values₀ out-ends out-values writer here
 
 abbrev μ-loop : tie.MeasureT-loop
-μ-loop a-ends a-values b-ends b-values fill-a fill-b code out-ends₀ out-values₀ total left right first writer₀ here₀ out-ends out-values writer here = length a-ends + length b-ends - (here .a .index + here .b .index)
+μ-loop a-ends a-values b-ends b-values fill-a fill-b code out-ends₀ out-values₀ total first writer₀ here₀ out-ends out-values writer here = length a-ends + length b-ends - (here .a .index + here .b .index)
 
 add-total : tie.Need-add-total Inv-loop μ-loop
 add-total c = search needs
@@ -29,64 +26,48 @@ add-total c = search needs
 returns : tie.Need-returns Inv-loop μ-loop
 returns c = zipped-none _ _ _ _ _ _ _ _ _ (c .before .pre) (c .if1 .taken)
 
-slice-aggregate-left : tie.Need-slice-aggregate-left Inv-loop μ-loop
-slice-aggregate-left c = let s = c .before .before in cut-length (now (s .args .a-ends)) (now (s .args .a-values)) (s .pre .paired-a)
-
-slice-aggregate-right : tie.Need-slice-aggregate-right Inv-loop μ-loop
-slice-aggregate-right c = let s = c .before .before .before in cut-length (now (s .args .b-ends)) (now (s .args .b-values)) (s .pre .paired-b)
-
 shown-at-requires : tie.Need-shown-at-requires Inv-loop μ-loop
 shown-at-requires c κs = search needs
 
 start-requires : tie.Need-start-requires Inv-loop μ-loop
-start-requires c κs = let q = c .before .before .before .before .pre in (q .valid-a, q .valid-b)
-
--- the values that the loop reads
-zippable : (c : tie.After-right Inv-loop μ-loop) → let s = c .before .before .before .args in
-    Zippable (sequence (now (s .a-ends)) (take (length (now (s .a-ends))) (now (s .a-values)))) (sequence (now (s .b-ends)) (take (length (now (s .b-ends))) (now (s .b-values)))) (now (s .out-ends)) (now (s .out-values))
-zippable c = zippable-cut _ _ _ _ _ _ (c .before .before .before .pre)
+start-requires c κs = let s = c .before .before in (s .pre .valid-a, s .pre .valid-b)
 
 loop-holds : tie.Need-loop-holds Inv-loop μ-loop
-loop-holds c = let v = c .before in zipped-start _ _ _ _ _ _ _ _ _ (zippable (v .before)) (back _ (v .shown-at .ok) ∙ v .shown-at .ensures) (c .start .ensures)
+loop-holds c = let s = c .before .before .before in let v = c .before in zipped-start _ _ _ _ _ _ _ _ _ (s .pre) (back _ (v .shown-at .ok) ∙ v .shown-at .ensures) (c .start .ensures)
 
 more-requires : tie.Need-more-requires Inv-loop μ-loop
 more-requires c κs = search needs
 
 next-requires : tie.Need-next-requires Inv-loop μ-loop
-next-requires c κs = let m = c .before in let l = m .before in let k = l .loop .inv .walk .standing in let q = l .before .before .before .before .before .before .pre in record { valid-a = q .valid-a; valid-b = q .valid-b; standing = k; unspent = more-left k (m .more .ensures) (c .if2 .taken) .0 }
+next-requires c κs = let s = c .before .before .before .before .before .before in let l = c .before .before in let k = l .loop .inv in let m = c .before in let t = c in record { valid-a = s .pre .valid-a; valid-b = s .pre .valid-b; standing = k .walk .standing; unspent = more-left (k .walk .standing) (m .more .ensures) (t .if2 .taken) .0 }
 
 shown-at-requires-2 : tie.Need-shown-at-requires-2 Inv-loop μ-loop
 shown-at-requires-2 c κs = search needs
 
 push-merged-requires : tie.Need-push-merged-requires Inv-loop μ-loop
-push-merged-requires c κs = let v = c .before .before in let t = v .before .before .before in let m = t .before in let l = m .before in let k = l .loop .inv in zipped-room _ _ _ _ _ _ _ _ _ (zippable (l .before .before .before)) k (back _ (v .shown-at2 .ok) ∙ v .shown-at2 .ensures) (more-left (k .walk .standing) (m .more .ensures) (t .if2 .taken) .1) (omega (arith, l .before .before .before .before .before .before .good))
+push-merged-requires c κs = let s = c .before .before .before .before .before .before .before .before .before .before .before in let l = c .before .before .before .before .before .before .before in let k = l .loop .inv in let m = c .before .before .before .before .before .before in let t = c .before .before .before .before .before in let v = c .before .before in zipped-room _ _ _ _ _ _ _ _ _ (s .pre) k (back _ (v .shown-at2 .ok) ∙ v .shown-at2 .ensures) (more-left (k .walk .standing) (m .more .ensures) (t .if2 .taken) .1) (omega (arith, s .good))
 
 loop-less : tie.Need-loop-less Inv-loop μ-loop
-loop-less c = let n = c .before .before .before .before .before .before .before .before in let t = n .before in let m = t .before in let k = m .before .loop .inv in omega (arith, walk-moves _ _ (k .walk) (n .next .ensures), more-left (k .walk .standing) (m .more .ensures) (t .if2 .taken) .1)
+loop-less c = let l = c .before .before .before .before .before .before .before .before .before .before .before in let k = l .loop .inv in let m = c .before .before .before .before .before .before .before .before .before .before in let t = c .before .before .before .before .before .before .before .before .before in let n = c .before .before .before .before .before .before .before .before in omega (arith, walk-moves _ _ (k .walk) (n .next .ensures), more-left (k .walk .standing) (m .more .ensures) (t .if2 .taken) .1)
 
 -- the end that `next` gives
 end : (c : tie.After-struct-told Inv-loop μ-loop) → toZ w64 (ofZ w64 (c .before .next .result .end)) ≡ c .before .next .result .end
 end c = search needs
 
 loop-again : tie.Need-loop-again Inv-loop μ-loop
-loop-again c = let v = c .before .before .before .before .before .before in let n = v .before .before in let t = n .before in let m = t .before in let l = m .before in let k = l .loop .inv in zipped-more _ _ _ _ _ _ _ _ _ (zippable (l .before .before .before)) k (back _ (v .shown-at2 .ok) ∙ v .shown-at2 .ensures) (more-left (k .walk .standing) (m .more .ensures) (t .if2 .taken) .1) (n .next .ensures) (end (v .before)) (c .before .before .before .push-merged .ensures)
+loop-again c = let s = c .before .before .before .before .before .before .before .before .before .before .before .before .before .before .before in let l = c .before .before .before .before .before .before .before .before .before .before .before in let k = l .loop .inv in let m = c .before .before .before .before .before .before .before .before .before .before in let t = c .before .before .before .before .before .before .before .before .before in let n = c .before .before .before .before .before .before .before .before in let told = c .before .before .before .before .before .before .before in let v = c .before .before .before .before .before .before in let pm = c .before .before .before in zipped-more _ _ _ _ _ _ _ _ _ (s .pre) k (back _ (v .shown-at2 .ok) ∙ v .shown-at2 .ensures) (more-left (k .walk .standing) (m .more .ensures) (t .if2 .taken) .1) (n .next .ensures) (end told) (pm .push-merged .ensures)
 
 add-result : tie.Need-add-result Inv-loop μ-loop
-add-result c = omega (arith, zipped-last _ _ _ _ _ _ _ _ _ (c .before .before .before .loop .inv), c .before .before .before .before .before .before .before .before .before .good)
+add-result c = let s = c .before .before .before .before .before .before .before in let l = c .before .before .before in let k = l .loop .inv in omega (arith, zipped-last _ _ _ _ _ _ _ _ _ k, s .good)
 
 same-length : tie.Need-same-length Inv-loop μ-loop
-same-length c = c .before .before .before .loop .inv .merging .long-ends
+same-length c = let l = c .before .before .before in let k = l .loop .inv in k .merging .long-ends
 
 same-length-2 : tie.Need-same-length-2 Inv-loop μ-loop
-same-length-2 c = c .before .before .before .loop .inv .merging .long-values
+same-length-2 c = let l = c .before .before .before in let k = l .loop .inv in k .merging .long-values
 
 returns-2 : tie.Need-returns-2 Inv-loop μ-loop
-returns-2 c = let m = c .before .before in
-    let l = m .before in
-    let k = l .loop .inv in
-    let s = l .before .before .before .before .before .before in
-    rw (toZ-ofZ (s .fits .fill-a), toZ-ofZ (s .fits .fill-b), cut-all (now (s .args .a-ends)) (now (s .args .a-values)) (s .pre .paired-a), cut-all (now (s .args .b-ends)) (now (s .args .b-values)) (s .pre .paired-b)) at
-    (zipped-end _ _ _ _ _ _ _ _ _ (zippable (l .before .before .before)) k (none-more (k .walk .standing) (m .more .ensures) (c .before .if2 .left)) (omega (arith, l .before .before .before .before .before .if1 .left)))
+returns-2 c = let s = c .before .before .before .before .before .before .before in let e = c .before .before .before .before .before .before in let l = c .before .before .before in let k = l .loop .inv in let m = c .before .before in rw (toZ-ofZ (s .fits .fill-a), toZ-ofZ (s .fits .fill-b)) at (zipped-end _ _ _ _ _ _ _ _ _ (s .pre) k (none-more (k .walk .standing) (m .more .ensures) (c .before .if2 .left)) (omega (arith, e .if1 .left)))
 
 pub zip-with-spec : {M : Type 1} → statement M
 zip-with-spec =
@@ -96,8 +77,6 @@ zip-with-spec =
     μ-loop
     add-total
     returns
-    slice-aggregate-left
-    slice-aggregate-right
     shown-at-requires
     start-requires
     loop-holds
