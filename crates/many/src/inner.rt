@@ -60,7 +60,7 @@ fn value_at(values: &[i64], from: usize, to: usize, place: usize, fill: i64) -> 
 }
 
 // The end and the value of each column's run where it stands, read into `current` and `shown`.
-fn enter(
+fn read_current(
     offsets: &[usize],
     ends: &[i64],
     values: &[i64],
@@ -217,7 +217,7 @@ fn plan_walk(
 {
     let mut n: usize = 0;
     let mut m: usize = 0;
-    enter(offsets, ends, values, 0, places, current, shown);
+    read_current(offsets, ends, values, 0, places, current, shown);
     let mut end = step(offsets, ends, values, 0, 0, places, current, shown);
     while end < SPENT {
         out_ends[n] = end as i64;
@@ -277,7 +277,7 @@ fn zip_walk(
     if ends.len() == 0 {
         return 0;
     }
-    enter(offsets, ends, values, fill, places, current, shown);
+    read_current(offsets, ends, values, fill, places, current, shown);
     let mut end = step(offsets, ends, values, fill, 0, places, current, shown);
     let first = fold(code, shown);
     let mut writer = Writer { at: 0, last: first };

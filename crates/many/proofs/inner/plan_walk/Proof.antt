@@ -16,11 +16,11 @@ Inv-loop offsets ends values places₀ current₀ shown₀ out-ends₀ out-idx�
 abbrev μ-loop : tie.MeasureT-loop
 μ-loop offsets ends values places₀ current₀ shown₀ out-ends₀ out-idx₀ n₀ m₀ end₀ places current shown out-ends out-idx n m end = left (placesOf offsets ends places)
 
-enter-requires : tie.Need-enter-requires Inv-loop μ-loop
-enter-requires c κs = let s = c .before .before .before .before .before .before .before in (walk-placed _ _ (s .pre .0), s .pre .1)
+read-current-requires : tie.Need-read-current-requires Inv-loop μ-loop
+read-current-requires c κs = let s = c .before .before .before .before .before .before .before in (walk-placed _ _ (s .pre .0), s .pre .1)
 
 step-requires : tie.Need-step-requires Inv-loop μ-loop
-step-requires c κs = let s = c .before .before .before .before .before .before .before .before .before .before .before .before .before .before in let en = c .before .before .before .before .before .before in (walk-placed _ _ (s .pre .0), s .pre .1 .paired, en .enter .ensures, omega arith)
+step-requires c κs = let s = c .before .before .before .before .before .before .before .before .before .before .before .before .before .before in let rc = c .before .before .before .before .before .before in (walk-placed _ _ (s .pre .0), s .pre .1 .paired, rc .read-current .ensures, omega arith)
 
 loop-holds : tie.Need-loop-holds Inv-loop μ-loop
 loop-holds c = let s = c .before .before .before .before .before .before .before .before .before .before .before .before .before .before .before .before .before .before .before .before in let st = c .before .before .before .before .before in (planning-start _ _ _ _ (s .pre .0) (st .step .ensures .0), st .step .ensures .1)
@@ -74,7 +74,7 @@ plan-walk-spec =
     (tie.spec
     Inv-loop
     μ-loop
-    enter-requires
+    read-current-requires
     step-requires
     loop-holds
     cast-out-ends

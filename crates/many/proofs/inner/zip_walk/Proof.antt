@@ -25,11 +25,11 @@ abbrev μ-loop : tie.MeasureT-loop
 returns : tie.Need-returns Inv-loop μ-loop
 returns c = let s = c .before .before .before .before in zipped-none _ _ _ _ _ _ _ (s .pre .0) (c .if1 .taken)
 
-enter-requires : tie.Need-enter-requires Inv-loop μ-loop
-enter-requires c κs = let s = c .before .before .before .before .before .before .before in (walk-placed _ _ (s .pre .0 .walkable), s .pre .1)
+read-current-requires : tie.Need-read-current-requires Inv-loop μ-loop
+read-current-requires c κs = let s = c .before .before .before .before .before .before .before in (walk-placed _ _ (s .pre .0 .walkable), s .pre .1)
 
 step-requires : tie.Need-step-requires Inv-loop μ-loop
-step-requires c κs = let s = c .before .before .before .before .before .before .before .before .before .before .before .before .before .before in let en = c .before .before .before .before .before .before in (walk-placed _ _ (s .pre .0 .walkable), s .pre .0 .paired, en .enter .ensures, omega arith)
+step-requires c κs = let s = c .before .before .before .before .before .before .before .before .before .before .before .before .before .before in let rc = c .before .before .before .before .before .before in (walk-placed _ _ (s .pre .0 .walkable), s .pre .0 .paired, rc .read-current .ensures, omega arith)
 
 fold-requires : tie.Need-fold-requires Inv-loop μ-loop
 fold-requires c κs = let s = c .before .before .before .before .before .before .before .before .before .before .before .before .before .before .before .before .before .before .before .before .before in let e = c .before .before .before .before .before .before .before .before .before .before .before .before .before .before .before .before .before in let st = c .before .before .before .before .before .before in omega (arith, st .step .ensures .1 .long-values, placed-some (walk-start _ _ (s .pre .0 .walkable) (st .step .ensures .0) .placed) (omega (arith, e .if1 .left)))
@@ -85,7 +85,7 @@ zip-walk-spec =
     Inv-loop
     μ-loop
     returns
-    enter-requires
+    read-current-requires
     step-requires
     fold-requires
     loop-holds

@@ -9,8 +9,8 @@ use lib.ListN.{length}
 use Prim.Native.Nat.{_-_}
 use native.Mathlib.Omega.{arith}
 use borrow.Author.Needs.{needs}
-use Rattle.many.proofs.inner.enter.Statement.{statement}
-use Rattle.many.proofs.inner.enter.Tie as tie
+use Rattle.many.proofs.inner.read_current.Statement.{statement}
+use Rattle.many.proofs.inner.read_current.Tie as tie
 
 abbrev Inv-loop : tie.InvT-loop
 Inv-loop offsets ends values fill places current₀ shown₀ c₀ current shown c = Kept offsets ends values (toZ w64 fill) places current shown c
@@ -78,8 +78,8 @@ same-length-2 c = let l = c .before in omega (arith, l .loop .inv .long-values, 
 returns : tie.Need-returns Inv-loop μ-loop
 returns c = let l = c .before in rw (toZ-ofZ (l .before .before .before .before .fits .fill)) at (kept-fewer (l .loop .inv) _ (c .loop-test .left))
 
-pub enter-spec : {M : Type 1} → statement M
-enter-spec =
+pub read-current-spec : {M : Type 1} → statement M
+read-current-spec =
     tie.close
     (tie.spec
     Inv-loop
