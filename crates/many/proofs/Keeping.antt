@@ -14,12 +14,10 @@ use lib.Seq.{drop-cons, getD-set-same, getD-set-other}
 use borrow.Author.Tests.{eqb-true, eqb-false, eq-eqb, ne-eqb, ltb-true, ltb-false}
 use Rattle.num.proofs.Tests.{by-test}
 use Rattle.column.specs.Lists.{parts}
-use Rattle.column.proofs.Flattened.{AllValid, offset-within, sequences-told}
 use Rattle.column.proofs.Parts.{partsAt, parts-start, parts-cons, length-part}
 use Rattle.plan.specs.Walk.{spent, currentEnd, EndAt}
 use Rattle.plan.proofs.Step.{ahead, ahead-none}
-use Rattle.many.specs.Workers.{Within, InColumn, columnAt, valuesAt, Placed, Paired, Kept, ColumnPlaced, ColumnStepped}
-use Rattle.many.proofs.Places.{within-cons, valid-cons}
+use Rattle.many.specs.Workers.{InColumn, columnAt, valuesAt, Paired, Kept, ColumnPlaced, ColumnStepped}
 
 set-again : (l : List ℕ) (i : ℕ) → i < length l → set l i (getD l i 0) ≡ l
 set-again [] i h = refl
@@ -67,28 +65,6 @@ module _ {os : List ℕ} {es vs : List ℤ} {fill : ℤ} {is xs : List ℕ} {ys 
 
     pub kept-shown : ys ≡ valuesAt is (parts os vs) fill
     kept-shown = kept-from (length is) 0 (omega arith) ∙ rw (parts-start os vs)
-
--- ---- a column where all stand at their places
-
-module _ {os : List ℕ} {es : List ℤ} {is : List ℕ} (q : Placed os es is) where
-  from-column : (c : ℕ) → c ≤ length is → Within (drop c is) (partsAt c os es) × AllValid (partsAt c os es)
-  from-column zero h = let p = parts-start os es in (rw p at (q .within), rw p at (sequences-told os es (q .valid)))
-  from-column (suc c) h =
-      let r = from-column c (omega arith) in
-      let w = within-cons os es is c (omega arith) (omega (arith, q .count)) (r .0) .1 in
-      let v = valid-cons os es is c (omega arith) (omega (arith, q .count)) (r .1) .1 in
-      (rw (add-one c) at w, rw (add-one c) at v)
-
-  pub placed-column : (c : ℕ) → c < length is → ColumnPlaced os es is c
-  placed-column c h =
-      let k : c + 1 < length os = omega (arith, q .count) in
-      let r = from-column c (omega arith) in
-      let o = offset-within os (length es) c (q .offsets) k in
-      record {
-        offset = k;
-        place = record { inside = o .1; place = omega (arith, o .0, length-part (getD os c 0) (getD os (c + 1) 0) es (o .1), within-cons os es is c h k (r .0) .0) };
-        valid = valid-cons os es is c h k (r .1) .0;
-      }
 
 -- the same entries of the values
 pub in-values : {es vs : List ℤ} {a b i : ℕ} → length es ≡ length vs → InColumn es a b i → InColumn vs a b i

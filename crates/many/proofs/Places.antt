@@ -1,6 +1,6 @@
 -- The places of columns, one for each, and where they stand behind a step.
 -- Assumes nothing.
-use Prim.Native.Nat.{ℕ, suc, _+_, _≤_, _<_}
+use Prim.Native.Nat.{ℕ, zero, suc, _+_, _≤_, _<_}
 use mathlib.Core.Option.{none}
 use mathlib.Core.List.{List, [], _∷_}
 use mathlib.Core.Path.{_≡_, refl, ap, ap₂}
@@ -11,11 +11,11 @@ use lib.ListN.{length, getD, drop}
 use lib.Seq.{drop-cons}
 use Rattle.column.specs.Lists.{parts}
 use Rattle.column.specs.Questions.{endsValid}
-use Rattle.column.proofs.Flattened.{AllValid, length-parts}
-use Rattle.column.proofs.Parts.{partsAt, parts-cons}
+use Rattle.column.proofs.Flattened.{AllValid, length-parts, offset-within, sequences-told}
+use Rattle.column.proofs.Parts.{partsAt, parts-start, parts-cons, length-part}
 use Rattle.plan.specs.Plan.{Place, indexes, stepped}
 use Rattle.plan.specs.Walk.{placeAt}
-use Rattle.many.specs.Workers.{columnAt, placesFor, placesOf, Within, Placed}
+use Rattle.many.specs.Workers.{columnAt, placesFor, placesOf, Within, Placed, ColumnPlaced}
 use Rattle.many.proofs.Entries.{place-again, place-within}
 
 -- ---- all columns
@@ -63,8 +63,30 @@ module _ (os : List ℕ) (es : List ℤ) (is : List ℕ) (c : ℕ) where
     pub places-cons : placesFrom ≡ placeAt (columnAt os es c) (getD is c 0) ∷ placesFor (drop (c + 1) is) (partsAt (c + 1) os es)
     places-cons = rw (drop-cons is c 0 h, parts-cons c os es k, add-one c)
 
-    pub within-cons : Within (drop c is) (partsAt c os es) → (getD is c 0 ≤ length (columnAt os es c)) × Within (drop (c + 1) is) (partsAt (c + 1) os es)
+    within-cons : Within (drop c is) (partsAt c os es) → (getD is c 0 ≤ length (columnAt os es c)) × Within (drop (c + 1) is) (partsAt (c + 1) os es)
     within-cons w = rw add-one (rw (drop-cons is c 0 h, parts-cons c os es k, add-one c) at w)
 
-    pub valid-cons : AllValid (partsAt c os es) → (endsValid (columnAt os es c) ≡ none) × AllValid (partsAt (c + 1) os es)
+    valid-cons : AllValid (partsAt c os es) → (endsValid (columnAt os es c) ≡ none) × AllValid (partsAt (c + 1) os es)
     valid-cons v = rw (parts-cons c os es k) at v
+
+-- ---- a column where all stand at their places
+
+module _ {os : List ℕ} {es : List ℤ} {is : List ℕ} (q : Placed os es is) where
+  from-column : (c : ℕ) → c ≤ length is → Within (drop c is) (partsAt c os es) × AllValid (partsAt c os es)
+  from-column zero h = let p = parts-start os es in (rw p at (q .within), rw p at (sequences-told os es (q .valid)))
+  from-column (suc c) h =
+      let r = from-column c (omega arith) in
+      let w = within-cons os es is c (omega arith) (omega (arith, q .count)) (r .0) .1 in
+      let v = valid-cons os es is c (omega arith) (omega (arith, q .count)) (r .1) .1 in
+      (rw (add-one c) at w, rw (add-one c) at v)
+
+  pub placed-column : (c : ℕ) → c < length is → ColumnPlaced os es is c
+  placed-column c h =
+      let k : c + 1 < length os = omega (arith, q .count) in
+      let r = from-column c (omega arith) in
+      let o = offset-within os (length es) c (q .offsets) k in
+      record {
+        offset = k;
+        place = record { inside = o .1; place = omega (arith, o .0, length-part (getD os c 0) (getD os (c + 1) 0) es (o .1), within-cons os es is c h k (r .0) .0) };
+        valid = valid-cons os es is c h k (r .1) .0;
+      }

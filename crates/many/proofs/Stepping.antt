@@ -2,7 +2,6 @@
 -- Assumes nothing.
 use Prim.Native.Nat.{ℕ, suc, _+_, _≤_, _<_, _^_, min}
 use mathlib.Core.Bool.{cond}
-use mathlib.Core.Option.{none}
 use mathlib.Core.List.{List, [], _∷_, _++_, map}
 use mathlib.Core.Path.{_≡_, refl, ap, sym, _∙_}
 use native.Mathlib.Numerals.{add-one}
@@ -12,17 +11,15 @@ use lib.IntN.{ℤ}
 use lib.ListN.{length, getD, drop, set, length-append, length-drop, drop-of-length-le}
 use lib.Seq.{drop-cons, set-at, getD-at, append-snoc}
 use Rattle.column.specs.Lists.{parts}
-use Rattle.column.specs.Questions.{endsValid}
 use Rattle.column.specs.Runs.{magnitude}
-use Rattle.column.proofs.Flattened.{AllValid, offset-within, sequences-told}
-use Rattle.column.proofs.Parts.{partsAt, parts-start, length-part}
+use Rattle.column.proofs.Parts.{parts-start}
 use Rattle.plan.specs.Plan.{Place, leastEnd, steppedOn, rests, indexes, stepped}
 use Rattle.plan.specs.Walk.{placeAt, spent, EndAt}
 use Rattle.plan.proofs.Segments.{least-cons}
 use Rattle.plan.proofs.Step.{ahead}
-use Rattle.many.specs.Workers.{columnAt, placesOf, Within, InColumn, Placed, ColumnPlaced, Stepped}
+use Rattle.many.specs.Workers.{columnAt, placesOf, Placed, ColumnPlaced, Stepped}
 use Rattle.many.proofs.Entries.{place-moves, earlier, earlier-next, earlier-small}
-use Rattle.many.proofs.Places.{placesFrom, places-cons, within-cons, valid-cons, places-again}
+use Rattle.many.proofs.Places.{placesFrom, places-cons, placed-column, places-again}
 
 module _ (os : List ℕ) (es : List ℤ) (m : ℕ) (is : List ℕ) where
   abbrev rest : ℕ → List Place
@@ -37,8 +34,6 @@ module _ (os : List ℕ) (es : List ℤ) (m : ℕ) (is : List ℕ) where
     pub least : leastEnd (rests (stepped m (placesOf os es is))) ≡ earlier l (leastEnd (rests (rest c)))
     pub bounded : l < 2 ^ 64
     pub small : l < spent → l < 2 ^ 63
-    pub within : Within (drop c is) (partsAt c os es)
-    pub valid : AllValid (partsAt c os es)
 
   pub step-start : Placed os es is → Stepping is spent 0
   step-start q =
@@ -52,8 +47,6 @@ module _ (os : List ℕ) (es : List ℤ) (m : ℕ) (is : List ℕ) where
         least = rw p;
         bounded = omega arith;
         small = λ z. let y : ⊥ = omega arith in absurd y;
-        within = rw p at (q .within);
-        valid = rw p at (sequences-told os es (q .valid));
       }
 
 module _ {os : List ℕ} {es : List ℤ} {m : ℕ} {is is′ : List ℕ} {l c : ℕ} (s : Stepping os es m is is′ l c) where
@@ -75,9 +68,6 @@ module _ {os : List ℕ} {es : List ℤ} {m : ℕ} {is is′ : List ℕ} {l c : 
     h : c < length is
     h = omega (arith, step-long)
 
-    some-offset : c + 1 < length os
-    some-offset = omega (arith, q .count, step-long)
-
     abbrev column : List ℤ
     column = columnAt os es c
 
@@ -87,22 +77,8 @@ module _ {os : List ℕ} {es : List ℤ} {m : ℕ} {is is′ : List ℕ} {l c : 
     unmoved : i ≡ getD is c 0
     unmoved = rw (s .places, drop-cons is c 0 h) (getD-at (s .done) (getD is c 0) (drop (suc c) is) 0 c (s .passed))
 
-    step-valid : endsValid column ≡ none
-    step-valid = valid-cons os es is c h some-offset (s .valid) .0
-
-    in-column : (j : ℕ) → j ≤ length column → InColumn es (getD os c 0) (getD os (c + 1) 0) j
-    in-column j k =
-        let o = offset-within os (length es) c (q .offsets) some-offset in
-        record { inside = o .1; place = omega (arith, o .0, length-part (getD os c 0) (getD os (c + 1) 0) es (o .1)) }
-
-    place-inside : i ≤ length column
-    place-inside = omega (arith, unmoved, within-cons os es is c h some-offset (s .within) .0)
-
-    step-at : InColumn es (getD os c 0) (getD os (c + 1) 0) i
-    step-at = in-column i place-inside
-
     pub step-placed : ColumnPlaced os es is′ c
-    step-placed = record { offset = some-offset; place = step-at; valid = step-valid }
+    step-placed = let p = placed-column q c h in record { offset = p .offset; place = rw unmoved (p .place); valid = p .valid }
 
     module _ {e n : ℕ} (a : EndAt (ahead column i) e) (small : m < spent) (en : n ≡ i + cond (eqb e m) 1 0) where
       moved : placeAt column n ≡ steppedOn m i (ahead column i)
@@ -112,7 +88,7 @@ module _ {os : List ℕ} {es : List ℤ} {m : ℕ} {is is′ : List ℕ} {l c : 
       others = rest os es m is (c + 1)
 
       step-cons : rest os es m is c ≡ placeAt column n ∷ others
-      step-cons = ap (stepped m) (places-cons os es is c h some-offset) ∙ ap {B = List Place} (λ p. p ∷ others) (sym (rw unmoved at moved))
+      step-cons = ap (stepped m) (places-cons os es is c h (placed-column q c h .offset)) ∙ ap {B = List Place} (λ p. p ∷ others) (sym (rw unmoved at moved))
 
       -- e is its end, and e′ the next one
       pub step-next : {e′ l′ : ℕ} → EndAt (map magnitude (drop n column)) e′ → l′ ≡ min l e′ → Stepping os es m is (set is′ c n) l′ (c + 1)
@@ -130,6 +106,4 @@ module _ {os : List ℕ} {es : List ℤ} {m : ℕ} {is is′ : List ℕ} {l c : 
                 ∙ ap (λ (x : ℕ). earlier x (leastEnd (rests others))) (sym el));
             bounded = omega (arith, s .bounded);
             small = rw el (earlier-small l (map magnitude (drop n column)) b (s .small));
-            within = within-cons os es is c h some-offset (s .within) .1;
-            valid = valid-cons os es is c h some-offset (s .valid) .1;
           }

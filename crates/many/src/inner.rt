@@ -119,7 +119,7 @@ fn step_column(
 
 // Each column whose current run ends at `start` goes on to its next one. The least of the ends of the runs that are current then, or
 // `SPENT`. What a column shows is kept beside its place: of many columns few go on, and only those are looked up.
-pub fn step(
+fn step(
     offsets: &[usize],
     ends: &[i64],
     values: &[i64],

@@ -1,5 +1,5 @@
-use Rattle.many.proofs.Entries.{end-natural, end-inside, end-behind}
 use Rattle.num.proofs.Bits.{end-nat, end-cast}
+use Rattle.many.proofs.Entries.{end-natural, end-inside, end-behind}
 use borrow.Author.Needs.{needs}
 use Rattle.many.proofs.inner.end_at.Statement.{statement}
 use Rattle.many.proofs.inner.end_at.Tie as tie

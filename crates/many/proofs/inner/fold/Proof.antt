@@ -1,5 +1,5 @@
-use Rattle.num.proofs.Bits.{back}
 use mathlib.Core.Path.{_∙_}
+use Rattle.num.proofs.Bits.{back}
 use borrow.Author.Needs.{needs}
 use Rattle.many.proofs.inner.fold.Statement.{statement}
 use Rattle.many.proofs.inner.fold.Tie as tie

@@ -1,11 +1,11 @@
-use Rattle.many.proofs.Folding.{Folding, fold-start, fold-next, fold-end}
-use Rattle.num.specs.Numbers.{operation}
-use Rattle.num.proofs.Bits.{back}
-use mir.Val.{toZ}
-use mir.Syntax.{w64}
+use Prim.Native.Nat.{_-_}
 use mathlib.Core.Path.{_∙_}
 use lib.ListN.{length}
-use Prim.Native.Nat.{_-_}
+use mir.Val.{toZ}
+use mir.Syntax.{w64}
+use Rattle.num.specs.Numbers.{operation}
+use Rattle.num.proofs.Bits.{back}
+use Rattle.many.proofs.Folding.{Folding, fold-start, fold-next, fold-end}
 use borrow.Author.Needs.{needs}
 use Rattle.many.proofs.inner.fold_by.Statement.{statement}
 use Rattle.many.proofs.inner.fold_by.Tie as tie

@@ -1,8 +1,8 @@
-use Rattle.many.proofs.Walking.{take-zeros, length-front}
-use Rattle.column.proofs.Flattened.{offsets-some}
+use mathlib.Core.Path.{refl, _∙_, sym}
 use native.Mathlib.Omega.{arith}
 use lib.IntN.{pos}
-use mathlib.Core.Path.{refl, _∙_, sym}
+use Rattle.column.proofs.Flattened.{offsets-some}
+use Rattle.many.proofs.Walking.{take-zeros, length-front}
 use borrow.Author.Needs.{needs}
 use Rattle.many.proofs.inner.plan_many.Statement.{statement}
 use Rattle.many.proofs.inner.plan_many.Tie as tie

@@ -1,12 +1,12 @@
-use Rattle.many.proofs.Planning.{Planning, planning-start, planning-end, planning-ends, planning-indexes, planning-next}
-use Rattle.many.proofs.Walking.{walk-placed, walk-less}
+use native.Mathlib.Omega.{arith}
 use lib.IntN.{pos}
 use lib.ListN.{length}
-use Rattle.many.specs.Workers.{placesOf, Kept}
-use Rattle.plan.proofs.Segments.{left}
 use mir.Facts.{toZ-pos}
 use mir.Syntax.{w64}
-use native.Mathlib.Omega.{arith}
+use Rattle.plan.proofs.Segments.{left}
+use Rattle.many.specs.Workers.{placesOf, Kept}
+use Rattle.many.proofs.Planning.{Planning, planning-start, planning-end, planning-ends, planning-indexes, planning-next}
+use Rattle.many.proofs.Walking.{walk-placed, walk-less}
 use Rattle.many.proofs.inner.plan_walk.Statement.{statement}
 use Rattle.many.proofs.inner.plan_walk.Tie as tie
 

@@ -1,13 +1,14 @@
-use Rattle.many.proofs.Keeping.{kept-none, kept-more, kept-fewer, placed-column, in-values}
-use Rattle.many.specs.Workers.{Kept}
-use Rattle.num.proofs.Bits.{back}
+use Prim.Native.Nat.{_-_}
+use mathlib.Core.Path.{_∙_}
+use native.Mathlib.Omega.{arith}
+use lib.ListN.{length}
 use mir.Facts.{toZ-ofZ}
 use mir.Val.{toZ}
 use mir.Syntax.{w64}
-use mathlib.Core.Path.{_∙_}
-use lib.ListN.{length}
-use Prim.Native.Nat.{_-_}
-use native.Mathlib.Omega.{arith}
+use Rattle.num.proofs.Bits.{back}
+use Rattle.many.specs.Workers.{Kept}
+use Rattle.many.proofs.Places.{placed-column}
+use Rattle.many.proofs.Keeping.{kept-none, kept-more, kept-fewer, in-values}
 use borrow.Author.Needs.{needs}
 use Rattle.many.proofs.inner.read_current.Statement.{statement}
 use Rattle.many.proofs.inner.read_current.Tie as tie

@@ -1,13 +1,13 @@
-use Rattle.many.proofs.Stepping.{Stepping, step-start, step-long, step-end, step-placed, step-next}
-use Rattle.many.proofs.Keeping.{stepped-end}
-use Rattle.many.specs.Workers.{Kept}
+use Prim.Native.Nat.{_-_}
+use mathlib.Core.Path.{refl}
+use native.Mathlib.Omega.{arith}
+use lib.ListN.{length}
 use mir.Facts.{toZ-ofZ}
 use mir.Val.{toZ}
 use mir.Syntax.{w64}
-use mathlib.Core.Path.{refl}
-use lib.ListN.{length}
-use Prim.Native.Nat.{_-_}
-use native.Mathlib.Omega.{arith}
+use Rattle.many.specs.Workers.{Kept}
+use Rattle.many.proofs.Stepping.{Stepping, step-start, step-long, step-end, step-placed, step-next}
+use Rattle.many.proofs.Keeping.{stepped-end}
 use borrow.Author.Needs.{needs}
 use Rattle.many.proofs.inner.step.Statement.{statement}
 use Rattle.many.proofs.inner.step.Tie as tie

@@ -1,8 +1,8 @@
-use Rattle.many.proofs.Keeping.{in-values, column-stays, column-within, column-goes}
-use Rattle.num.proofs.Bits.{back}
-use mir.Facts.{toZ-ofZ}
 use mathlib.Core.Path.{_∙_}
 use native.Mathlib.Omega.{arith}
+use mir.Facts.{toZ-ofZ}
+use Rattle.num.proofs.Bits.{back}
+use Rattle.many.proofs.Keeping.{in-values, column-stays, column-within, column-goes}
 use borrow.Author.Needs.{needs}
 use Rattle.many.proofs.inner.step_column.Statement.{statement}
 use Rattle.many.proofs.inner.step_column.Tie as tie

@@ -1,9 +1,9 @@
-use mir.Facts.{toZ-ofZ}
-use Rattle.many.proofs.Walking.{take-zeros, length-front}
-use Rattle.column.proofs.Flattened.{offsets-some}
+use mathlib.Core.Path.{refl, _∙_, sym}
 use native.Mathlib.Omega.{arith}
 use lib.IntN.{pos}
-use mathlib.Core.Path.{refl, _∙_, sym}
+use mir.Facts.{toZ-ofZ}
+use Rattle.column.proofs.Flattened.{offsets-some}
+use Rattle.many.proofs.Walking.{take-zeros, length-front}
 use borrow.Author.Needs.{needs}
 use Rattle.many.proofs.inner.zip_many.Statement.{statement}
 use Rattle.many.proofs.inner.zip_many.Tie as tie

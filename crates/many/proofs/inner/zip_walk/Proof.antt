@@ -1,18 +1,18 @@
+use mathlib.Core.Path.{ap, _∙_}
+use native.Mathlib.Omega.{arith}
+use lib.ListN.{length}
+use mir.Val.{toZ}
+use mir.Facts.{toZ-pos, toZ-ofZ}
+use mir.Syntax.{w64}
+use Rattle.num.specs.Numbers.{operation}
+use Rattle.num.proofs.Bits.{back}
+use Rattle.column.specs.Combine.{folded}
+use Rattle.plan.proofs.Segments.{left}
+use Rattle.many.specs.Workers.{placesOf, Kept}
 use Rattle.many.proofs.Zips.{Zipped, zipped-none, zipped-start, zipped-last, zipped-end, zipped-room, zipped-more}
 use Rattle.many.proofs.Walking.{walk-placed, walk-start, walk-less}
 use Rattle.many.proofs.Keeping.{kept-shown}
 use Rattle.many.proofs.Flats.{placed-some}
-use Rattle.column.specs.Combine.{folded}
-use Rattle.num.proofs.Bits.{back}
-use Rattle.num.specs.Numbers.{operation}
-use mir.Val.{toZ}
-use mathlib.Core.Path.{ap, _∙_}
-use lib.ListN.{length}
-use Rattle.many.specs.Workers.{placesOf, Kept}
-use Rattle.plan.proofs.Segments.{left}
-use mir.Facts.{toZ-pos, toZ-ofZ}
-use mir.Syntax.{w64}
-use native.Mathlib.Omega.{arith}
 use Rattle.many.proofs.inner.zip_walk.Statement.{statement}
 use Rattle.many.proofs.inner.zip_walk.Tie as tie
 

@@ -1,15 +1,15 @@
-use Rattle.ops.proofs.Zips.{Listed, listed-start, listed-few, listed-next, listed-end}
-use Rattle.plan.proofs.Walking.{walk-moves}
-use Rattle.plan.proofs.Step.{more-left, none-more}
-use Rattle.num.proofs.Bits.{back}
-use Rattle.num.specs.Numbers.{operation}
+use Prim.Native.Nat.{_+_, _-_, _≤_}
+use mathlib.Core.Path.{_≡_, _∙_}
+use native.Mathlib.Omega.{arith}
+use lib.ListN.{length}
 use mir.Facts.{toZ-ofZ}
 use mir.Val.{toZ, ofZ}
 use mir.Syntax.{w64}
-use lib.ListN.{length}
-use native.Mathlib.Omega.{arith}
-use mathlib.Core.Path.{_≡_, _∙_}
-use Prim.Native.Nat.{_+_, _-_, _≤_}
+use Rattle.num.specs.Numbers.{operation}
+use Rattle.num.proofs.Bits.{back}
+use Rattle.plan.proofs.Walking.{walk-moves}
+use Rattle.plan.proofs.Step.{more-left, none-more}
+use Rattle.ops.proofs.Zips.{Listed, listed-start, listed-few, listed-next, listed-end}
 use borrow.Author.Needs.{needs}
 use Rattle.ops.proofs.inner.zip_with_raw.Statement.{statement}
 use Rattle.ops.proofs.inner.zip_with_raw.Tie as tie

@@ -1,11 +1,10 @@
 use lib.ListN.{getD}
 use lib.IntN.{pos}
-use Rattle.column.proofs.Naturals.{magnitude-below}
-use Rattle.num.proofs.Bits.{end-cast, end-nat}
-use Rattle.plan.proofs.Step.{ahead-some, ahead-none, end-some, end-none}
 use denote.Ref.{now}
+use Rattle.num.proofs.Bits.{end-cast, end-nat}
+use Rattle.column.proofs.Naturals.{magnitude-below}
 use Rattle.column.proofs.Ends.{natural-end}
-use Rattle.num.proofs.Bits.{end-cast}
+use Rattle.plan.proofs.Step.{ahead-some, ahead-none, end-some, end-none}
 use borrow.Author.Needs.{needs}
 use Rattle.plan.proofs.inner.end_at.Statement.{statement}
 use Rattle.plan.proofs.inner.end_at.Tie as tie

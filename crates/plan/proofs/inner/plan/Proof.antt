@@ -1,9 +1,9 @@
+use Prim.Native.Nat.{_+_, _-_}
+use native.Mathlib.Omega.{arith}
+use lib.ListN.{length}
 use Rattle.plan.proofs.Walking.{walk-moves}
 use Rattle.plan.proofs.Step.{more-left, none-more}
 use Rattle.plan.proofs.Planning.{Planning, planning-start, planning-few, planning-next, planning-end}
-use lib.ListN.{length}
-use native.Mathlib.Omega.{arith}
-use Prim.Native.Nat.{_+_, _-_}
 use borrow.Author.Needs.{needs}
 use Rattle.plan.proofs.inner.plan.Statement.{statement}
 use Rattle.plan.proofs.inner.plan.Tie as tie

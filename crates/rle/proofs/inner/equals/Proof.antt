@@ -1,15 +1,15 @@
-use Rattle.rle.proofs.Comparing.{Compared, compared-start, compared-end, compared-next, compared-differ, other-lengths}
-use Rattle.plan.proofs.Walking.{walk-moves}
-use Rattle.plan.proofs.Step.{more-left, none-more}
-use Rattle.column.specs.Runs.{lengthOfEnds}
-use Rattle.num.proofs.Bits.{back, bits-eqZ, bits-neZ}
+use Prim.Native.Nat.{_+_, _-_}
+use mathlib.Core.Path.{_≡_, ap, sym, _∙_, refl}
+use native.Mathlib.Omega.{arith}
+use lib.ListN.{length}
+use denote.Ref.{now}
 use mir.Val.{toZ, ofZ}
 use mir.Syntax.{w64}
-use denote.Ref.{now}
-use lib.ListN.{length}
-use native.Mathlib.Omega.{arith}
-use mathlib.Core.Path.{_≡_, ap, sym, _∙_, refl}
-use Prim.Native.Nat.{_+_, _-_}
+use Rattle.num.proofs.Bits.{back, bits-eqZ, bits-neZ}
+use Rattle.column.specs.Runs.{lengthOfEnds}
+use Rattle.plan.proofs.Walking.{walk-moves}
+use Rattle.plan.proofs.Step.{more-left, none-more}
+use Rattle.rle.proofs.Comparing.{Compared, compared-start, compared-end, compared-next, compared-differ, other-lengths}
 use borrow.Author.Needs.{needs}
 use Rattle.rle.proofs.inner.equals.Statement.{statement}
 use Rattle.rle.proofs.inner.equals.Tie as tie

@@ -1,6 +1,6 @@
-use Rattle.plan.proofs.Step.{least-fits, walks}
 use mir.Syntax.{w64}
 use mir.Facts.{toZ-pos}
+use Rattle.plan.proofs.Step.{least-fits, walks}
 use borrow.Author.Needs.{needs}
 use Rattle.plan.proofs.inner.Segments.next.Statement.{statement}
 use Rattle.plan.proofs.inner.Segments.next.Tie as tie
