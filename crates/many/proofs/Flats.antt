@@ -22,8 +22,8 @@ use Rattle.column.proofs.Positions.{eachPosition-cong}
 use Rattle.column.proofs.Rising.{Valid}
 use Rattle.plan.specs.Plan.{endsIn, valuesFor}
 use Rattle.plan.proofs.Columns.{ends-in}
-use Rattle.many.specs.Workers.{Placed, valuesAt}
-use Rattle.many.proofs.Places.{placed-paired}
+use Rattle.many.specs.Workers.{Placed}
+use Rattle.many.proofs.Places.{valuesAt, placed-paired}
 use Rattle.many.proofs.Walking.{endsOfParts}
 
 module _ (os : List ℕ) (es vs : List ℤ) (l : length es ≡ length vs) (v : sequencesValid os es ≡ none) where

@@ -17,7 +17,8 @@ use Rattle.column.specs.Lists.{parts}
 use Rattle.column.proofs.Parts.{partsAt, parts-start, parts-cons, length-part}
 use Rattle.plan.specs.Walk.{spent, currentEnd, EndAt}
 use Rattle.plan.proofs.Step.{ahead, ahead-none}
-use Rattle.many.specs.Workers.{InColumn, columnAt, valuesAt, Paired, Kept, ColumnPlaced, ColumnStepped}
+use Rattle.many.specs.Workers.{InColumn, columnAt, Paired, Kept, ColumnPlaced, ColumnStepped}
+use Rattle.many.proofs.Places.{valuesAt}
 
 set-again : (l : List ℕ) (i : ℕ) → i < length l → set l i (getD l i 0) ≡ l
 set-again [] i h = refl
@@ -30,7 +31,7 @@ module _ {os : List ℕ} {es vs : List ℤ} {fill : ℤ} {is xs : List ℕ} {ys 
 
   module _ {n : ℕ} (k : Kept os es vs fill is xs ys n) where
     -- column c stands at p now
-    pub kept-put : (c p m : ℕ) {x : ℕ} {y : ℤ} → c < length is → ((d : ℕ) → d < m → (d ≡ c → ⊥) → d < n) → EndAt (ahead (columnAt os es c) p) x → y ≡ getD (columnAt os vs c) p fill
+    kept-put : (c p m : ℕ) {x : ℕ} {y : ℤ} → c < length is → ((d : ℕ) → d < m → (d ≡ c → ⊥) → d < n) → EndAt (ahead (columnAt os es c) p) x → y ≡ getD (columnAt os vs c) p fill
         → Kept os es vs fill (set is c p) (set xs c x) (set ys c y) m
     kept-put c p m {x} {y} h below ex ey =
         record {

@@ -18,6 +18,12 @@ use Rattle.plan.specs.Walk.{placeAt}
 use Rattle.many.specs.Workers.{columnAt, placesFor, placesOf, Within, Placed, ColumnPlaced}
 use Rattle.many.proofs.Entries.{place-again, place-within}
 
+-- the values of the runs where columns stand, or the fill where one is spent
+abbrev pub valuesAt : List ℕ → List (List ℤ) → ℤ → List ℤ
+valuesAt [] columns fill = []
+valuesAt (i ∷ is) [] fill = []
+valuesAt (i ∷ is) (vs ∷ columns) fill = getD vs i fill ∷ valuesAt is columns fill
+
 -- ---- all columns
 
 pub indexes-places : (is : List ℕ) (ess : List (List ℤ)) → length is ≡ length ess → indexes (placesFor is ess) ≡ is

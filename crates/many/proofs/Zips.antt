@@ -22,7 +22,8 @@ use Rattle.plan.specs.Walk.{spent}
 use Rattle.plan.proofs.Listing.{Listing}
 use Rattle.plan.proofs.Segments.{left}
 use Rattle.plan.proofs.Zipping.{starts, shownAt, mergedRuns, zip-none, zip-at, zip-last, zip-more, zip-end}
-use Rattle.many.specs.Workers.{placesOf, valuesAt, Stepped, Combinable}
+use Rattle.many.specs.Workers.{placesOf, Stepped, Combinable}
+use Rattle.many.proofs.Places.{valuesAt}
 use Rattle.many.proofs.Flats.{ends-many, many-valid, values-columns}
 use Rattle.many.proofs.Walking.{endsOfParts, first-total, Walk, walk-start, walk-none, walk-indexes, walk-few, walk-steps, walk-next}
 

@@ -83,12 +83,6 @@ pub record Stepped (os : List ℕ) (es : List ℤ) (start : ℕ) (is is′ : Lis
   pub found : leastEnd (rests (placesOf os es is′)) ≡ endFound end
   pub small : end < spent → end < 2 ^ 63
 
--- the values of the runs where columns stand, or the fill where one is spent
-abbrev pub valuesAt : List ℕ → List (List ℤ) → ℤ → List ℤ
-valuesAt [] columns fill = []
-valuesAt (i ∷ is) [] fill = []
-valuesAt (i ∷ is) (vs ∷ columns) fill = getD vs i fill ∷ valuesAt is columns fill
-
 -- valid columns, each at its first run
 pub record Walkable (os : List ℕ) (es : List ℤ) (is : List ℕ) : Type 0 where
   pub offsets : offsetsValid os (length es) ≡ none

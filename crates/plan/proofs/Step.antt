@@ -57,13 +57,13 @@ module _ {es : List ℤ} {c : Cursor} (s : Stands es c) where
       a ∙ rw e
 
   -- it is spent where its end says so
-  pub unspent-run : c .end < spent → c .index < length es
+  unspent-run : c .end < spent → c .index < length es
   unspent-run h =
       by-test (ltb (c .index) (length es))
       (λ t. ltb-true _ _ t)
       (λ t. let e : c .end ≡ spent = s .ends .current ∙ ap currentEnd (ahead-none es (c .index) (ltb-false _ _ t)) in let z : ⊥ = omega arith in absurd z)
 
-  pub spent-run : spent ≤ c .end → length es ≤ c .index
+  spent-run : spent ≤ c .end → length es ≤ c .index
   spent-run h =
       by-test (ltb (c .index) (length es))
       (λ t. let z : ⊥ = omega (arith, s .ends .some (rw (ahead-run (ltb-true _ _ t)) (omega arith))) in absurd z)
