@@ -13,8 +13,9 @@ use lib.Seq.{length-take-le, take-suc}
 use Rattle.num.specs.Numbers.{eqZ}
 use Rattle.column.specs.Runs.{Run, Runs, joined, encodeFrom, encode, endsOf, valuesOf, denseFrom, dense, pushMerged}
 use Rattle.column.proofs.Rising.{Rising}
-use Rattle.column.proofs.Pushed.{place, lastOf, pushAll}
+use Rattle.column.proofs.Pushed.{place}
 use Rattle.num.proofs.Tests.{eqZ-true, eqZ-refl, by-test}
+use Rattle.column.specs.Writing.{lastOf, pushAll}
 
 -- a stretch of equal values is one run
 stretch : (p k : ℕ) (v : ℤ) → encodeFrom p (replicate (suc k) v) ≡ record { end = p + suc k; value = v } ∷ []
@@ -160,7 +161,7 @@ encode-more xs i (suc n) h =
     rw e (omega arith)
 
 -- one more stretch, up to e
-encode-up : (xs : List ℤ) (e : ℕ) (v : ℤ) → length xs < e → encode (xs ++ replicate (e - length xs) v) ≡ pushMerged (encode xs) e v
+pub encode-up : (xs : List ℤ) (e : ℕ) (v : ℤ) → length xs < e → encode (xs ++ replicate (e - length xs) v) ≡ pushMerged (encode xs) e v
 encode-up xs e v h = go (e - length xs) (omega arith)
   where
     go : (n : ℕ) → length xs + n ≡ e → encode (xs ++ replicate n v) ≡ pushMerged (encode xs) e v
@@ -174,9 +175,9 @@ encode-stretch l p e x h k q =
     let n = length-take-le p l k in
     ap encode q ∙ rw n at (encode-up (take p l) e x (rw n h))
 
--- ---- runs pushed one after another are the merged runs of what they show
+-- ---- runs pushed one after another are the merged runs of what they show, behind what is shown already
 
-push-all-from : (xs : List ℤ) (rs : Runs) → Rising (length xs) rs → pushAll (encode xs) rs ≡ encode (xs ++ denseFrom (length xs) rs)
+pub push-all-from : (xs : List ℤ) (rs : Runs) → Rising (length xs) rs → pushAll (encode xs) rs ≡ encode (xs ++ denseFrom (length xs) rs)
 unfolding pushAll denseFrom
 push-all-from xs [] h = rw append-nil
 push-all-from xs (r ∷ rs) h =

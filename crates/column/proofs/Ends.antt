@@ -13,13 +13,9 @@ use Rattle.num.proofs.Tests.{by-test}
 use Rattle.column.specs.Asking.{Question, refusal, _unless_}
 use Rattle.column.specs.Questions.{endsFrom, endsValid}
 use Rattle.column.specs.Runs.{Runs, magnitude, runsOf, endsOf, valuesOf, lastEnd, lengthOf, lastFrom, lengthOfEnds}
+use Rattle.column.specs.Writing.{RisingEnds}
 use Rattle.column.proofs.FirstNo.{first-yes, rest-yes}
 use Rattle.column.proofs.Rising.{Rising, Valid}
-
--- the ends are natural numbers and rise, from above p on
-abbrev pub RisingEnds : ℕ → List ℤ → Type 0
-RisingEnds p [] = Unit {0}
-RisingEnds p (e ∷ es) = (e ≡ pos (magnitude e)) × (p < magnitude e) × RisingEnds (magnitude e) es
 
 from-check : (p i : ℕ) (es : List ℤ) → endsFrom i (pos p) es ≡ none → RisingEnds p es
 unfolding endsFrom

@@ -1,4 +1,5 @@
 pub mod All
+pub mod Appending
 pub mod Buffer
 pub mod Canonical
 pub mod Cover
@@ -9,6 +10,7 @@ pub mod Ends
 pub mod FirstNo
 pub mod Flattened
 pub mod Lists
+pub mod Masks
 pub mod Merging
 pub mod Naturals
 pub mod Parts

@@ -1,6 +1,6 @@
 -- A loop that writes merged runs: `rs` are the runs so far and w the writer behind them; `first` is the first value of all.
 -- Assumes nothing.
-use Prim.Native.Nat.{ℕ, _+_, _-_, _≤_, _<_}
+use Prim.Native.Nat.{ℕ, _+_, _≤_, _<_}
 use mathlib.Core.List.{List, []}
 use mathlib.Core.Path.{_≡_, refl, ap, sym, _∙_}
 use native.Mathlib.Omega.{arith}
@@ -8,19 +8,11 @@ use lib.IntN.{ℤ, pos}
 use lib.ListN.{length, length-set}
 use Rattle.column.specs.declared.inner.Writer.{Writer}
 use Rattle.column.specs.Runs.{Runs, endsOf, valuesOf, over, Filled, pushMerged}
-use Rattle.column.specs.Writing.{nextPlace, PushedMerged}
+use Rattle.column.specs.Writing.{nextPlace, PushedMerged, lastOf, Merging}
 use Rattle.column.proofs.Buffer.{over-store}
 use Rattle.column.proofs.Encode.{place-le, le-place, place-last, length-push, last-push, ends-push, values-push}
-use Rattle.column.proofs.Pushed.{place, lastOf}
+use Rattle.column.proofs.Pushed.{place}
 use Rattle.column.proofs.Sequences.{length-ends, length-values}
-
-pub record Merging (rs : Runs) (first : ℤ) (e₀ v₀ e v : List ℤ) (w : Writer) : Type 0 where
-  pub ends : e ≡ over (endsOf rs) e₀
-  pub values : v ≡ over (valuesOf rs) v₀
-  pub long-ends : length e ≡ length e₀
-  pub long-values : length v ≡ length v₀
-  pub at-last : w .at ≡ length rs - 1
-  pub last-value : w .last ≡ lastOf first rs
 
 pub merge-start : (first : ℤ) (e₀ v₀ : List ℤ) → Merging [] first e₀ v₀ e₀ v₀ (record { at = 0; last = first })
 unfolding endsOf valuesOf over lastOf

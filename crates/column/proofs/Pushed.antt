@@ -5,7 +5,7 @@ use mathlib.Core.List.{[], _∷_}
 use mathlib.Core.Path.{_≡_}
 use lib.IntN.{ℤ}
 use Rattle.num.specs.Numbers.{eqZ}
-use Rattle.column.specs.Runs.{Runs, pushMerged}
+use Rattle.column.specs.Runs.{Runs}
 
 -- no run follows that has the value v
 abbrev pub Differs : ℤ → Runs → Type 0
@@ -28,14 +28,3 @@ unfoldable pub place : Runs → ℤ → ℕ
 place [] v = 0
 place (r ∷ []) v = cond (eqZ (r .value) v) 0 1
 place (r ∷ s ∷ rs) v = suc (place (s ∷ rs) v)
-
--- the runs, each pushed onto those before it
-unfoldable pub pushAll : Runs → Runs → Runs
-unfolding pushMerged
-pushAll done [] = done
-pushAll done (r ∷ rs) = pushAll (pushMerged done (r .end) (r .value)) rs
-
--- the value of the last run, or v where there is none
-unfoldable pub lastOf : ℤ → Runs → ℤ
-lastOf v [] = v
-lastOf v (r ∷ rs) = lastOf (r .value) rs

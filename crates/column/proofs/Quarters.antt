@@ -13,7 +13,7 @@ use lib.ListN.{length, getD, drop}
 use lib.Signed.{leZ}
 use borrow.Author.Tests.{ltb-true, ltb-false}
 use Rattle.num.proofs.Tests.{by-test}
-use Rattle.column.specs.Quarters.{endBefore}
+use Rattle.column.specs.Runs.{endBefore}
 use Rattle.column.specs.Questions.{endsFrom, endsValid}
 use Rattle.column.proofs.YesNo.{ends-next}
 

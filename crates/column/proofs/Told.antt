@@ -12,10 +12,10 @@ use lib.ListN.{length, getD, drop}
 use lib.Seq.{drop-cons}
 use lib.Signed.{leZ, ltZ}
 use borrow.Author.Tests.{eqb-true, leb-true, ltb-true}
-use Rattle.column.specs.Asking.{Question, refusal, _unless_}
-use Rattle.column.specs.Questions.{agree, usedWithin, startAndRise, lastOffset, offsetsValid, atMost, notNegative, fits, runByRun, longEnough, roomAt, room, both}
-use Rattle.column.specs.Runs.{magnitude}
-use Rattle.column.proofs.FirstNo.{AllYes, all-yes}
+use Rattle.column.specs.Asking.{Question, refusal, _unless_, firstNo}
+use Rattle.column.specs.Questions.{listed, agree, paired, usedWithin, startAndRise, lastOffset, offsetsValid, endsValid, atMost, notNegative, fits, runByRun, longEnough, roomAt, room, both, sequenceAsked}
+use Rattle.column.specs.Runs.{sequence, magnitude}
+use Rattle.column.proofs.FirstNo.{AllYes, all-yes, first-several, asked-last}
 use Rattle.column.proofs.Naturals.{le-lt}
 use Rattle.column.proofs.YesNo.{room-both}
 
@@ -27,6 +27,12 @@ told number values false e = cc
 pub both-true : (s t : Bool) → s && t ≡ true → (s ≡ true) × (t ≡ true)
 both-true true t e = (refl, e)
 both-true false t e = (e, cc)
+
+pub listed-told : (low high code : ℕ) → listed low high code ≡ none → (low ≤ code) × (code ≤ high)
+unfolding listed
+listed-told low high code e =
+    let t = both-true (leb low code) (leb code high) (told 1 _ (leb low code && leb code high) e) in
+    (leb-true low code (t .0), leb-true code high (t .1))
 
 pub agree-told : (what left right : ℕ) → agree what left right ≡ none → left ≡ right
 unfolding agree
@@ -66,6 +72,24 @@ pub both-told : (n e v : ℕ) → room (both n) (e ∷ v ∷ []) ≡ none → (n
 both-told n e v h =
     let k = all-yes (roomAt 0 n e ∷ roomAt 1 n v ∷ []) (sym (room-both n e v) ∙ h) in
     (room-told 0 n e (k .0), room-told 1 n v (k .1 .0))
+
+-- what 3, 4 and 12 of a call that makes a sequence out of one, as the code joins them: the room is asked for as many as are needed where the sequence is valid
+module _ (es vs : List ℤ) (n e v : ℕ) where
+  pub sequence-asked : {r a b : Question} → r ≡ firstNo (a ∷ b ∷ []) → a ≡ firstNo (paired (sequence es vs) ∷ endsValid es ∷ [])
+      → (length es ≡ length vs → endsValid es ≡ none → b ≡ room (both n) (e ∷ v ∷ [])) → r ≡ sequenceAsked (sequence es vs) n (e ∷ v ∷ [])
+  unfolding sequenceAsked paired
+  sequence-asked h p q =
+      let s = paired (sequence es vs) ∷ endsValid es ∷ [] in
+      asked-last (firstNo s) h p (λ y. let z = all-yes s y in q (agree-told 3 (length es) (length vs) (z .0)) (z .1 .0))
+      ∙ sym (first-several s (room (both n) (e ∷ v ∷ []) ∷ []))
+
+  -- and what they tell
+  pub sequence-told : sequenceAsked (sequence es vs) n (e ∷ v ∷ []) ≡ none → (endsValid es ≡ none) × (length es ≡ length vs) × (n ≤ e) × (n ≤ v)
+  unfolding sequenceAsked paired
+  sequence-told h =
+      let y = all-yes (paired (sequence es vs) ∷ endsValid es ∷ room (both n) (e ∷ v ∷ []) ∷ []) h in
+      let k = both-told n e v (y .1 .1 .0) in
+      (y .1 .0, agree-told 3 (length es) (length vs) (y .0), k .0, k .1)
 
 -- 6 and 7, at the run that comes next: p is the length so far
 module _ (p i : ℕ) (rs : List ℤ) (h : i < length rs) (yes : runByRun i p (drop i rs) ≡ none) where

@@ -1,12 +1,16 @@
 -- Several sequences laid flat: "offsets and flat ends and values, as a batch without keys".
-use Prim.Native.Nat.{ℕ, _-_}
-use mathlib.Core.List.{List, [], _∷_, map}
+use Prim.Native.Nat.{ℕ, _+_, _-_}
+use mathlib.Core.List.{List, [], _∷_, _++_, map}
+use mathlib.Core.Path.{_≡_}
 use lib.IntN.{ℤ}
 use lib.ListN.{length}
 use Rattle.column.specs.Asking.{Question}
-use Rattle.column.specs.Lists.{part}
+use Rattle.column.specs.Lists.{total, part}
+use Rattle.column.specs.Paper.{Outcome, shownBatched, counts, written}
 use Rattle.column.specs.Questions.{paired, offsetsValid, sequencesValid}
-use Rattle.column.specs.Runs.{Sequence, sequence, Runs, runs}
+use Rattle.column.specs.Runs.{Sequence, sequence, Runs, runs, endsOf, valuesOf}
+use Rattle.column.specs.declared.answer.RleBatch.{RleBatch}
+use Rattle.column.specs.declared.answer.Batched.{Batched}
 
 pub record Flat : Type 0 where
   pub offsets : List ℕ
@@ -49,3 +53,32 @@ endsFlat f = sequencesValid (f .offsets) (f .ends)
 -- those three, in their order
 abbrev pub flatAsked : Flat → List Question
 flatAsked f = pairedFlat f ∷ offsetsFlat f ∷ endsFlat f ∷ []
+
+-- ---- and back: runs laid flat, sequence after sequence
+
+-- one past the last run of each, from a on
+unfoldable pub offsetsFrom : ℕ → List Runs → List ℕ
+offsetsFrom a [] = []
+offsetsFrom a (c ∷ cs) = (a + length c) ∷ offsetsFrom (a + length c) cs
+
+abbrev pub flatOffsets : List Runs → List ℕ
+flatOffsets cs = 0 ∷ offsetsFrom 0 cs
+
+unfoldable pub flatEnds : List Runs → List ℤ
+flatEnds [] = []
+flatEnds (c ∷ cs) = endsOf c ++ flatEnds cs
+
+unfoldable pub flatValues : List Runs → List ℤ
+flatValues [] = []
+flatValues (c ∷ cs) = valuesOf c ++ flatValues cs
+
+-- how many sequences, and how many runs in all
+abbrev pub flatCounts : List Runs → RleBatch
+flatCounts cs = record { keys = length cs; runs = total (map length cs) }
+
+-- the promise of a call that writes sequences laid flat, each buffer before and after
+pub record WritesFlat (o : Outcome (List Runs)) (r : Batched) (x x′ : List ℕ) (e e′ v v′ : List ℤ) : Type 0 where
+  pub answer : shownBatched r ≡ counts flatCounts o
+  pub offsets : x′ ≡ written flatOffsets o x
+  pub ends : e′ ≡ written flatEnds o e
+  pub values : v′ ≡ written flatValues o v

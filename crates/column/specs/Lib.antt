@@ -1,9 +1,10 @@
 -- What the contracts of several crates cite, to be read beside document 01 in this order: Runs, Paper, Asking, Questions, Combine, Flat; then
--- Writing and Quarters, which are about how the code goes. Lists has what is said of lists.
+-- Writing, Quarters and Masks, which are about how the code goes (Masks after question 1 of Questions). Lists has what is said of lists.
 pub mod Asking
 pub mod Combine
 pub mod Flat
 pub mod Lists
+pub mod Masks
 pub mod Paper
 pub mod Quarters
 pub mod Questions

@@ -174,3 +174,8 @@ room needed given = roomFrom 0 needed given
 -- a buffer for ends and one for values, each as long
 abbrev pub both : ℕ → List ℕ
 both n = n ∷ n ∷ []
+
+-- ---- of a call that makes a sequence out of one: what 3, 4, and 12 for so many entries
+
+unfoldable pub sequenceAsked : Sequence → ℕ → List ℕ → Question
+sequenceAsked s needed buffers = firstNo (paired s ∷ endsValid (s .ends) ∷ room (both needed) buffers ∷ [])

@@ -1,10 +1,10 @@
 -- A sequence: its ends and values, its runs, and the values that it shows position by position.
-use Prim.Native.Nat.{ℕ, suc, _-_}
+use Prim.Native.Nat.{ℕ, zero, suc, _-_}
 use mathlib.Core.Bool.{cond}
 use mathlib.Core.List.{List, [], _∷_, _++_, map}
 use mathlib.Core.Path.{_≡_}
 use lib.IntN.{ℤ, pos, negsuc}
-use lib.ListN.{length, drop, replicate}
+use lib.ListN.{length, getD, drop, replicate}
 use Rattle.num.specs.Numbers.{eqZ}
 
 -- "A sequence is a list of ends and an equally long list of values", as a call is handed it
@@ -59,6 +59,11 @@ lastFrom before (e ∷ es) = lastFrom e es
 
 unfoldable pub lengthOfEnds : List ℤ → ℤ
 lengthOfEnds es = lastFrom (pos 0) es
+
+-- "the end before it (0 for the first)", of the run at an index
+abbrev pub endBefore : List ℤ → ℕ → ℤ
+endBefore es zero = pos 0
+endBefore es (suc i) = getD es i (pos 0)
 
 -- "Run r covers positions from the end before it (0 for the first) up to its own end": the values shown, one for each position
 unfoldable pub denseFrom : ℕ → Runs → List ℤ

@@ -2,7 +2,7 @@
 ghost use Prim.Native.Nat.{_+_, _<_, _^_};
 ghost use mathlib.Core.Path.{_≡_};
 ghost use lib.ListN.{length};
-ghost use Rattle.column.specs.Writing.{placeAfter, nextPlace, PushedMerged};
+ghost use Rattle.column.specs.Writing.{placeAfter, nextPlace, PushedMerged, Appendable, Appended};
 
 // The last run that was written: its place and its value. Before the first run they are 0 and that run's own value.
 pub struct Writer {
@@ -32,4 +32,29 @@ pub fn push_merged(
     out_ends[at] = end;
     out_values[at] = value;
     Writer { at, last: value }
+}
+
+// The runs of a column behind the runs so far, merged: its positions from `start` on stand at `offset`.
+pub fn append_merged(
+    writer: Writer,
+    ends: &[i64],
+    values: &[i64],
+    start: usize,
+    offset: usize,
+    out_ends: &mut [i64],
+    out_values: &mut [i64],
+) -> Writer
+    requires { ⌜ Appendable start offset (now ends) (now values) (now «out_ends») (now «out_values») writer ⌝ }
+    ensures { λ r. ⌜ Appended start offset (now (ends .entry)) (now (values .entry)) (now («out_ends» .entry)) (now («out_ends» .exit)) (now («out_values» .entry)) (now («out_values» .exit)) writer r ⌝ }
+{
+    let mut next = writer;
+    let mut r: usize = 0;
+    while r < ends.len() {
+        let end = ends[r];
+        let value = values[r];
+        let to = end as usize - start + offset;
+        next = push_merged(next, out_ends, out_values, to as i64, value);
+        r += 1;
+    }
+    next
 }

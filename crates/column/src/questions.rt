@@ -4,6 +4,7 @@ use crate::answer::Fill;
 use crate::error::Error;
 use crate::error::InKey;
 use crate::error::Refusal;
+use crate::mask;
 use crate::sequence;
 ghost use Prim.Native.Nat.{_+_};
 ghost use mathlib.Core.Bool.{true, _&&_};
@@ -16,8 +17,8 @@ ghost use Rattle.column.specs.Asking.{shownAsked, refusal, firstNo, inKe
 ghost use Rattle.column.specs.Flat.{flat, flatAsked};
 ghost use Rattle.column.specs.Lists.{any};
 ghost use Rattle.column.specs.Paper.{numberOf, shownBy};
-ghost use Rattle.column.specs.Quarters.{endBefore, endsFromQuarters};
-ghost use Rattle.column.specs.Questions.{listed, maskListed, agree, paired, usedWithin, startAndRise, lastOffset, offsetsRise, offsetsValid, endsFrom, endsValid, sequencesValid, atMost, notNegative, fits, runByRun, distinctKeys, intervals, side, isMissing, filled, longEnough, roomAt, room, both};
+ghost use Rattle.column.specs.Quarters.{endsFromQuarters};
+ghost use Rattle.column.specs.Questions.{listed, maskListed, agree, paired, usedWithin, startAndRise, lastOffset, offsetsRise, offsetsValid, endsFrom, endsValid, sequencesValid, atMost, notNegative, fits, runByRun, distinctKeys, intervals, side, isMissing, filled, longEnough, roomAt, room, both, sequenceAsked};
 ghost use Rattle.column.specs.Runs.{sequence, magnitude};
 
 // The first length that does not fit i64.
@@ -58,15 +59,13 @@ pub fn ask_code(low: u8, high: u8, code: u8) -> Asked
 pub fn ask_mask(mask: &[u8]) -> Asked
     ensures { λ r. ⌜ shownAsked r ≡ maskListed (now (mask .entry)) ⌝ }
 {
-    let mut i = 0;
-    while i < mask.len() {
-        let byte = mask[i];
-        if 1 < byte {
-            return no(Error::UnknownCode { code: byte });
-        }
-        i += 1;
+    let i = mask::first_unlisted(mask);
+    if i < mask.len() {
+        let code = mask[i];
+        no(Error::UnknownCode { code })
+    } else {
+        Asked::Yes
     }
-    Asked::Yes
 }
 
 // 2
@@ -118,7 +117,8 @@ fn start_and_rise(offsets: &[usize]) -> bool
     true
 }
 
-fn last_offset(offsets: &[usize]) -> usize
+// The last offset, or 0.
+pub fn last_offset(offsets: &[usize]) -> usize
     ensures { λ r. ⌜ r ≡ lastOffset 0 (now (offsets .entry)) ⌝ }
 {
     let n = offsets.len();
@@ -165,17 +165,6 @@ fn ask_ends_from(ends: &[i64], from: usize, first: i64) -> Asked
     Asked::Yes
 }
 
-// The end before an index, 0 before the first.
-fn end_before(ends: &[i64], index: usize) -> i64
-    ensures { λ r. ⌜ r ≡ endBefore (now (ends .entry)) index ⌝ }
-{
-    if index == 0 {
-        0
-    } else {
-        sequence::entry_or(ends, index - 1, 0)
-    }
-}
-
 // Whether each end in four quarters is above the one before. The quarters are read side by side: far memory brings four of them in little
 // more time than one.
 fn quarters_rise(ends: &[i64]) -> bool
@@ -183,9 +172,9 @@ fn quarters_rise(ends: &[i64]) -> bool
 {
     let quarter = ends.len() / 4;
     let mut first: i64 = 0;
-    let mut second = end_before(ends, quarter);
-    let mut third = end_before(ends, quarter * 2);
-    let mut fourth = end_before(ends, quarter * 3);
+    let mut second = sequence::end_before(ends, quarter);
+    let mut third = sequence::end_before(ends, quarter * 2);
+    let mut fourth = sequence::end_before(ends, quarter * 3);
     let mut i: usize = 0;
     while i < quarter {
         let a = ends[i];
@@ -219,7 +208,7 @@ pub fn ask_ends(ends: &[i64]) -> Asked
 {
     if quarters_rise(ends) {
         let seen = ends.len() / 4 * 4;
-        ask_ends_from(ends, seen, end_before(ends, seen))
+        ask_ends_from(ends, seen, sequence::end_before(ends, seen))
     } else {
         ask_ends_from(ends, 0, 0)
     }
@@ -303,8 +292,14 @@ pub fn ask_run(index: usize, run: i64) -> Asked
 pub fn ask_sum(length: i64, run: i64) -> Asked
     ensures { λ r. ⌜ shownAsked r ≡ fits (magnitude length + magnitude run) ⌝ }
 {
-    let total = sequence::magnitude(length) + sequence::magnitude(run);
-    if total < LIMIT {
+    ask_fits(sequence::magnitude(length) + sequence::magnitude(run))
+}
+
+// 7, of a new length.
+pub fn ask_fits(length: usize) -> Asked
+    ensures { λ r. ⌜ shownAsked r ≡ fits length ⌝ }
+{
+    if length < LIMIT {
         Asked::Yes
     } else {
         no(Error::Overflow)
@@ -448,4 +443,20 @@ pub fn ask_both(needed: usize, ends: usize, values: usize) -> Asked
     ensures { λ r. ⌜ shownAsked r ≡ room (both needed) (ends ∷ values ∷ []) ⌝ }
 {
     first_no(ask_room(0, needed, ends), ask_room(1, needed, values))
+}
+
+// What 3 of 2, 4 and 12, of a call that makes a sequence out of one.
+pub fn ask_sequence_into(
+    ends: &[i64],
+    values: &[i64],
+    needed: usize,
+    out_ends: usize,
+    out_values: usize,
+) -> Asked
+    ensures { λ r. ⌜ shownAsked r ≡ sequenceAsked (sequence (now (ends .entry)) (now (values .entry))) needed («out_ends» ∷ «out_values» ∷ []) ⌝ }
+{
+    first_no(
+        ask_sequence(ends, values),
+        ask_both(needed, out_ends, out_values),
+    )
 }

@@ -2,7 +2,7 @@
 ghost use mathlib.Core.Path.{_≡_};
 ghost use lib.ListN.{getD};
 ghost use Rattle.column.specs.Lists.{part};
-ghost use Rattle.column.specs.Runs.{magnitude, lengthOfEnds};
+ghost use Rattle.column.specs.Runs.{endBefore, magnitude, lengthOfEnds};
 
 // A number that is not negative, as a count; a negative one counts as 0.
 pub fn magnitude(x: i64) -> usize
@@ -27,6 +27,17 @@ pub fn entry_or(entries: &[i64], index: usize, otherwise: i64) -> i64
         entries[index]
     } else {
         otherwise
+    }
+}
+
+// The end before an index, 0 before the first.
+pub fn end_before(ends: &[i64], index: usize) -> i64
+    ensures { λ r. ⌜ r ≡ endBefore (now (ends .entry)) index ⌝ }
+{
+    if index == 0 {
+        0
+    } else {
+        entry_or(ends, index - 1, 0)
     }
 }
 

@@ -12,10 +12,9 @@ use Rattle.column.specs.Combine.{Column, many, folded, combined}
 use Rattle.column.specs.Flat.{flat, columns}
 use Rattle.column.specs.Lists.{parts}
 use Rattle.column.specs.Runs.{Filled}
-use Rattle.column.specs.Writing.{nextPlace, PushedMerged}
+use Rattle.column.specs.Writing.{nextPlace, PushedMerged, pushAll, Merging}
 use Rattle.column.proofs.All.{All}
-use Rattle.column.proofs.Merging.{Merging, merge-start}
-use Rattle.column.proofs.Pushed.{pushAll}
+use Rattle.column.proofs.Merging.{merge-start}
 use Rattle.column.proofs.Rising.{Valid}
 use Rattle.plan.specs.Plan.{Place, Segment, indexes, firstPlaces}
 use Rattle.plan.specs.Walk.{spent}

@@ -8,12 +8,13 @@ use native.Mathlib.Omega.{arith}
 use lib.ListN.{length, getD}
 use lib.IntN.{ℤ, pos, natAbs}
 use lib.Signed.{mag, leZ, ltZ, nonNeg}
-use lib.Dec.{T}
+use lib.Dec.{T, eqb}
+use borrow.Author.Tests.{eqb-true, eqb-false}
 use mir.Syntax.{w64}
 use mir.Val.{toZ, ofZ, Fits, SFits}
 use mir.Facts.{toZ-ofZ}
 use Rattle.num.specs.Numbers.{eqZ}
-use Rattle.num.proofs.Tests.{eq-eqZ, ne-eqZ}
+use Rattle.num.proofs.Tests.{eq-eqZ, ne-eqZ, by-test}
 
 pub back : (z : ℤ) → mag z < 2 ^ 63 → toZ w64 (ofZ w64 z) ≡ z
 back z h = toZ-ofZ (record { sfits = h })
@@ -24,6 +25,12 @@ module _ {a b : ℤ} (f : SFits w64 a) (g : SFits w64 b) where
 
   pub bits-neZ : (ofZ w64 a ≡ ofZ w64 b → ⊥) → eqZ a b ≡ false
   bits-neZ n = ne-eqZ a b (λ e. n (ap (ofZ w64) e))
+
+  pub bits-test : eqb (ofZ w64 a) (ofZ w64 b) ≡ eqZ a b
+  bits-test =
+      by-test (eqb (ofZ w64 a) (ofZ w64 b))
+      (λ t. t ∙ sym (bits-eqZ (eqb-true (ofZ w64 a) (ofZ w64 b) t)))
+      (λ t. t ∙ sym (bits-neZ (eqb-false (ofZ w64 a) (ofZ w64 b) t)))
 
   -- what a test of two signed locals tells of the numbers
   pub told-le : {t : Bool} → leZ (toZ w64 (ofZ w64 a)) (toZ w64 (ofZ w64 b)) ≡ t → leZ a b ≡ t

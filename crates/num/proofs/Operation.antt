@@ -1,9 +1,9 @@
 -- The operation of a code: its result fits an i64, and a code past the list has the last.
 -- Assumes nothing.
-use mathlib.Core.Path.{_≡_}
+use mathlib.Core.Path.{_≡_, refl, sym}
 use mathlib.Core.Bool.{Bool, true, false, cond}
 use Prim.Native.Nat.{ℕ}
-use lib.IntN.{ℤ, _+ℤ_, _-ℤ_, _*ℤ_}
+use lib.IntN.{ℤ, pos, _+ℤ_, _-ℤ_, _*ℤ_}
 use lib.Signed.{leZ, ltZ}
 use lib.Dec.{eqb}
 use borrow.Author.Tests.{ne-eqb}
@@ -55,3 +55,17 @@ operation-i64 code {x} {y} f g =
     (cond-fits (eqb code 6) g
     (cond-fits (eqb code 7) (flag-fits (eqZ x y))
     (cond-fits (eqb code 8) (flag-fits (ltZ x y)) (midpoint-fits f g)))))))))
+
+-- ---- codes 7 and 8 as a test
+
+test-flag : (b : Bool) → eqZ (flag b) (pos 1) ≡ b
+test-flag true = refl
+test-flag false = refl
+
+pub holds-equal : (code : ℕ) (x y : ℤ) → code ≡ 7 → eqZ x y ≡ eqZ (operation code x y) (pos 1)
+unfolding operation
+holds-equal code x y e = rw e (sym (test-flag (eqZ x y)))
+
+pub holds-less : (code : ℕ) (x y : ℤ) → code ≡ 8 → ltZ x y ≡ eqZ (operation code x y) (pos 1)
+unfolding operation
+holds-less code x y e = rw e (sym (test-flag (ltZ x y)))

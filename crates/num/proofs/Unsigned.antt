@@ -2,7 +2,7 @@
 -- Assumes nothing.
 use mathlib.Core.Path.{_≡_, ap, _∙_}
 use mathlib.Core.Bool.{true, false}
-use Prim.Native.Nat.{ℕ, suc, _-_, _^_}
+use Prim.Native.Nat.{ℕ, suc, _+_, _-_, _≤_, _^_}
 use native.Mathlib.Omega.{arith}
 use lib.IntN.{ℤ, pos, negsuc, natAbs}
 use lib.Signed.{ltZ}
@@ -25,6 +25,14 @@ plain : (z : ℤ) → SFits w64 z → ltZ z (pos 0) ≡ false → z ≡ pos (res
 plain (pos n) f e = let h : n ≡ residue (pos n) = omega arith in ap pos h
 plain (negsuc n) f e = absurd (let x : _≡_ {A = ℕ} 0 1 = cc in omega arith)
 
+above : (z : ℤ) → SFits w64 z → ltZ z (pos 0) ≡ true → 2 ^ 64 - 1 - residue z + 1 ≡ natAbs z
+above (pos n) f e = absurd (let h = ltb-true n 0 e in omega arith)
+above (negsuc n) f e = omega (arith, f .sfits)
+
+below : (z : ℤ) → SFits w64 z → natAbs z ≤ 2 ^ 63
+below (pos n) f = omega (arith, f .sfits)
+below (negsuc n) f = omega (arith, f .sfits)
+
 module _ {z : ℤ} (f : SFits w64 z) where
   pub negative-flipped : ltZ (toZ w64 (ofZ w64 z)) (pos 0) ≡ true → toZ w64 (2 ^ 64 - 1 - ofZ w64 z) ≡ pos (2 ^ 64 - 1 - residue z)
   negative-flipped e = flipped z f (told-lt f (sfits-lit tt) e)
@@ -34,3 +42,13 @@ module _ {z : ℤ} (f : SFits w64 z) where
 
   pub nonnegative-plain : ltZ (toZ w64 (ofZ w64 z)) (pos 0) ≡ false → toZ w64 (ofZ w64 z) ≡ pos (residue z)
   nonnegative-plain e = toZ-ofZ f ∙ plain z f (told-lt f (sfits-lit tt) e)
+
+  -- how far it is from 0
+  pub flipped-above : ltZ (toZ w64 (ofZ w64 z)) (pos 0) ≡ true → natAbs (toZ w64 (2 ^ 64 - 1 - ofZ w64 z)) + 1 ≡ natAbs z
+  flipped-above e = rw (negative-flipped e) (above z f (told-lt f (sfits-lit tt) e))
+
+  pub plain-abs : ltZ (toZ w64 (ofZ w64 z)) (pos 0) ≡ false → natAbs (toZ w64 (ofZ w64 z)) ≡ natAbs z
+  plain-abs e = ap natAbs (toZ-ofZ f)
+
+  pub abs-below : natAbs z ≤ 2 ^ 63
+  abs-below = below z f

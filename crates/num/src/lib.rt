@@ -1,6 +1,6 @@
 ghost use mathlib.Core.Path.{_≡_};
-ghost use Prim.Native.Nat.{_+_, _*_, _^_, min};
-ghost use lib.IntN.{_+ℤ_, _-ℤ_, _*ℤ_};
+ghost use Prim.Native.Nat.{_+_, _*_, _≤_, _^_, min};
+ghost use lib.IntN.{pos, natAbs, _+ℤ_, _-ℤ_, _*ℤ_};
 ghost use lib.Signed.{ltZ};
 ghost use Rattle.num.specs.Numbers.{eqZ, residue, signed, wrap, saturated, smallerOf, largerOf, midpoint, flag, operation};
 
@@ -20,6 +20,13 @@ pub fn as_signed(bits: u64) -> i64
     } else {
         !((!bits) as i64)
     }
+}
+
+// How far a number is from 0.
+pub fn unsigned_abs(x: i64) -> u64
+    ensures { λ r. ⌜ r ≡ natAbs x ⌝ }
+{
+    if x < 0 { (!x) as u64 + 1 } else { x as u64 }
 }
 
 // Code 0: one addition, and no trap.
@@ -126,6 +133,13 @@ pub fn less(x: i64, y: i64) -> i64
     ensures { λ r. ⌜ r ≡ flag (ltZ x y) ⌝ }
 {
     if x < y { 1 } else { 0 }
+}
+
+// Codes 7 and 8 as a test.
+pub fn holds(code: u8, x: i64, y: i64) -> bool
+    ensures { λ r. ⌜ (7 ≤ code → code ≤ 8 → r ≡ eqZ (operation code x y) (pos 1)) ⌝ }
+{
+    if code == 7 { x == y } else { x < y }
 }
 
 // Code 9. The exact sum may fit no i64; half of it is the bits that both have, and half of those that differ.

@@ -10,10 +10,9 @@ use Rattle.column.specs.declared.answer.Fill.the-variants.{Value}
 use Rattle.column.specs.declared.inner.Writer.{Writer}
 use Rattle.column.specs.Combine.{Column, two, combined}
 use Rattle.column.specs.Runs.{Run, sequence, runsOf, endsOf, valuesOf, over, Filled}
-use Rattle.column.specs.Writing.{nextPlace, PushedMerged}
+use Rattle.column.specs.Writing.{nextPlace, PushedMerged, pushAll, Merging}
 use Rattle.column.proofs.Buffer.{Written, write-start, write-next}
-use Rattle.column.proofs.Merging.{Merging, merge-start}
-use Rattle.column.proofs.Pushed.{pushAll}
+use Rattle.column.proofs.Merging.{merge-start}
 use Rattle.plan.specs.Plan.{Segment, segmentRun, segmentRuns}
 use Rattle.plan.specs.declared.inner.Segments.{Segments}
 use Rattle.plan.specs.Walk.{placesAt, Starts, Walks}

@@ -21,10 +21,10 @@ use Rattle.column.proofs.Cover.{cover, cover-dense, last-above}
 use Rattle.column.proofs.Dense.{length-dense}
 use Rattle.column.proofs.Encode.{push-all}
 use Rattle.column.proofs.Positions.{eachPosition-add, eachPosition-length, eachPosition-const}
-use Rattle.column.proofs.Pushed.{pushAll}
 use Rattle.column.proofs.Rising.{Rising, Valid}
 use Rattle.plan.specs.Plan.{Place, leastEnd, steppedOn, rests, indexes, stepped, segmentsFrom, firstPlaces, segments, valuesFor, segmentRun, endsIn, segmentRuns}
 use Rattle.plan.proofs.Segments.{left, left-less, withOthers, least-cons, none-left, segments-step, segments-end}
+use Rattle.column.specs.Writing.{pushAll}
 
 -- a column, and the index of its current run
 record At : Type 0 where

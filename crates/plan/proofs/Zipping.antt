@@ -10,11 +10,10 @@ use lib.ListN.{length, length-map}
 use Rattle.column.specs.declared.inner.Writer.{Writer}
 use Rattle.column.specs.Combine.{Column, folded, combined}
 use Rattle.column.specs.Runs.{Run, Runs, magnitude, pushMerged, Filled}
-use Rattle.column.specs.Writing.{nextPlace, PushedMerged}
+use Rattle.column.specs.Writing.{nextPlace, PushedMerged, pushAll, Merging}
 use Rattle.column.proofs.All.{All}
 use Rattle.column.proofs.Encode.{length-push, place-le, le-place}
-use Rattle.column.proofs.Merging.{Merging, merge-at, merge-more, merge-end, fill-none}
-use Rattle.column.proofs.Pushed.{pushAll}
+use Rattle.column.proofs.Merging.{merge-at, merge-more, merge-end, fill-none}
 use Rattle.column.proofs.Rising.{Valid}
 use Rattle.plan.specs.Plan.{Place, Segment, leastEnd, rests, indexes, firstPlaces, segmentsFrom, endsIn, valuesFor, segmentRun, segmentRuns}
 use Rattle.plan.specs.Walk.{Steps}

@@ -10,10 +10,11 @@ use Rattle.num.proofs.Bits.{back, end-nat, end-cast}
 use Rattle.column.specs.Runs.{magnitude, runsOf, denseFrom, dense, over}
 use Rattle.column.proofs.Buffer.{stretched, over-stretch}
 use Rattle.column.proofs.Dense.{Stretch, stretch}
-use Rattle.column.proofs.Ends.{RisingEnds, rising}
+use Rattle.column.proofs.Ends.{rising}
 use borrow.Author.Needs.{needs}
 use Rattle.rle.proofs.inner.to_dense.Statement.{statement}
 use Rattle.rle.proofs.inner.to_dense.Tie as tie
+use Rattle.column.specs.Writing.{RisingEnds}
 
 -- the first p values are written, p being the end of the last run
 module _ (es vs out₀ : List ℤ) where

@@ -2,8 +2,8 @@ use mathlib.Core.Path.{_∙_}
 use Rattle.num.proofs.Bits.{back}
 use Rattle.column.proofs.Quarters.{before-none, before-some}
 use borrow.Author.Needs.{needs}
-use Rattle.column.proofs.questions.end_before.Statement.{statement}
-use Rattle.column.proofs.questions.end_before.Tie as tie
+use Rattle.column.proofs.sequence.end_before.Statement.{statement}
+use Rattle.column.proofs.sequence.end_before.Tie as tie
 
 sub-entry-or : tie.Need-sub-entry-or
 sub-entry-or c = search needs
