@@ -1,0 +1,10 @@
+pub mod Asks
+pub mod Covering
+pub mod Difference
+pub mod Examples
+pub mod Items
+pub mod Searching
+pub mod Sliced
+pub mod Slicing
+pub mod Touching
+pub mod Viewing

@@ -1,0 +1,106 @@
+-- A view of a slice by the runs that it touches, and its values.
+-- Assumes nothing.
+use Prim.Native.Nat.{ℕ, zero, suc, _+_, _-_, min}
+use mathlib.Core.Option.{none, some}
+use mathlib.Core.List.{List, [], _∷_, map}
+use mathlib.Core.Path.{_≡_, refl, ap, sym, _∙_}
+use native.Mathlib.Omega.{arith}
+use lib.IntN.{ℤ, pos, _-ℤ_}
+use lib.ListN.{length, take, drop}
+use lib.Seq.{take-nil}
+use lib.Dec.{ltb}
+use borrow.Author.Tests.{ltb-true}
+use mir.Syntax.{w64}
+use mir.Val.{SFits}
+use Rattle.num.proofs.Tests.{by-test}
+use Rattle.column.specs.Asking.{Question, firstNo}
+use Rattle.column.specs.Lists.{part}
+use Rattle.column.specs.Paper.{PaperRefusal}
+use Rattle.column.specs.Questions.{paired, endsValid}
+use Rattle.column.specs.Runs.{Sequence, sequence, Run, Runs, valuesOf, magnitude, runsOf, lengthOf, lengthOfEnds}
+use Rattle.column.proofs.Ends.{length-of-ends, values-runs}
+use Rattle.column.proofs.FirstNo.{all-yes}
+use Rattle.column.proofs.Naturals.{magnitude-below}
+use Rattle.column.proofs.Told.{agree-told}
+use Rattle.slice.specs.declared.Part.{Part}
+use Rattle.slice.specs.declared.View.{View}
+use Rattle.slice.specs.Search.{touchedBy}
+use Rattle.slice.specs.Slice.{sliceRuns, viewOf, sliceView, slicePart, entriesOf, sliceViewValues, PartOf}
+use Rattle.slice.specs.Workers.{clipped, cutRuns}
+use Rattle.slice.proofs.Difference.{difference-of, difference-fits}
+use Rattle.slice.proofs.Touching.{cut-touched, touched-inside, touches, touched-count}
+
+-- the questions of a view, and what they tell
+abbrev pub viewAsked : List ℤ → List ℤ → Question
+viewAsked es vs = firstNo (paired (sequence es vs) ∷ endsValid es ∷ [])
+
+pub view-told : (es vs : List ℤ) → viewAsked es vs ≡ none → (endsValid es ≡ none) × (length es ≡ length vs)
+unfolding paired
+view-told es vs h = let y = all-yes (paired (sequence es vs) ∷ endsValid es ∷ []) h in (y .1 .0, agree-told 3 (length es) (length vs) (y .0))
+
+values-clipped : (x y : ℕ) (rs : Runs) → valuesOf (map (clipped x y) rs) ≡ valuesOf rs
+unfolding valuesOf
+values-clipped x y [] = refl
+values-clipped x y (r ∷ rs) = ap {B = List ℤ} (λ xs. r .value ∷ xs) (values-clipped x y rs)
+
+values-part : (n a : ℕ) (rs : Runs) → valuesOf (take n (drop a rs)) ≡ take n (drop a (valuesOf rs))
+unfolding valuesOf
+values-part zero zero rs = refl
+values-part (suc n) zero [] = refl
+values-part (suc n) zero (r ∷ rs) = ap {B = List ℤ} (λ xs. r .value ∷ xs) (values-part n zero rs)
+values-part n (suc a) [] = rw (take-nil {A = Run} n, take-nil {A = ℤ} n)
+values-part n (suc a) (r ∷ rs) = values-part n a rs
+
+module _ (start end : ℤ) (es vs : List ℤ) (v : endsValid es ≡ none) (l : length es ≡ length vs) where
+  -- the view that they say
+  pub view-touched : _≡_ {A = View} (record { first = touchedBy start end es .first; start = touchedBy start end es .start; length = touchedBy start end es .end -ℤ touchedBy start end es .start })
+      (viewOf (sequence es vs) start end)
+  unfolding touchedBy viewOf
+  view-touched =
+      let n : magnitude (lengthOfEnds es) ≡ lengthOf (runsOf es vs) = ap magnitude (length-of-ends es vs v l) in
+      let y = min (magnitude end) (lengthOf (runsOf es vs)) in
+      by-test (ltb (magnitude start) y)
+      (λ t. let h = ltb-true (magnitude start) y t in
+      let d : pos y -ℤ pos (magnitude start) ≡ pos (y - magnitude start) = difference-of refl refl (omega arith) in
+      rw (n, t, d))
+      (λ t. rw (n, t))
+
+  pub view-fits : SFits w64 (touchedBy start end es .end) → SFits w64 (touchedBy start end es .end -ℤ touchedBy start end es .start)
+  view-fits f =
+      let i = touched-inside start end es v in
+      let t = touches start end es es es es v refl (omega arith) (omega arith) in
+      difference-fits (t .end-natural) (t .start-natural) (t .ordered) (magnitude-below (touchedBy start end es .end) f)
+
+  part-is : viewAsked es vs ≡ none → record { first = touchedBy start end es .first; count = touchedBy start end es .count } ≡ slicePart (sequence es vs) start end
+  unfolding slicePart sliceView
+  part-is y =
+      let f : viewOf (sequence es vs) start end .first ≡ touchedBy start end es .first = ap (λ (w : View). w .first) (sym view-touched) in
+      let n : length (sliceRuns start end (runsOf es vs)) ≡ touchedBy start end es .count = sym (touched-count start end es vs v l) in
+      rw (y, f, n)
+
+  pub part-touched : viewAsked es vs ≡ none → PartOf (record { first = touchedBy start end es .first; count = touchedBy start end es .count }) (slicePart (sequence es vs) start end) vs
+  part-touched y = let i = touched-inside start end es v in record { same = part-is y; inside = omega arith }
+
+  values-touched : viewAsked es vs ≡ none → part (touchedBy start end es .first) (touchedBy start end es .first + touchedBy start end es .count) vs ≡ sliceViewValues (sequence es vs) start end
+  unfolding sliceViewValues
+  values-touched y = ap (λ (p : Part). entriesOf p vs) (part-is y)
+
+  -- the values of a view are those of the slice
+  pub values-slice : viewAsked es vs ≡ none → sliceViewValues (sequence es vs) start end ≡ valuesOf (sliceRuns start end (runsOf es vs))
+  unfolding cutRuns
+  values-slice y =
+      let t = touchedBy start end es in
+      let k : t .first + t .count - t .first ≡ t .count = omega arith in
+      sym (values-touched y)
+      ∙ ap (λ (m : ℕ). take m (drop (t .first) vs)) k
+      ∙ ap (λ (xs : List ℤ). take (t .count) (drop (t .first) xs)) (sym (values-runs es vs l))
+      ∙ sym (values-clipped (magnitude (t .start)) (magnitude (t .end)) (take (t .count) (drop (t .first) (runsOf es vs))) ∙ values-part (t .count) (t .first) (runsOf es vs))
+      ∙ ap valuesOf (cut-touched start end es vs v l)
+
+pub part-refused : (start end : ℤ) (es vs : List ℤ) {r : PaperRefusal} → viewAsked es vs ≡ some r → PartOf (record { first = 0; count = 0 }) (slicePart (sequence es vs) start end) vs
+unfolding slicePart sliceView
+part-refused start end es vs h = rw h (record { same = refl; inside = omega arith })
+
+pub part-entries : (s : Sequence) (start end : ℤ) {p : Part} → PartOf p (slicePart s start end) (s .values) → entriesOf p (s .values) ≡ sliceViewValues s start end
+unfolding sliceViewValues
+part-entries s start end h = ap (λ (q : Part). entriesOf q (s .values)) (h .same)

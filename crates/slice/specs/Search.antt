@@ -1,0 +1,30 @@
+-- Where a position stands among ends, and the runs that a slice touches.
+use Prim.Native.Nat.{ℕ, suc, _+_, min}
+use mathlib.Core.Bool.{cond}
+use mathlib.Core.List.{List, [], _∷_}
+use lib.IntN.{ℤ, pos}
+use lib.Signed.{leZ, ltZ}
+use lib.ListN.{drop}
+use lib.Dec.{ltb}
+use Rattle.column.specs.Runs.{magnitude, lengthOfEnds}
+use Rattle.slice.specs.declared.search.TouchedRuns.{TouchedRuns}
+
+-- the lowest index of an end above a position, or how many ends there are
+unfoldable pub firstEndAbove : ℤ → List ℤ → ℕ
+firstEndAbove p [] = 0
+firstEndAbove p (e ∷ es) = cond (ltZ p e) 0 (suc (firstEndAbove p es))
+
+-- of an end at or above it
+unfoldable pub firstEndAtLeast : ℤ → List ℤ → ℕ
+firstEndAtLeast p [] = 0
+firstEndAtLeast p (e ∷ es) = cond (leZ p e) 0 (suc (firstEndAtLeast p es))
+
+-- the first touched run and how many there are, of valid ends, and where the slice begins and ends; all 0 where it is empty
+unfoldable pub touchedBy : ℤ → ℤ → List ℤ → TouchedRuns
+touchedBy start end es =
+    let x = magnitude start in
+    let y = min (magnitude end) (magnitude (lengthOfEnds es)) in
+    let first = firstEndAbove (pos x) es in
+    cond (ltb x y)
+    (record { first = first; count = firstEndAtLeast (pos y) (drop first es) + 1; start = pos x; end = pos y })
+    (record { first = 0; count = 0; start = pos 0; end = pos 0 })

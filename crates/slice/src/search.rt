@@ -1,0 +1,110 @@
+// Searches in ends. Where ends are not valid they end all the same, somewhere inside.
+use column::sequence;
+ghost use Prim.Native.Nat.{_+_, _≤_, _<_, _^_};
+ghost use mathlib.Core.Bool.{false, cond};
+ghost use mathlib.Core.Option.{none};
+ghost use mathlib.Core.Path.{_≡_};
+ghost use lib.ListN.{length};
+ghost use lib.Dec.{eqb};
+ghost use lib.IntN.{pos};
+ghost use lib.Signed.{ltZ};
+ghost use Rattle.column.specs.Questions.{endsValid};
+ghost use Rattle.slice.specs.Search.{firstEndAbove, firstEndAtLeast, touchedBy};
+
+// The least number of 64 bits whose top bit is set.
+const TOP: u64 = 0x8000_0000_0000_0000;
+
+// 1 if the end is above the position, else 0, where neither is negative: the top bit of their difference. A test of the two becomes a
+// branch, which half of the steps of a search would mispredict.
+fn is_above(end: i64, position: u64) -> usize
+    ensures { λ r. ⌜ (r ≤ 1) × (ltZ end (pos 0) ≡ false → position < 2 ^ 63 → r ≡ cond (ltZ (pos position) end) 1 0) ⌝ }
+{
+    let difference = std::num::wrapping_sub_u64(position, num::as_unsigned(end));
+    (difference / TOP) as usize
+}
+
+// Where the search goes on: `step` further, unless the end there is above the position. Nothing is left of a step that is shifted by 63; a
+// product or a choice would become a branch again.
+fn low_after(low: usize, step: usize, above: usize) -> usize
+    requires { ⌜ (above ≤ 1) × (low + step < 2 ^ 63) ⌝ }
+    ensures { λ r. ⌜ r ≡ cond (eqb above 0) (low + step) low ⌝ }
+{
+    low + (step >> (above * 63))
+}
+
+// The lowest index of an end above a position, or how many ends there are. Of `size` ends the half is left either way, so that nothing
+// but the number of ends decides how many steps there are. Valid ends are above every negative position.
+pub fn first_end_above(ends: &[i64], position: i64) -> usize
+    ensures { λ r. ⌜ (r ≤ length (now (ends .entry))) × (endsValid (now (ends .entry)) ≡ none → r ≡ firstEndAbove position (now (ends .entry))) ⌝ }
+{
+    if position < 0 {
+        return 0;
+    }
+    let bits = position as u64;
+    let mut low: usize = 0;
+    let mut size = ends.len();
+    while 0 < size {
+        let step = size - size / 2;
+        let end = ends[low + step - 1];
+        low = low_after(low, step, is_above(end, bits));
+        size /= 2;
+    }
+    low
+}
+
+// The lowest index of an end at or above a position, or how many ends there are; valid ends are above 0.
+pub fn first_end_at_least(ends: &[i64], position: i64) -> usize
+    ensures { λ r. ⌜ (r ≤ length (now (ends .entry))) × (endsValid (now (ends .entry)) ≡ none → r ≡ firstEndAtLeast position (now (ends .entry))) ⌝ }
+{
+    if position <= 0 {
+        return 0;
+    }
+    first_end_above(ends, position - 1)
+}
+
+// The same, by an exponential search: the end is looked for among twice as many until they have it, since a slice mostly touches few runs.
+fn exponential_search(ends: &[i64], position: i64) -> usize
+    ensures { λ r. ⌜ (r ≤ length (now (ends .entry))) × (endsValid (now (ends .entry)) ≡ none → r ≡ firstEndAtLeast position (now (ends .entry))) ⌝ }
+{
+    let mut size: usize = 1;
+    while size < ends.len() {
+        let end = ends[size - 1];
+        if position <= end {
+            return first_end_at_least(&ends[..size], position);
+        }
+        size *= 2;
+    }
+    first_end_at_least(ends, position)
+}
+
+// The runs that a slice touches, and the slice as clamped: all 0 where it is empty.
+pub struct TouchedRuns {
+    pub first: usize,
+    pub count: usize,
+    pub start: i64,
+    pub end: i64,
+}
+
+// The last of them is looked for behind the first.
+pub fn touched(ends: &[i64], start: i64, end: i64) -> TouchedRuns
+    ensures { λ r. ⌜ (endsValid (now (ends .entry)) ≡ none → r ≡ touchedBy start end (now (ends .entry))) ⌝ }
+{
+    let from = num::larger(start, 0);
+    let to = num::smaller(end, sequence::length(ends));
+    if to <= from {
+        return TouchedRuns {
+            first: 0,
+            count: 0,
+            start: 0,
+            end: 0,
+        };
+    }
+    let first = first_end_above(ends, from);
+    let count = exponential_search(&ends[first..], to) + 1;
+    TouchedRuns {
+        first,
+        count,
+        start: from,
+        end: to,
+    }
+}
