@@ -1,0 +1,3 @@
+-- The calls of merge.rs; to be read after column's definitions.
+pub mod Merge
+pub mod Workers

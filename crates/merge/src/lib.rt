@@ -1,0 +1,191 @@
+pub mod inner;
+
+use column::answer::Asked;
+use column::answer::Counted;
+use column::questions;
+ghost use mathlib.Core.List.{[], _∷_};
+ghost use mathlib.Core.Path.{_≡_};
+ghost use lib.ListN.{length};
+ghost use Rattle.column.specs.Asking.{shownAsked};
+ghost use Rattle.column.specs.Paper.{WritesRuns, WritesEntries};
+ghost use Rattle.column.specs.Runs.{sequence};
+ghost use Rattle.merge.specs.Merge.{WritesGroups};
+ghost use Rattle.merge.specs.Merge as calls;
+
+// A sequence with neighbouring runs of one value made one run.
+pub fn merged(ends: &[i64], values: &[i64], out_ends: &mut [i64], out_values: &mut [i64]) -> Counted
+    ensures { λ r. ⌜ WritesRuns
+        (calls.merged (sequence (now (ends .entry)) (now (values .entry))) (length (now («out_ends» .entry)) ∷ length (now («out_values» .entry)) ∷ [])) r
+        (now («out_ends» .entry)) (now («out_ends» .exit)) (now («out_values» .entry)) (now («out_values» .exit)) ⌝ }
+{
+    let asked = questions::ask_sequence_into(
+        ends,
+        values,
+        ends.len(),
+        out_ends.len(),
+        out_values.len(),
+    );
+    match asked {
+        Asked::Yes => {
+            let n = inner::merged(ends, values, out_ends, out_values);
+            Counted::Count(n)
+        }
+        Asked::No(r) => Counted::Refused(r),
+    }
+}
+
+// The same: the Rust's has its result in place of the sequence.
+pub fn merge(ends: &[i64], values: &[i64], out_ends: &mut [i64], out_values: &mut [i64]) -> Counted
+    ensures { λ r. ⌜ WritesRuns
+        (calls.merged (sequence (now (ends .entry)) (now (values .entry))) (length (now («out_ends» .entry)) ∷ length (now («out_values» .entry)) ∷ [])) r
+        (now («out_ends» .entry)) (now («out_ends» .exit)) (now («out_values» .entry)) (now («out_values» .exit)) ⌝ }
+{
+    merged(ends, values, out_ends, out_values)
+}
+
+// What 6 of 2.
+fn ask_mask_length(mask: &[u8], ends: &[i64]) -> Asked
+    ensures { λ r. ⌜ shownAsked r ≡ calls.maskAgrees (now (mask .entry)) (now (ends .entry)) ⌝ }
+{
+    if ends.len() == 0 {
+        questions::ask_lengths(6, mask.len(), 0)
+    } else {
+        questions::ask_lengths(6, mask.len(), ends.len() - 1)
+    }
+}
+
+fn merge_mask_asks(
+    ends: &[i64],
+    values: &[i64],
+    mask: &[u8],
+    keep: u8,
+    out_ends: usize,
+    out_values: usize,
+) -> Asked
+    ensures { λ r. ⌜ shownAsked r ≡ calls.mergeMaskAsked (sequence (now (ends .entry)) (now (values .entry))) (now (mask .entry)) keep («out_ends» ∷ «out_values» ∷ []) ⌝ }
+{
+    let room = questions::ask_both(ends.len(), out_ends, out_values);
+    let valid = questions::first_no(questions::ask_ends(ends), room);
+    let masked = questions::first_no(ask_mask_length(mask, ends), valid);
+    let paired = questions::first_no(questions::ask_lengths(3, ends.len(), values.len()), masked);
+    let listed = questions::first_no(questions::ask_mask(mask), paired);
+    questions::first_no(questions::ask_code(0, 1, keep), listed)
+}
+
+// A run for each group that a mask makes, with the value of its first or of its last run.
+pub fn merge_mask(
+    ends: &[i64],
+    values: &[i64],
+    mask: &[u8],
+    keep: u8,
+    out_ends: &mut [i64],
+    out_values: &mut [i64],
+) -> Counted
+    ensures { λ r. ⌜ WritesRuns
+        (calls.mergeMask (sequence (now (ends .entry)) (now (values .entry))) (now (mask .entry)) keep (length (now («out_ends» .entry)) ∷ length (now («out_values» .entry)) ∷ [])) r
+        (now («out_ends» .entry)) (now («out_ends» .exit)) (now («out_values» .entry)) (now («out_values» .exit)) ⌝ }
+{
+    let asked = merge_mask_asks(ends, values, mask, keep, out_ends.len(), out_values.len());
+    match asked {
+        Asked::Yes => {
+            let n = inner::merge_mask(ends, values, mask, keep, out_ends, out_values);
+            Counted::Count(n)
+        }
+        Asked::No(r) => Counted::Refused(r),
+    }
+}
+
+fn merge_by_asks(
+    ends: &[i64],
+    values: &[i64],
+    code: u8,
+    out_ends: usize,
+    out_values: usize,
+) -> Asked
+    ensures { λ r. ⌜ shownAsked r ≡ calls.mergeByAsked (sequence (now (ends .entry)) (now (values .entry))) code («out_ends» ∷ «out_values» ∷ []) ⌝ }
+{
+    questions::first_no(
+        questions::ask_code(7, 8, code),
+        questions::ask_sequence_into(ends, values, ends.len(), out_ends, out_values),
+    )
+}
+
+// A run for each group of neighbours of which the operation holds, with the value of its first run.
+pub fn merge_by(
+    ends: &[i64],
+    values: &[i64],
+    code: u8,
+    out_ends: &mut [i64],
+    out_values: &mut [i64],
+) -> Counted
+    ensures { λ r. ⌜ WritesRuns
+        (calls.mergeBy (sequence (now (ends .entry)) (now (values .entry))) code (length (now («out_ends» .entry)) ∷ length (now («out_values» .entry)) ∷ [])) r
+        (now («out_ends» .entry)) (now («out_ends» .exit)) (now («out_values» .entry)) (now («out_values» .exit)) ⌝ }
+{
+    let asked = merge_by_asks(ends, values, code, out_ends.len(), out_values.len());
+    match asked {
+        Asked::Yes => {
+            let n = inner::merge_by(ends, values, code, out_ends, out_values);
+            Counted::Count(n)
+        }
+        Asked::No(r) => Counted::Refused(r),
+    }
+}
+
+fn merge_plan_asks(ends: &[i64], mask: &[u8], out_ends: usize, out_offsets: usize) -> Asked
+    ensures { λ r. ⌜ shownAsked r ≡ calls.mergePlanAsked (now (ends .entry)) (now (mask .entry)) («out_ends» ∷ «out_offsets» ∷ []) ⌝ }
+{
+    let room = questions::first_no(
+        questions::ask_room(0, ends.len(), out_ends),
+        questions::ask_room(1, ends.len() + 1, out_offsets),
+    );
+    let valid = questions::first_no(questions::ask_ends(ends), room);
+    let masked = questions::first_no(ask_mask_length(mask, ends), valid);
+    questions::first_no(questions::ask_mask(mask), masked)
+}
+
+// The groups that a mask makes: the end of each, and which runs it has.
+pub fn merge_plan(
+    ends: &[i64],
+    mask: &[u8],
+    out_ends: &mut [i64],
+    out_offsets: &mut [usize],
+) -> Counted
+    ensures { λ r. ⌜ WritesGroups
+        (calls.mergePlan (now (ends .entry)) (now (mask .entry)) (length (now («out_ends» .entry)) ∷ length (now («out_offsets» .entry)) ∷ [])) r
+        (now («out_ends» .entry)) (now («out_ends» .exit)) (now («out_offsets» .entry)) (now («out_offsets» .exit)) ⌝ }
+{
+    let asked = merge_plan_asks(ends, mask, out_ends.len(), out_offsets.len());
+    match asked {
+        Asked::Yes => {
+            let n = inner::merge_plan(ends, mask, out_ends, out_offsets);
+            Counted::Count(n)
+        }
+        Asked::No(r) => Counted::Refused(r),
+    }
+}
+
+fn group_ids_asks(offsets: &[usize], out_ids: usize) -> Asked
+    ensures { λ r. ⌜ shownAsked r ≡ calls.groupIdsAsked (now (offsets .entry)) («out_ids» ∷ []) ⌝ }
+{
+    questions::first_no(
+        questions::ask_offsets_rise(offsets),
+        questions::ask_room(0, questions::last_offset(offsets), out_ids),
+    )
+}
+
+// The group of each run.
+pub fn group_ids(offsets: &[usize], out_ids: &mut [usize]) -> Counted
+    ensures { λ r. ⌜ WritesEntries
+        (calls.groupIds (now (offsets .entry)) (length (now («out_ids» .entry)) ∷ [])) r
+        (now («out_ids» .entry)) (now («out_ids» .exit)) ⌝ }
+{
+    let asked = group_ids_asks(offsets, out_ids.len());
+    match asked {
+        Asked::Yes => {
+            let n = inner::group_ids(offsets, out_ids);
+            Counted::Count(n)
+        }
+        Asked::No(r) => Counted::Refused(r),
+    }
+}
