@@ -1,0 +1,110 @@
+use Prim.Native.Nat.{_-_}
+use mathlib.Core.Path.{_∙_}
+use native.Mathlib.Omega.{arith}
+use lib.ListN.{length}
+use Rattle.num.proofs.Bits.{back}
+use Rattle.transform.proofs.Joining.{Joining, join-none, join-start, join-appendable, join-fits, join-next, join-end}
+use borrow.Author.Needs.{needs}
+use Rattle.transform.proofs.inner.concat.Statement.{statement}
+use Rattle.transform.proofs.inner.concat.Tie as tie
+
+abbrev Inv-loop : tie.InvT-loop
+Inv-loop offsets ends values out-ends₀ out-values₀ first writer₀ offset₀ k₀ out-ends out-values writer offset k = Joining offsets ends values out-ends₀ out-values₀ out-ends out-values writer offset k
+
+abbrev μ-loop : tie.MeasureT-loop
+μ-loop offsets ends values out-ends₀ out-values₀ first writer₀ offset₀ k₀ out-ends out-values writer offset k = length offsets - k
+
+returns : tie.Need-returns Inv-loop μ-loop
+returns c = join-none _ _ _ _ _ (c .if1 .taken)
+
+shared-slice-copy-out-first : tie.Need-shared-slice-copy-out-first Inv-loop μ-loop
+shared-slice-copy-out-first c = let s = c .before .before in omega (arith, c .if1 .left, s .pre .paired)
+
+loop-holds : tie.Need-loop-holds Inv-loop μ-loop
+loop-holds c = let s = c .before .before .before in join-start _ _ _ _ _ (s .pre) (back _ (c .first .given))
+
+add-loop : tie.Need-add-loop Inv-loop μ-loop
+add-loop c = search needs
+
+mul-from : tie.Need-mul-from Inv-loop μ-loop
+mul-from c = search needs
+
+shared-slice-read-from : tie.Need-shared-slice-read-from Inv-loop μ-loop
+shared-slice-read-from c = search needs
+
+add-to : tie.Need-add-to Inv-loop μ-loop
+add-to c = search needs
+
+mul-to : tie.Need-mul-to Inv-loop μ-loop
+mul-to c = search needs
+
+shared-slice-read-to : tie.Need-shared-slice-read-to Inv-loop μ-loop
+shared-slice-read-to c = search needs
+
+part-requires : tie.Need-part-requires Inv-loop μ-loop
+part-requires c κs = search needs
+
+part-requires-2 : tie.Need-part-requires-2 Inv-loop μ-loop
+part-requires-2 c κs = search needs
+
+append-merged-requires : tie.Need-append-merged-requires Inv-loop μ-loop
+append-merged-requires c κs = let s = c .before .before .before .before .before .before .before .before .before .before .before in let l = c .before .before .before .before .before .before .before in let t = c .before .before .before .before .before .before in join-appendable _ _ _ _ _ (s .pre) (l .loop .inv) (t .loop-test .taken) (c .before .before .before .part .ensures) (c .before .before .part2 .ensures)
+
+length-requires : tie.Need-length-requires Inv-loop μ-loop
+length-requires c κs = search needs
+
+magnitude-requires : tie.Need-magnitude-requires Inv-loop μ-loop
+magnitude-requires c κs = search needs
+
+add-offset : tie.Need-add-offset Inv-loop μ-loop
+add-offset c = let s = c .before .before .before .before .before .before .before .before .before .before .before .before .before .before .before .before in let l = c .before .before .before .before .before .before .before .before .before .before .before .before in let t = c .before .before .before .before .before .before .before .before .before .before .before in omega (arith, join-fits _ _ _ _ _ (s .pre) (l .loop .inv) (t .loop-test .taken) (c .before .before .before .before .before .before .before .before .part .ensures) (c .before .before .before .before .before .before .before .part2 .ensures) (c .magnitude .ensures) (back _ (c .before .length .ok) ∙ c .before .length .ensures))
+
+add-k : tie.Need-add-k Inv-loop μ-loop
+add-k c = search needs
+
+loop-less : tie.Need-loop-less Inv-loop μ-loop
+loop-less c = search needs
+
+loop-again : tie.Need-loop-again Inv-loop μ-loop
+loop-again c = let s = c .before .before .before .before .before .before .before .before .before .before .before .before .before .before .before .before in let l = c .before .before .before .before .before .before .before .before .before .before .before .before in let t = c .before .before .before .before .before .before .before .before .before .before .before in join-next _ _ _ _ _ (s .pre) (l .loop .inv) (t .loop-test .taken) (c .before .before .before .before .before .before .before .before .part .ensures) (c .before .before .before .before .before .before .before .part2 .ensures) (c .before .before .before .before .append-merged .ensures) (c .magnitude .ensures) (back _ (c .before .length .ok) ∙ c .before .length .ensures)
+
+add-result : tie.Need-add-result Inv-loop μ-loop
+add-result c = let i = c .before .before .loop .inv in omega (arith, i .few, i .entries, i .fitting, i .merging .at-last)
+
+same-length : tie.Need-same-length Inv-loop μ-loop
+same-length c = c .before .before .loop .inv .merging .long-ends
+
+same-length-2 : tie.Need-same-length-2 Inv-loop μ-loop
+same-length-2 c = c .before .before .loop .inv .merging .long-values
+
+returns-2 : tie.Need-returns-2 Inv-loop μ-loop
+returns-2 c = let s = c .before .before .before .before .before .before in let l = c .before .before in join-end _ _ _ _ _ (s .pre) (l .loop .inv) (c .before .loop-test .left) (c .before .before .before .before .if1 .left)
+
+pub concat-spec : {M : Type 1} → statement M
+concat-spec =
+    tie.close
+    (tie.spec
+    Inv-loop
+    μ-loop
+    returns
+    shared-slice-copy-out-first
+    loop-holds
+    add-loop
+    mul-from
+    shared-slice-read-from
+    add-to
+    mul-to
+    shared-slice-read-to
+    part-requires
+    part-requires-2
+    append-merged-requires
+    length-requires
+    magnitude-requires
+    add-offset
+    add-k
+    loop-less
+    loop-again
+    add-result
+    same-length
+    same-length-2
+    returns-2)

@@ -1,0 +1,3 @@
+-- The calls of transform.rs; to be read after column's definitions.
+pub mod Transform
+pub mod Workers

@@ -1,0 +1,66 @@
+-- What the workers require and leave.
+use Prim.Native.Nat.{ℕ, _+_, _-_, _≤_, _<_, _^_}
+use mathlib.Core.Bool.{Bool, true, false, not, _&&_, cond}
+use mathlib.Core.Option.{none}
+use mathlib.Core.List.{List, _++_, map}
+use mathlib.Core.Path.{_≡_}
+use lib.IntN.{ℤ, pos}
+use lib.ListN.{length, getD, take, drop, replicate}
+use Rattle.num.specs.Numbers.{eqZ, operation}
+use Rattle.column.specs.Flat.{Flat, columns, offsetsFlat, endsFlat}
+use Rattle.column.specs.Lists.{any, total}
+use Rattle.column.specs.Questions.{endsValid}
+use Rattle.column.specs.Runs.{runsOf, lengthOf, over}
+use Rattle.transform.specs.Transform.{Range, rangeStarts, rangeEnds}
+use Rattle.transform.specs.declared.inner.Open.{Open}
+
+-- every question of concat answered "yes"
+pub record Joinable (f : Flat) (e v : List ℤ) : Type 0 where
+  pub paired : length (f .ends) ≡ length (f .values)
+  pub offsets : offsetsFlat f ≡ none
+  pub valid : endsFlat f ≡ none
+  pub fitting : total (map lengthOf (columns f)) < 2 ^ 63
+  pub room-ends : length (f .ends) ≤ length e
+  pub room-values : length (f .ends) ≤ length v
+
+-- ---- shift, by less than the length
+
+abbrev pub shiftedUp : ℕ → ℤ → List ℤ → List ℤ
+shiftedUp by fill xs = replicate by fill ++ take (length xs - by) xs
+
+abbrev pub shiftedDown : ℕ → ℤ → List ℤ → List ℤ
+shiftedDown by fill xs = drop by xs ++ replicate by fill
+
+-- a sequence of that length, and room for one run more
+pub record Shiftable (es vs : List ℤ) (by n : ℕ) (e v : List ℤ) : Type 0 where
+  pub valid : endsValid es ≡ none
+  pub paired : length es ≡ length vs
+  pub whole : n ≡ lengthOf (runsOf es vs)
+  pub short : by < n
+  pub fitting : n < 2 ^ 63
+  pub room-ends : length es + 1 ≤ length e
+  pub room-values : length es + 1 ≤ length v
+
+-- ---- ranges_where
+
+-- does a value pass
+abbrev pub passing : ℕ → ℤ → ℤ → Bool
+passing code number v = eqZ (operation code v number) (pos 1)
+
+-- the lowest index of a value that passes, or how many there are
+pub record FirstPassing (passes : ℤ → Bool) (vs : List ℤ) (r : ℕ) : Type 0 where
+  pub within : r ≤ length vs
+  pub before : any passes (take r vs) ≡ false
+  pub here : r < length vs → passes (getD vs r (pos 0)) ≡ true
+
+-- the last range, after one more run
+abbrev pub openAfter : Open → Bool → ℤ → ℤ → Open
+openAfter last passes start end =
+    let new = not (last .inside) && passes in
+    record { at = cond new (last .at + 1) (last .at); start = cond new start (last .start); end = cond passes end (last .end); inside = passes }
+
+-- ranges written into the front of two buffers, each before and after, and how many they are
+pub record FilledRanges (rs : List Range) (s s′ e e′ : List ℤ) (n : ℕ) : Type 0 where
+  pub count : n ≡ length rs
+  pub starts : s′ ≡ over (rangeStarts rs) s
+  pub ends : e′ ≡ over (rangeEnds rs) e

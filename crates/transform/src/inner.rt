@@ -1,0 +1,271 @@
+// Workers that assume what the calls have asked.
+use column::inner::Writer;
+use column::sequence;
+use slice::search;
+ghost use Prim.Native.Nat.{_+_, _≤_, _<_, _^_};
+ghost use mathlib.Core.Bool.{_&&_, not, cond};
+ghost use mathlib.Core.Option.{none};
+ghost use mathlib.Core.Path.{_≡_};
+ghost use lib.ListN.{length};
+ghost use Rattle.column.specs.Flat.{flat, columns};
+ghost use Rattle.column.specs.Questions.{endsValid};
+ghost use Rattle.column.specs.Runs.{runsOf, dense, encode, Filled};
+ghost use Rattle.transform.specs.Transform.{shown, shiftValues, reverseRuns, rangesOf};
+ghost use Rattle.transform.specs.Workers.{Joinable, Shiftable, shiftedUp, shiftedDown, passing, FirstPassing, openAfter, FilledRanges};
+
+// One sequence after another.
+pub fn concat(
+    offsets: &[usize],
+    ends: &[i64],
+    values: &[i64],
+    out_ends: &mut [i64],
+    out_values: &mut [i64],
+) -> usize
+    requires { ⌜ Joinable (flat (now offsets) (now ends) (now values)) (now «out_ends») (now «out_values») ⌝ }
+    ensures { λ r. ⌜ Filled (encode (shown (columns (flat (now (offsets .entry)) (now (ends .entry)) (now (values .entry))))))
+        (now («out_ends» .entry)) (now («out_ends» .exit)) (now («out_values» .entry)) (now («out_values» .exit)) r ⌝ }
+{
+    if ends.len() == 0 {
+        return 0;
+    }
+    let first = values[0];
+    let mut writer = Writer { at: 0, last: first };
+    let mut offset: usize = 0;
+    let mut k: usize = 0;
+    while k + 1 < offsets.len() {
+        let from = offsets[k];
+        let to = offsets[k + 1];
+        let part = sequence::part(ends, from, to);
+        let shown = sequence::part(values, from, to);
+        writer = column::inner::append_merged(writer, part, shown, 0, offset, out_ends, out_values);
+        offset += sequence::magnitude(sequence::length(part));
+        k += 1;
+    }
+    writer.at + 1
+}
+
+// The fill, and behind it what the runs show, up to the length.
+fn shift_up(
+    ends: &[i64],
+    values: &[i64],
+    by: usize,
+    length: usize,
+    fill: i64,
+    out_ends: &mut [i64],
+    out_values: &mut [i64],
+) -> usize
+    requires { ⌜ (0 < by) × Shiftable (now ends) (now values) by length (now «out_ends») (now «out_values») ⌝ }
+    ensures { λ r. ⌜ Filled (encode (shiftedUp by fill (dense (runsOf (now (ends .entry)) (now (values .entry))))))
+        (now («out_ends» .entry)) (now («out_ends» .exit)) (now («out_values» .entry)) (now («out_values» .exit)) r ⌝ }
+{
+    let filled = column::inner::push_merged(
+        Writer { at: 0, last: fill },
+        out_ends,
+        out_values,
+        by as i64,
+        fill,
+    );
+    let last = search::first_end_above(ends, (length - by - 1) as i64);
+    let whole = sequence::part(ends, 0, last);
+    let shown = sequence::part(values, 0, last);
+    let behind = column::inner::append_merged(filled, whole, shown, 0, by, out_ends, out_values);
+    let value = values[last];
+    let end = column::inner::push_merged(behind, out_ends, out_values, length as i64, value);
+    end.at + 1
+}
+
+// What the runs show from a position on, and behind it the fill, up to the length.
+fn shift_down(
+    ends: &[i64],
+    values: &[i64],
+    by: usize,
+    length: usize,
+    fill: i64,
+    out_ends: &mut [i64],
+    out_values: &mut [i64],
+) -> usize
+    requires { ⌜ Shiftable (now ends) (now values) by length (now «out_ends») (now «out_values») ⌝ }
+    ensures { λ r. ⌜ Filled (encode (shiftedDown by fill (dense (runsOf (now (ends .entry)) (now (values .entry))))))
+        (now («out_ends» .entry)) (now («out_ends» .exit)) (now («out_values» .entry)) (now («out_values» .exit)) r ⌝ }
+{
+    let first = search::first_end_above(ends, by as i64);
+    let value = values[first];
+    let left = sequence::part(ends, first, ends.len());
+    let shown = sequence::part(values, first, ends.len());
+    let writer = column::inner::append_merged(
+        Writer { at: 0, last: value },
+        left,
+        shown,
+        by,
+        0,
+        out_ends,
+        out_values,
+    );
+    if by == 0 {
+        return writer.at + 1;
+    }
+    let end = column::inner::push_merged(writer, out_ends, out_values, length as i64, fill);
+    end.at + 1
+}
+
+// A sequence moved by a distance.
+pub fn shift(
+    ends: &[i64],
+    values: &[i64],
+    distance: i64,
+    fill: i64,
+    out_ends: &mut [i64],
+    out_values: &mut [i64],
+) -> usize
+    requires { ⌜ (endsValid (now ends) ≡ none) × (length (now ends) ≡ length (now values)) × (length (now ends) + 1 ≤ length (now «out_ends»)) × (length (now ends) + 1 ≤ length (now «out_values»)) ⌝ }
+    ensures { λ r. ⌜ Filled (encode (shiftValues distance fill (dense (runsOf (now (ends .entry)) (now (values .entry))))))
+        (now («out_ends» .entry)) (now («out_ends» .exit)) (now («out_values» .entry)) (now («out_values» .exit)) r ⌝ }
+{
+    let length = sequence::magnitude(sequence::length(ends));
+    if length == 0 {
+        return 0;
+    }
+    let by = num::unsigned_abs(distance) as usize;
+    if length <= by {
+        let filled = column::inner::push_merged(
+            Writer { at: 0, last: fill },
+            out_ends,
+            out_values,
+            length as i64,
+            fill,
+        );
+        return filled.at + 1;
+    }
+    if 0 < distance {
+        shift_up(ends, values, by, length, fill, out_ends, out_values)
+    } else {
+        shift_down(ends, values, by, length, fill, out_ends, out_values)
+    }
+}
+
+// The entries from last to first, each end the distance from the run's start to the length.
+pub fn reversed(ends: &[i64], values: &[i64], out_ends: &mut [i64], out_values: &mut [i64]) -> usize
+    requires { ⌜ (endsValid (now ends) ≡ none) × (length (now ends) ≡ length (now values)) × (length (now ends) ≤ length (now «out_ends»)) × (length (now ends) ≤ length (now «out_values»)) ⌝ }
+    ensures { λ r. ⌜ Filled (reverseRuns (runsOf (now (ends .entry)) (now (values .entry))))
+        (now («out_ends» .entry)) (now («out_ends» .exit)) (now («out_values» .entry)) (now («out_values» .exit)) r ⌝ }
+{
+    let n = ends.len();
+    if n == 0 {
+        return 0;
+    }
+    let length = ends[n - 1];
+    let mut t: usize = 0;
+    while t + 1 < n {
+        let start = ends[n - 2 - t];
+        let value = values[n - 1 - t];
+        out_ends[t] = length - start;
+        out_values[t] = value;
+        t += 1;
+    }
+    out_ends[n - 1] = length;
+    out_values[n - 1] = values[0];
+    n
+}
+
+// The lowest index of a value that passes, or how many values there are.
+fn first_passing(values: &[i64], code: u8, number: i64) -> usize
+    requires { ⌜ (7 ≤ code) × (code ≤ 8) ⌝ }
+    ensures { λ r. ⌜ FirstPassing (passing code number) (now (values .entry)) r ⌝ }
+{
+    let mut i: usize = 0;
+    while i < values.len() {
+        if num::holds(code, values[i], number) {
+            return i;
+        }
+        i += 1;
+    }
+    i
+}
+
+// The last range so far, at its place, and whether the last run is in it.
+struct Open {
+    at: usize,
+    start: i64,
+    end: i64,
+    inside: bool,
+}
+
+fn begins(passes: bool, inside: bool) -> bool
+    ensures { λ r. ⌜ r ≡ not inside && passes ⌝ }
+{
+    if inside {
+        return false;
+    }
+    passes
+}
+
+fn place(begins: bool, at: usize) -> usize
+    requires { ⌜ at + 1 < 2 ^ 64 ⌝ }
+    ensures { λ r. ⌜ r ≡ cond begins (at + 1) at ⌝ }
+{
+    if begins { at + 1 } else { at }
+}
+
+fn choose(first: bool, x: i64, y: i64) -> i64
+    ensures { λ r. ⌜ r ≡ cond first x y ⌝ }
+{
+    if first { x } else { y }
+}
+
+// One more run, from `start` up to `end`: nothing but numbers is chosen, so that no branch has to be guessed.
+fn next_range(last: Open, passes: bool, start: i64, end: i64) -> Open
+    requires { ⌜ last .at + 1 < 2 ^ 64 ⌝ }
+    ensures { λ r. ⌜ r ≡ openAfter last passes start end ⌝ }
+{
+    let new = begins(passes, last.inside);
+    Open {
+        at: place(new, last.at),
+        start: choose(new, start, last.start),
+        end: choose(passes, end, last.end),
+        inside: passes,
+    }
+}
+
+// From the first run that passes on every run writes the last range, as it is then.
+pub fn ranges_where(
+    ends: &[i64],
+    values: &[i64],
+    code: u8,
+    number: i64,
+    out_starts: &mut [i64],
+    out_ends: &mut [i64],
+) -> usize
+    requires { ⌜ (7 ≤ code) × (code ≤ 8) × (endsValid (now ends) ≡ none) × (length (now ends) ≡ length (now values)) × (length (now ends) ≤ length (now «out_starts»)) × (length (now ends) ≤ length (now «out_ends»)) ⌝ }
+    ensures { λ r. ⌜ FilledRanges (rangesOf code number (runsOf (now (ends .entry)) (now (values .entry))))
+        (now («out_starts» .entry)) (now («out_starts» .exit)) (now («out_ends» .entry)) (now («out_ends» .exit)) r ⌝ }
+{
+    let first = first_passing(values, code, number);
+    if first == ends.len() {
+        return 0;
+    }
+    let start = sequence::end_before(ends, first);
+    let mut before = ends[first];
+    out_starts[0] = start;
+    out_ends[0] = before;
+    let mut last = Open {
+        at: 0,
+        start,
+        end: before,
+        inside: true,
+    };
+    let mut r = first + 1;
+    while r < ends.len() {
+        let end = ends[r];
+        let value = values[r];
+        let passes = num::holds(code, value, number);
+        last = next_range(last, passes, before, end);
+        let at = last.at;
+        let last_start = last.start;
+        let last_end = last.end;
+        out_starts[at] = last_start;
+        out_ends[at] = last_end;
+        before = end;
+        r += 1;
+    }
+    last.at + 1
+}

@@ -1,0 +1,163 @@
+pub mod inner;
+
+use column::answer::Asked;
+use column::answer::Counted;
+use column::questions;
+use column::sequence;
+ghost use mathlib.Core.List.{[], _∷_, map};
+ghost use mathlib.Core.Path.{_≡_};
+ghost use lib.ListN.{length};
+ghost use Rattle.num.specs.Numbers.{saturated};
+ghost use Rattle.column.specs.Asking.{shownAsked};
+ghost use Rattle.column.specs.Flat.{flat};
+ghost use Rattle.column.specs.Lists.{total, parts};
+ghost use Rattle.column.specs.Paper.{WritesRuns};
+ghost use Rattle.column.specs.Runs.{sequence, magnitude, lengthOfEnds};
+ghost use Rattle.transform.specs.Transform.{WritesRanges};
+ghost use Rattle.transform.specs.Transform as calls;
+
+// The lengths of all sequences together; at most usize::MAX is told.
+fn total_length(offsets: &[usize], ends: &[i64]) -> usize
+    ensures { λ r. ⌜ r ≡ saturated (total (map (λ es. magnitude (lengthOfEnds es)) (parts (now (offsets .entry)) (now (ends .entry))))) ⌝ }
+{
+    let mut total: usize = 0;
+    let mut k = 0;
+    while k + 1 < offsets.len() {
+        let from = offsets[k];
+        let to = offsets[k + 1];
+        let length = sequence::length(sequence::part(ends, from, to));
+        total = num::saturating_add(total, sequence::magnitude(length));
+        k += 1;
+    }
+    total
+}
+
+fn concat_asks(
+    offsets: &[usize],
+    ends: &[i64],
+    values: &[i64],
+    out_ends: usize,
+    out_values: usize,
+) -> Asked
+    ensures { λ r. ⌜ shownAsked r ≡ calls.concatAsked (flat (now (offsets .entry)) (now (ends .entry)) (now (values .entry))) («out_ends» ∷ «out_values» ∷ []) ⌝ }
+{
+    let room = questions::ask_both(ends.len(), out_ends, out_values);
+    let fit = questions::first_no(questions::ask_fits(total_length(offsets, ends)), room);
+    questions::first_no(questions::ask_flat(offsets, ends, values), fit)
+}
+
+// Sequences joined end to end, merged.
+pub fn concat(
+    offsets: &[usize],
+    ends: &[i64],
+    values: &[i64],
+    out_ends: &mut [i64],
+    out_values: &mut [i64],
+) -> Counted
+    ensures { λ r. ⌜ WritesRuns
+        (calls.concat (flat (now (offsets .entry)) (now (ends .entry)) (now (values .entry))) (length (now («out_ends» .entry)) ∷ length (now («out_values» .entry)) ∷ [])) r
+        (now («out_ends» .entry)) (now («out_ends» .exit)) (now («out_values» .entry)) (now («out_values» .exit)) ⌝ }
+{
+    let asked = concat_asks(offsets, ends, values, out_ends.len(), out_values.len());
+    match asked {
+        Asked::Yes => {
+            let n = inner::concat(offsets, ends, values, out_ends, out_values);
+            Counted::Count(n)
+        }
+        Asked::No(r) => Counted::Refused(r),
+    }
+}
+
+// A sequence moved by a distance, towards higher positions where it is positive, and merged; the fill stands where no value was moved to.
+pub fn shift(
+    ends: &[i64],
+    values: &[i64],
+    distance: i64,
+    fill: i64,
+    out_ends: &mut [i64],
+    out_values: &mut [i64],
+) -> Counted
+    ensures { λ r. ⌜ WritesRuns
+        (calls.shift (sequence (now (ends .entry)) (now (values .entry))) distance fill (length (now («out_ends» .entry)) ∷ length (now («out_values» .entry)) ∷ [])) r
+        (now («out_ends» .entry)) (now («out_ends» .exit)) (now («out_values» .entry)) (now («out_values» .exit)) ⌝ }
+{
+    let asked = questions::ask_sequence_into(
+        ends,
+        values,
+        ends.len() + 1,
+        out_ends.len(),
+        out_values.len(),
+    );
+    match asked {
+        Asked::Yes => {
+            let n = inner::shift(ends, values, distance, fill, out_ends, out_values);
+            Counted::Count(n)
+        }
+        Asked::No(r) => Counted::Refused(r),
+    }
+}
+
+// A sequence from its last position to its first, not merged.
+pub fn reversed(
+    ends: &[i64],
+    values: &[i64],
+    out_ends: &mut [i64],
+    out_values: &mut [i64],
+) -> Counted
+    ensures { λ r. ⌜ WritesRuns
+        (calls.reversed (sequence (now (ends .entry)) (now (values .entry))) (length (now («out_ends» .entry)) ∷ length (now («out_values» .entry)) ∷ [])) r
+        (now («out_ends» .entry)) (now («out_ends» .exit)) (now («out_values» .entry)) (now («out_values» .exit)) ⌝ }
+{
+    let asked = questions::ask_sequence_into(
+        ends,
+        values,
+        ends.len(),
+        out_ends.len(),
+        out_values.len(),
+    );
+    match asked {
+        Asked::Yes => {
+            let n = inner::reversed(ends, values, out_ends, out_values);
+            Counted::Count(n)
+        }
+        Asked::No(r) => Counted::Refused(r),
+    }
+}
+
+fn ranges_where_asks(
+    ends: &[i64],
+    values: &[i64],
+    code: u8,
+    out_starts: usize,
+    out_ends: usize,
+) -> Asked
+    ensures { λ r. ⌜ shownAsked r ≡ calls.rangesWhereAsked (sequence (now (ends .entry)) (now (values .entry))) code («out_starts» ∷ «out_ends» ∷ []) ⌝ }
+{
+    questions::first_no(
+        questions::ask_code(7, 8, code),
+        questions::ask_sequence_into(ends, values, ends.len(), out_starts, out_ends),
+    )
+}
+
+// The ranges of positions at which the value is equal to, or less than, a number; touching ranges are one.
+pub fn ranges_where(
+    ends: &[i64],
+    values: &[i64],
+    code: u8,
+    number: i64,
+    out_starts: &mut [i64],
+    out_ends: &mut [i64],
+) -> Counted
+    ensures { λ r. ⌜ WritesRanges
+        (calls.rangesWhere (sequence (now (ends .entry)) (now (values .entry))) code number (length (now («out_starts» .entry)) ∷ length (now («out_ends» .entry)) ∷ [])) r
+        (now («out_starts» .entry)) (now («out_starts» .exit)) (now («out_ends» .entry)) (now («out_ends» .exit)) ⌝ }
+{
+    let asked = ranges_where_asks(ends, values, code, out_starts.len(), out_ends.len());
+    match asked {
+        Asked::Yes => {
+            let n = inner::ranges_where(ends, values, code, number, out_starts, out_ends);
+            Counted::Count(n)
+        }
+        Asked::No(r) => Counted::Refused(r),
+    }
+}
