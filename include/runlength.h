@@ -8,8 +8,8 @@
  * and not null, even with no entries. A buffer that a call may write overlaps nothing else that the call is handed.
  *
  * Every call takes all inputs and ends. It answers, or it gives one refusal:
- * - With an answer all of the refusal is 0. The first `count` entries of each output buffer are filled, later ones keep what they
- *   held.
+ * - With an answer all of the refusal is 0. The first `count` entries of each output buffer are filled (as many as stand beside a
+ *   call with other counts), later ones keep what they held.
  * - With a refusal the count is 0 and nothing has been written.
  * A call puts its questions in the order that stands beside it; the first "no" is its refusal. */
 #ifndef RUNLENGTH_H
@@ -64,6 +64,34 @@ typedef struct {
     size_t segments; /* the entries of out_ends; 0 with a refusal */
     size_t indexes;  /* the entries of out_idx; 0 with a refusal */
 } rl_planned_many;
+
+/* What rl_run_index finds. */
+typedef struct {
+    rl_refusal refusal;
+    uint64_t found; /* 1 or 0; 0 with a refusal */
+    size_t index;   /* 0 where nothing is found */
+} rl_found;
+
+/* A view of a slice; all 0 for the view of nothing and with a refusal. */
+typedef struct {
+    rl_refusal refusal;
+    size_t first;   /* the first run */
+    int64_t start;  /* where the view starts, among the positions of the sequence */
+    int64_t length; /* how many positions it has */
+} rl_viewed;
+
+/* A part of a list: its first entry, and how many it has; both 0 for an empty part. */
+typedef struct {
+    size_t first;
+    size_t count;
+} rl_part;
+
+/* The counts of sequences laid flat. */
+typedef struct {
+    rl_refusal refusal;
+    size_t keys; /* the sequences, one fewer than the entries of out_offsets; 0 with a refusal */
+    size_t runs; /* the entries of out_ends and of out_values; 0 with a refusal */
+} rl_batched;
 
 /* The value that stands where a column has ended. */
 typedef struct {
@@ -189,6 +217,99 @@ rl_planned_many rl_plan_many(const size_t *offsets, size_t offsets_len, const in
 rl_counted rl_zip_many(const size_t *offsets, size_t offsets_len, const int64_t *ends, size_t ends_len, const int64_t *values,
                        size_t values_len, rl_fill fill, uint8_t code, int64_t *out_ends, size_t out_ends_len, int64_t *out_values,
                        size_t out_values_len);
+
+/* slice.rs. A slice has the positions of a sequence from `start` up to `end`, not included, after `start` has been raised to 0 and
+ * `end` lowered to the length; it has none where `start` is not below `end` then. Its runs are those that it touches: their ends
+ * less `start`, the last one's at `end` less `start`, and their values. Neighbours are not merged. */
+
+/* The index of the run that covers a position. Nothing is found exactly where the position is below 0 or not below the length.
+ * Writes nothing.
+ * Refuses: 4. */
+rl_found rl_run_index(const int64_t *ends, size_t ends_len, int64_t pos);
+
+/* A slice. The count is the number of its runs.
+ * Refuses: 2 (what 3); 4; 12: each output needs as many entries as the slice has runs. */
+rl_counted rl_slice(const int64_t *ends, size_t ends_len, const int64_t *values, size_t values_len, int64_t start, int64_t end,
+                    int64_t *out_ends, size_t out_ends_len, int64_t *out_values, size_t out_values_len);
+
+/* A view of a slice: the first run that it touches, its start and its length. Writes nothing.
+ * Refuses: 2 (what 3); 4. */
+rl_viewed rl_slice_view(const int64_t *ends, size_t ends_len, const int64_t *values, size_t values_len, int64_t start, int64_t end);
+
+/* The part of `values` that a view has: one for each run that it touches, none where rl_slice_view refuses. Writes nothing. */
+rl_part rl_slice_view_values(const int64_t *ends, size_t ends_len, const int64_t *values, size_t values_len, int64_t start,
+                             int64_t end);
+
+/* The slices of one sequence from starts[k] up to stops[k], laid flat: slice k has the entries of out_ends and out_values from
+ * out_offsets[k] up to out_offsets[k + 1], not included.
+ * Refuses: 2 (what 3, then 8); 4; 9: the lowest index of an interval that is not 0 <= start <= end; 12: out_offsets needs
+ * starts_len + 1 entries, out_ends and out_values as many as all slices have runs (at most 2^64 - 1 is shown). */
+rl_batched rl_getitems(const int64_t *ends, size_t ends_len, const int64_t *values, size_t values_len, const int64_t *starts,
+                       size_t starts_len, const int64_t *stops, size_t stops_len, size_t *out_offsets, size_t out_offsets_len,
+                       int64_t *out_ends, size_t out_ends_len, int64_t *out_values, size_t out_values_len);
+
+/* transform.rs */
+
+/* The merged sequence that shows what any number of sequences show, one after the other. They are laid flat as for rl_plan_many.
+ * The count is the number of its runs.
+ * Refuses: 2 (what 3), 3 and 4 as rl_plan_many; 7 where the sum of their lengths leaves int64_t; 12: each output needs ends_len
+ * entries. */
+rl_counted rl_concat(const size_t *offsets, size_t offsets_len, const int64_t *ends, size_t ends_len, const int64_t *values,
+                     size_t values_len, int64_t *out_ends, size_t out_ends_len, int64_t *out_values, size_t out_values_len);
+
+/* The merged sequence of the same length that shows each value `distance` positions higher, or lower where that is negative; `fill`
+ * stands where no value has come to. The count is the number of its runs.
+ * Refuses: 2 (what 3); 4; 12: each output needs ends_len + 1 entries. */
+rl_counted rl_shift(const int64_t *ends, size_t ends_len, const int64_t *values, size_t values_len, int64_t distance, int64_t fill,
+                    int64_t *out_ends, size_t out_ends_len, int64_t *out_values, size_t out_values_len);
+
+/* The sequence from its last position to its first; neighbours are not merged. The count is the number of its runs.
+ * Refuses: 2 (what 3); 4; 12: each output needs ends_len entries. */
+rl_counted rl_reversed(const int64_t *ends, size_t ends_len, const int64_t *values, size_t values_len, int64_t *out_ends,
+                       size_t out_ends_len, int64_t *out_values, size_t out_values_len);
+
+/* The ranges of positions whose value is equal to `number` (code 7) or less than it (code 8): where each starts and where it ends,
+ * not included. Ranges that touch are one. The count is the number of ranges.
+ * Refuses: 1 where the code is not 7 or 8; 2 (what 3); 4; 12: each output needs ends_len entries. */
+rl_counted rl_ranges_where(const int64_t *ends, size_t ends_len, const int64_t *values, size_t values_len, uint8_t code,
+                           int64_t number, int64_t *out_starts, size_t out_starts_len, int64_t *out_ends, size_t out_ends_len);
+
+/* merge.rs. Runs are put into groups, each of neighbours, and a result has a run for each group, with the end of the group's last
+ * run. The sequence that is handed in stays as it is. */
+
+/* The merged sequence that shows the same: neighbours of equal value are one group. The count is the number of groups. Both calls
+ * are the same.
+ * Refuses: 2 (what 3); 4; 12: each output needs ends_len entries. */
+rl_counted rl_merge(const int64_t *ends, size_t ends_len, const int64_t *values, size_t values_len, int64_t *out_ends,
+                    size_t out_ends_len, int64_t *out_values, size_t out_values_len);
+rl_counted rl_merged(const int64_t *ends, size_t ends_len, const int64_t *values, size_t values_len, int64_t *out_ends,
+                     size_t out_ends_len, int64_t *out_values, size_t out_values_len);
+
+/* Run r + 1 is in the group of run r where mask[r] is 1. A group has the value of its first run (keep 0) or of its last (keep 1);
+ * equal neighbours are not merged. The count is the number of groups.
+ * Refuses: 1 where keep is not 0 or 1, then of the first mask byte that is not; 2 (what 3, then 6); 4; 12: each output needs
+ * ends_len entries. */
+rl_counted rl_merge_mask(const int64_t *ends, size_t ends_len, const int64_t *values, size_t values_len, const uint8_t *mask,
+                         size_t mask_len, uint8_t keep, int64_t *out_ends, size_t out_ends_len, int64_t *out_values,
+                         size_t out_values_len);
+
+/* Run r + 1 is in the group of run r where values[r] is equal to values[r + 1] (code 7) or less than it (code 8). A group has the
+ * value of its first run. The count is the number of groups.
+ * Refuses: 1 where the code is not 7 or 8; 2 (what 3); 4; 12: each output needs ends_len entries. */
+rl_counted rl_merge_by(const int64_t *ends, size_t ends_len, const int64_t *values, size_t values_len, uint8_t code,
+                       int64_t *out_ends, size_t out_ends_len, int64_t *out_values, size_t out_values_len);
+
+/* The groups of rl_merge_mask: the end of each, and offsets, group g having the runs from out_offsets[g] up to out_offsets[g + 1],
+ * not included. The count is the number of groups; out_offsets is filled with one entry more.
+ * Refuses: 1 of the first mask byte that is not 0 or 1; 2 (what 6); 4; 12: out_ends needs ends_len entries, out_offsets
+ * ends_len + 1. */
+rl_counted rl_merge_plan(const int64_t *ends, size_t ends_len, const uint8_t *mask, size_t mask_len, int64_t *out_ends,
+                         size_t out_ends_len, size_t *out_offsets, size_t out_offsets_len);
+
+/* The group of each run, of groups with these offsets. The count is the number of runs, which is the last offset.
+ * Refuses: 3 where there are no offsets, or they do not start at 0 or fall; 12: the output needs as many entries as the last
+ * offset says. */
+rl_counted rl_group_ids(const size_t *offsets, size_t offsets_len, size_t *out_ids, size_t out_ids_len);
 
 #ifdef __cplusplus
 }

@@ -4,15 +4,18 @@ use Prim.Native.Nat.{ℕ, _<_, _^_}
 use mathlib.Core.Path.{_≡_, refl, sym, ap, ap₂, _∙_}
 use mathlib.Core.Bool.{false}
 use lib.Dec.{eqb}
-use lib.IntN.{ℤ}
+use lib.IntN.{ℤ, pos}
 use lib.Signed.{mag}
 use mir.Syntax.{w64}
 use mir.Val.{toZ, ofZ}
 use Rattle.num.specs.Numbers.{residue, signed, wrap}
 use Rattle.num.proofs.Bits.{back}
 use Rattle.num.proofs.Wrap.{wrap-same}
+use Rattle.column.specs.declared.answer.Batched.{Batched}
 use Rattle.column.specs.declared.answer.Checked.{Checked}
 use Rattle.column.specs.declared.answer.Counted.{Counted}
+use Rattle.column.specs.declared.answer.Found.{Found}
+use Rattle.column.specs.declared.answer.RleBatch.{RleBatch}
 use Rattle.column.specs.declared.error.Error.{Error}
 use Rattle.column.specs.declared.error.Error.the-variants.{UnknownCode, LengthMismatch, InvalidOffsets, InvalidEnds, TooMany, NegativeRun, Overflow, DuplicateKey, InvalidInterval, UnequalLength, LengthTooShort, ShortBuffer}
 use Rattle.column.specs.declared.error.InKey.{InKey}
@@ -21,11 +24,16 @@ use Rattle.column.specs.declared.error.Refusal.{Refusal}
 use Rattle.column.specs.Paper.{numberOf}
 use Rattle.many.specs.declared.PlannedMany.{PlannedMany}
 use Rattle.rle.specs.declared.Equality.{Equality}
+use Rattle.slice.specs.declared.View.{View}
+use Rattle.slice.specs.declared.Viewed.{Viewed}
+use Rattle.runlength.specs.declared.RlBatched.{RlBatched}
 use Rattle.runlength.specs.declared.RlCounted.{RlCounted}
 use Rattle.runlength.specs.declared.RlEquality.{RlEquality}
+use Rattle.runlength.specs.declared.RlFound.{RlFound}
 use Rattle.runlength.specs.declared.RlPlannedMany.{RlPlannedMany}
 use Rattle.runlength.specs.declared.RlRefusal.{RlRefusal}
-use Rattle.runlength.specs.Reading.{readError, readInKey, readRefusal, readChecked, readCounted, readEquality, readPlannedMany, bitsAt, carried, placeOf, fields, laidRefusal, laidChecked, laidCounted, laidEquality, laidPlannedMany}
+use Rattle.runlength.specs.declared.RlViewed.{RlViewed}
+use Rattle.runlength.specs.Reading.{readError, readInKey, readRefusal, readChecked, readCounted, readEquality, readFound, readViewed, readBatched, readPlannedMany, bitsAt, carried, placeOf, fields, laidRefusal, laidChecked, laidCounted, laidEquality, laidFound, laidViewed, laidBatched, laidPlannedMany}
 
 -- the bits of an i64, as `as_unsigned` tells them, out of which it is read
 pub signed-told : (z : ℤ) {u : ℕ} → mag z < 2 ^ 63 → u ≡ residue (toZ w64 (ofZ w64 z)) → (u ≡ residue z) × (signed u ≡ z)
@@ -69,6 +77,15 @@ counted x n = record { refusal = x; count = n }
 abbrev equality : RlRefusal → ℕ → RlEquality
 equality x n = record { refusal = x; equal = n }
 
+abbrev found : RlRefusal → ℕ → ℕ → RlFound
+found x n i = record { refusal = x; found = n; index = i }
+
+abbrev viewed : RlRefusal → ℕ → ℤ → ℤ → RlViewed
+viewed x n s l = record { refusal = x; first = n; start = s; length = l }
+
+abbrev batched : RlRefusal → ℕ → ℕ → RlBatched
+batched x n m = record { refusal = x; keys = n; runs = m }
+
 abbrev planned : RlRefusal → ℕ → ℕ → RlPlannedMany
 planned x n m = record { refusal = x; segments = n; indexes = m }
 
@@ -85,6 +102,15 @@ module _ {r : Refusal} {x : RlRefusal} (again : readRefusal x ≡ r) (laid : x �
   pub equality-refused : {c : Equality} → c ≡ Equality.Refused r → (readEquality (equality x 0) ≡ c) × (equality x 0 ≡ laidEquality c)
   equality-refused e = rw (e, refused) (ap Equality.Refused again, ap (λ (y : RlRefusal). equality y 0) laid)
 
+  pub found-refused : {c : Found} → c ≡ Found.Refused r → (readFound (found x 0 0) ≡ c) × (found x 0 0 ≡ laidFound c)
+  found-refused e = rw (e, refused) (ap Found.Refused again, ap (λ (y : RlRefusal). found y 0 0) laid)
+
+  pub viewed-refused : {c : Viewed} → c ≡ Viewed.Refused r → (readViewed (viewed x 0 (pos 0) (pos 0)) ≡ c) × (viewed x 0 (pos 0) (pos 0) ≡ laidViewed c)
+  viewed-refused e = rw (e, refused) (ap Viewed.Refused again, ap (λ (y : RlRefusal). viewed y 0 (pos 0) (pos 0)) laid)
+
+  pub batched-refused : {c : Batched} → c ≡ Batched.Refused r → (readBatched (batched x 0 0) ≡ c) × (batched x 0 0 ≡ laidBatched c)
+  batched-refused e = rw (e, refused) (ap Batched.Refused again, ap (λ (y : RlRefusal). batched y 0 0) laid)
+
   pub planned-refused : {c : PlannedMany} → c ≡ PlannedMany.Refused r → (readPlannedMany (planned x 0 0) ≡ c) × (planned x 0 0 ≡ laidPlannedMany c)
   planned-refused e = rw (e, refused) (ap PlannedMany.Refused again, ap (λ (y : RlRefusal). planned y 0 0) laid)
 
@@ -100,6 +126,19 @@ module _ {x : RlRefusal} (laid : x ≡ laidChecked Checked.Valid) where
 
   pub equality-different : {c : Equality} → c ≡ Equality.Different → (readEquality (equality x 0) ≡ c) × (equality x 0 ≡ laidEquality c)
   equality-different e = rw (e, laid) (refl, refl)
+
+  pub found-at : {c : Found} {i : ℕ} → c ≡ Found.At i → (readFound (found x 1 i) ≡ c) × (found x 1 i ≡ laidFound c)
+  found-at e = rw (e, laid) (refl, refl)
+
+  pub found-nothing : {c : Found} → c ≡ Found.Nothing → (readFound (found x 0 0) ≡ c) × (found x 0 0 ≡ laidFound c)
+  found-nothing e = rw (e, laid) (refl, refl)
+
+  pub viewed-view : {c : Viewed} {v : View} {s l : ℤ} → s ≡ v .start → l ≡ v .length → c ≡ Viewed.View v
+      → (readViewed (viewed x (v .first) s l) ≡ c) × (viewed x (v .first) s l ≡ laidViewed c)
+  viewed-view same-start same-length e = rw (e, laid, same-start, same-length) (refl, refl)
+
+  pub batched-batch : {c : Batched} {b : RleBatch} → c ≡ Batched.Batch b → (readBatched (batched x (b .keys) (b .runs)) ≡ c) × (batched x (b .keys) (b .runs) ≡ laidBatched c)
+  batched-batch e = rw (e, laid) (refl, refl)
 
   pub planned-counts : {c : PlannedMany} {n m : ℕ} → c ≡ PlannedMany.Counts n m → (readPlannedMany (planned x n m) ≡ c) × (planned x n m ≡ laidPlannedMany c)
   planned-counts e = rw (e, laid) (refl, refl)

@@ -1,20 +1,28 @@
 // Answers laid flat for C.
+use crate::RlBatched;
 use crate::RlCounted;
 use crate::RlEquality;
 use crate::RlFill;
+use crate::RlFound;
+use crate::RlPart;
 use crate::RlPlannedMany;
 use crate::RlRefusal;
+use crate::RlViewed;
+use column::answer::Batched;
 use column::answer::Checked;
 use column::answer::Counted;
 use column::answer::Fill;
+use column::answer::Found;
 use column::error::Error;
 use column::error::InKey;
 use column::error::Refusal;
 use many::PlannedMany;
 use rle::Equality;
+use slice::Part;
+use slice::Viewed;
 ghost use mathlib.Core.Path.{_≡_};
 ghost use Rattle.runlength.specs.Reading as Reading;
-ghost use Rattle.runlength.specs.Reading.{readRefusal, readChecked, readCounted, readEquality, readPlannedMany, readFill, laidRefusal, laidChecked, laidCounted, laidEquality, laidPlannedMany};
+ghost use Rattle.runlength.specs.Reading.{readRefusal, readChecked, readCounted, readEquality, readFound, readViewed, readPart, readBatched, readPlannedMany, readFill, laidRefusal, laidChecked, laidCounted, laidEquality, laidFound, laidViewed, laidBatched, laidPlannedMany};
 
 // A number and its values, with the position where there is one.
 fn fields(number: u64, first: u64, second: u64, third: u64, in_key: InKey) -> RlRefusal
@@ -151,6 +159,94 @@ pub fn planned_many(p: PlannedMany) -> RlPlannedMany
                 refusal,
                 segments: 0,
                 indexes: 0,
+            }
+        }
+    }
+}
+
+pub fn found(f: Found) -> RlFound
+    ensures { λ x. ⌜ (readFound x ≡ f) × (x ≡ laidFound f) ⌝ }
+{
+    match f {
+        Found::At(index) => {
+            let refusal = checked(Checked::Valid);
+            RlFound {
+                refusal,
+                found: 1,
+                index,
+            }
+        }
+        Found::Nothing => {
+            let refusal = checked(Checked::Valid);
+            RlFound {
+                refusal,
+                found: 0,
+                index: 0,
+            }
+        }
+        Found::Refused(r) => {
+            let refusal = refused(r);
+            RlFound {
+                refusal,
+                found: 0,
+                index: 0,
+            }
+        }
+    }
+}
+
+pub fn viewed(v: Viewed) -> RlViewed
+    ensures { λ x. ⌜ (readViewed x ≡ v) × (x ≡ laidViewed v) ⌝ }
+{
+    match v {
+        Viewed::View(view) => {
+            let refusal = checked(Checked::Valid);
+            RlViewed {
+                refusal,
+                first: view.first,
+                start: view.start,
+                length: view.length,
+            }
+        }
+        Viewed::Refused(r) => {
+            let refusal = refused(r);
+            RlViewed {
+                refusal,
+                first: 0,
+                start: 0,
+                length: 0,
+            }
+        }
+    }
+}
+
+pub fn part(p: Part) -> RlPart
+    ensures { λ x. ⌜ readPart x ≡ p ⌝ }
+{
+    RlPart {
+        first: p.first,
+        count: p.count,
+    }
+}
+
+pub fn batched(b: Batched) -> RlBatched
+    ensures { λ x. ⌜ (readBatched x ≡ b) × (x ≡ laidBatched b) ⌝ }
+{
+    match b {
+        Batched::Batch(batch) => {
+            let refusal = checked(Checked::Valid);
+            RlBatched {
+                refusal,
+                keys: batch.keys,
+                runs: batch.runs,
+            }
+        }
+        Batched::Refused(r) => {
+            let refusal = refused(r);
+            RlBatched {
+                refusal,
+                keys: 0,
+                runs: 0,
             }
         }
     }

@@ -8,10 +8,13 @@ ghost use lib.ListN.{length};
 ghost use Rattle.column.specs.Flat.{flat};
 ghost use Rattle.column.specs.Runs.{sequence};
 ghost use Rattle.many.specs.Many as many;
+ghost use Rattle.merge.specs.Merge as merge;
 ghost use Rattle.ops.specs.Ops as ops;
 ghost use Rattle.plan.specs.Plan as plan;
 ghost use Rattle.rle.specs.Rle as calls;
-ghost use Rattle.runlength.specs.Reading.{readFill, LaidRuns, LaidEntries, LaidCheck, LaidEquality, LaidPlan, LaidPlanMany};
+ghost use Rattle.slice.specs.Slice as slice;
+ghost use Rattle.transform.specs.Transform as transform;
+ghost use Rattle.runlength.specs.Reading.{readFill, LaidCheck, LaidEquality, LaidFound, LaidViewed, LaidPart, LaidRuns, LaidEntries, LaidRanges, LaidGroups, LaidPlan, LaidPlanMany, LaidFlat};
 
 // A refusal: document 01's number, its values in document 01's order as 64 bits each (0 where it has fewer), and the position that it
 // may carry, with 1 in `in_key`. All 0 with an answer.
@@ -45,6 +48,38 @@ pub struct RlPlannedMany {
     pub refusal: RlRefusal,
     pub segments: usize,
     pub indexes: usize,
+}
+
+// `found` is 1 or 0, and 0 with a refusal; without a find the index is 0.
+#[repr(C)]
+pub struct RlFound {
+    pub refusal: RlRefusal,
+    pub found: u64,
+    pub index: usize,
+}
+
+// All are 0 with a refusal.
+#[repr(C)]
+pub struct RlViewed {
+    pub refusal: RlRefusal,
+    pub first: usize,
+    pub start: i64,
+    pub length: i64,
+}
+
+// A part of a list: its first entry, and how many; both are 0 for an empty part.
+#[repr(C)]
+pub struct RlPart {
+    pub first: usize,
+    pub count: usize,
+}
+
+// Both counts are 0 with a refusal.
+#[repr(C)]
+pub struct RlBatched {
+    pub refusal: RlRefusal,
+    pub keys: usize,
+    pub runs: usize,
 }
 
 // What stands where a column has ended: missing where `given` is 0, else the value.
@@ -278,4 +313,209 @@ pub extern "C" fn rl_zip_many(
         out_ends,
         out_values,
     ))
+}
+
+#[no_mangle]
+pub extern "C" fn rl_run_index(ends: &[i64], pos: i64) -> RlFound
+    ensures { λ r. ⌜ LaidFound (slice.runIndex (now (ends .entry)) pos) r ⌝ }
+{
+    laid::found(slice::run_index(ends, pos))
+}
+
+#[no_mangle]
+pub extern "C" fn rl_slice(
+    ends: &[i64],
+    values: &[i64],
+    start: i64,
+    end: i64,
+    out_ends: &mut [i64],
+    out_values: &mut [i64],
+) -> RlCounted
+    ensures { λ r. ⌜ LaidRuns
+        (slice.slice (sequence (now (ends .entry)) (now (values .entry))) start end (length (now («out_ends» .entry)) ∷ length (now («out_values» .entry)) ∷ [])) r
+        (now («out_ends» .entry)) (now («out_ends» .exit)) (now («out_values» .entry)) (now («out_values» .exit)) ⌝ }
+{
+    laid::counted(slice::slice(ends, values, start, end, out_ends, out_values))
+}
+
+#[no_mangle]
+pub extern "C" fn rl_slice_view(ends: &[i64], values: &[i64], start: i64, end: i64) -> RlViewed
+    ensures { λ r. ⌜ LaidViewed (slice.sliceView (sequence (now (ends .entry)) (now (values .entry))) start end) r ⌝ }
+{
+    laid::viewed(slice::slice_view(ends, values, start, end))
+}
+
+#[no_mangle]
+pub extern "C" fn rl_slice_view_values(ends: &[i64], values: &[i64], start: i64, end: i64) -> RlPart
+    ensures { λ r. ⌜ LaidPart r (slice.slicePart (sequence (now (ends .entry)) (now (values .entry))) start end) (now (values .entry)) ⌝ }
+{
+    laid::part(slice::slice_view_part(ends, values, start, end))
+}
+
+#[no_mangle]
+pub extern "C" fn rl_getitems(
+    ends: &[i64],
+    values: &[i64],
+    starts: &[i64],
+    stops: &[i64],
+    out_offsets: &mut [usize],
+    out_ends: &mut [i64],
+    out_values: &mut [i64],
+) -> RlBatched
+    ensures { λ r. ⌜ LaidFlat
+        (slice.getitems (sequence (now (ends .entry)) (now (values .entry))) (now (starts .entry)) (now (stops .entry)) (length (now («out_offsets» .entry)) ∷ length (now («out_ends» .entry)) ∷ length (now («out_values» .entry)) ∷ [])) r
+        (now («out_offsets» .entry)) (now («out_offsets» .exit)) (now («out_ends» .entry)) (now («out_ends» .exit)) (now («out_values» .entry)) (now («out_values» .exit)) ⌝ }
+{
+    laid::batched(slice::getitems(
+        ends,
+        values,
+        starts,
+        stops,
+        out_offsets,
+        out_ends,
+        out_values,
+    ))
+}
+
+#[no_mangle]
+pub extern "C" fn rl_concat(
+    offsets: &[usize],
+    ends: &[i64],
+    values: &[i64],
+    out_ends: &mut [i64],
+    out_values: &mut [i64],
+) -> RlCounted
+    ensures { λ r. ⌜ LaidRuns
+        (transform.concat (flat (now (offsets .entry)) (now (ends .entry)) (now (values .entry))) (length (now («out_ends» .entry)) ∷ length (now («out_values» .entry)) ∷ [])) r
+        (now («out_ends» .entry)) (now («out_ends» .exit)) (now («out_values» .entry)) (now («out_values» .exit)) ⌝ }
+{
+    laid::counted(transform::concat(offsets, ends, values, out_ends, out_values))
+}
+
+#[no_mangle]
+pub extern "C" fn rl_shift(
+    ends: &[i64],
+    values: &[i64],
+    distance: i64,
+    fill: i64,
+    out_ends: &mut [i64],
+    out_values: &mut [i64],
+) -> RlCounted
+    ensures { λ r. ⌜ LaidRuns
+        (transform.shift (sequence (now (ends .entry)) (now (values .entry))) distance fill (length (now («out_ends» .entry)) ∷ length (now («out_values» .entry)) ∷ [])) r
+        (now («out_ends» .entry)) (now («out_ends» .exit)) (now («out_values» .entry)) (now («out_values» .exit)) ⌝ }
+{
+    laid::counted(transform::shift(ends, values, distance, fill, out_ends, out_values))
+}
+
+#[no_mangle]
+pub extern "C" fn rl_reversed(
+    ends: &[i64],
+    values: &[i64],
+    out_ends: &mut [i64],
+    out_values: &mut [i64],
+) -> RlCounted
+    ensures { λ r. ⌜ LaidRuns
+        (transform.reversed (sequence (now (ends .entry)) (now (values .entry))) (length (now («out_ends» .entry)) ∷ length (now («out_values» .entry)) ∷ [])) r
+        (now («out_ends» .entry)) (now («out_ends» .exit)) (now («out_values» .entry)) (now («out_values» .exit)) ⌝ }
+{
+    laid::counted(transform::reversed(ends, values, out_ends, out_values))
+}
+
+#[no_mangle]
+pub extern "C" fn rl_ranges_where(
+    ends: &[i64],
+    values: &[i64],
+    code: u8,
+    number: i64,
+    out_starts: &mut [i64],
+    out_ends: &mut [i64],
+) -> RlCounted
+    ensures { λ r. ⌜ LaidRanges
+        (transform.rangesWhere (sequence (now (ends .entry)) (now (values .entry))) code number (length (now («out_starts» .entry)) ∷ length (now («out_ends» .entry)) ∷ [])) r
+        (now («out_starts» .entry)) (now («out_starts» .exit)) (now («out_ends» .entry)) (now («out_ends» .exit)) ⌝ }
+{
+    laid::counted(transform::ranges_where(ends, values, code, number, out_starts, out_ends))
+}
+
+#[no_mangle]
+pub extern "C" fn rl_merge(
+    ends: &[i64],
+    values: &[i64],
+    out_ends: &mut [i64],
+    out_values: &mut [i64],
+) -> RlCounted
+    ensures { λ r. ⌜ LaidRuns
+        (merge.merged (sequence (now (ends .entry)) (now (values .entry))) (length (now («out_ends» .entry)) ∷ length (now («out_values» .entry)) ∷ [])) r
+        (now («out_ends» .entry)) (now («out_ends» .exit)) (now («out_values» .entry)) (now («out_values» .exit)) ⌝ }
+{
+    laid::counted(merge::merge(ends, values, out_ends, out_values))
+}
+
+#[no_mangle]
+pub extern "C" fn rl_merged(
+    ends: &[i64],
+    values: &[i64],
+    out_ends: &mut [i64],
+    out_values: &mut [i64],
+) -> RlCounted
+    ensures { λ r. ⌜ LaidRuns
+        (merge.merged (sequence (now (ends .entry)) (now (values .entry))) (length (now («out_ends» .entry)) ∷ length (now («out_values» .entry)) ∷ [])) r
+        (now («out_ends» .entry)) (now («out_ends» .exit)) (now («out_values» .entry)) (now («out_values» .exit)) ⌝ }
+{
+    laid::counted(merge::merged(ends, values, out_ends, out_values))
+}
+
+#[no_mangle]
+pub extern "C" fn rl_merge_mask(
+    ends: &[i64],
+    values: &[i64],
+    mask: &[u8],
+    keep: u8,
+    out_ends: &mut [i64],
+    out_values: &mut [i64],
+) -> RlCounted
+    ensures { λ r. ⌜ LaidRuns
+        (merge.mergeMask (sequence (now (ends .entry)) (now (values .entry))) (now (mask .entry)) keep (length (now («out_ends» .entry)) ∷ length (now («out_values» .entry)) ∷ [])) r
+        (now («out_ends» .entry)) (now («out_ends» .exit)) (now («out_values» .entry)) (now («out_values» .exit)) ⌝ }
+{
+    laid::counted(merge::merge_mask(ends, values, mask, keep, out_ends, out_values))
+}
+
+#[no_mangle]
+pub extern "C" fn rl_merge_by(
+    ends: &[i64],
+    values: &[i64],
+    code: u8,
+    out_ends: &mut [i64],
+    out_values: &mut [i64],
+) -> RlCounted
+    ensures { λ r. ⌜ LaidRuns
+        (merge.mergeBy (sequence (now (ends .entry)) (now (values .entry))) code (length (now («out_ends» .entry)) ∷ length (now («out_values» .entry)) ∷ [])) r
+        (now («out_ends» .entry)) (now («out_ends» .exit)) (now («out_values» .entry)) (now («out_values» .exit)) ⌝ }
+{
+    laid::counted(merge::merge_by(ends, values, code, out_ends, out_values))
+}
+
+#[no_mangle]
+pub extern "C" fn rl_merge_plan(
+    ends: &[i64],
+    mask: &[u8],
+    out_ends: &mut [i64],
+    out_offsets: &mut [usize],
+) -> RlCounted
+    ensures { λ r. ⌜ LaidGroups
+        (merge.mergePlan (now (ends .entry)) (now (mask .entry)) (length (now («out_ends» .entry)) ∷ length (now («out_offsets» .entry)) ∷ [])) r
+        (now («out_ends» .entry)) (now («out_ends» .exit)) (now («out_offsets» .entry)) (now («out_offsets» .exit)) ⌝ }
+{
+    laid::counted(merge::merge_plan(ends, mask, out_ends, out_offsets))
+}
+
+#[no_mangle]
+pub extern "C" fn rl_group_ids(offsets: &[usize], out_ids: &mut [usize]) -> RlCounted
+    ensures { λ r. ⌜ LaidEntries
+        (merge.groupIds (now (offsets .entry)) (length (now («out_ids» .entry)) ∷ [])) r
+        (now («out_ids» .entry)) (now («out_ids» .exit)) ⌝ }
+{
+    laid::counted(merge::group_ids(offsets, out_ids))
 }

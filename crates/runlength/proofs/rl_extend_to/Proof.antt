@@ -1,5 +1,5 @@
 use mir.Facts.{toZ-ofZ}
-use Rattle.runlength.proofs.Handed.{runs-handed}
+use Rattle.runlength.proofs.Handed.{handed}
 use borrow.Author.Needs.{needs}
 use Rattle.runlength.proofs.rl_extend_to.Statement.{statement}
 use Rattle.runlength.proofs.rl_extend_to.Tie as tie
@@ -19,7 +19,7 @@ same-length-2 c = search needs
 returns : tie.Need-returns
 returns c =
     let fits = c .before .before .before .before .before .before .fits in
-    runs-handed (c .counted .ensures) (rw (toZ-ofZ (fits .length), toZ-ofZ (fits .value)) at (c .before .before .before .extend-to .ensures))
+    handed (c .counted .ensures) (rw (toZ-ofZ (fits .length), toZ-ofZ (fits .value)) at (c .before .before .before .extend-to .ensures))
 
 pub rl-extend-to-spec : {M : Type 1} → statement M
 rl-extend-to-spec =

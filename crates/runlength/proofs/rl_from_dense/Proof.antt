@@ -1,4 +1,4 @@
-use Rattle.runlength.proofs.Handed.{runs-handed}
+use Rattle.runlength.proofs.Handed.{handed}
 use borrow.Author.Needs.{needs}
 use Rattle.runlength.proofs.rl_from_dense.Statement.{statement}
 use Rattle.runlength.proofs.rl_from_dense.Tie as tie
@@ -16,7 +16,7 @@ same-length-2 : tie.Need-same-length-2
 same-length-2 c = search needs
 
 returns : tie.Need-returns
-returns c = runs-handed (c .counted .ensures) (c .before .before .before .from-dense .ensures)
+returns c = handed (c .counted .ensures) (c .before .before .before .from-dense .ensures)
 
 pub rl-from-dense-spec : {M : Type 1} → statement M
 rl-from-dense-spec =

@@ -1,4 +1,4 @@
-use Rattle.runlength.proofs.Handed.{checked-handed}
+use Rattle.runlength.proofs.Handed.{handed}
 use borrow.Author.Needs.{needs}
 use Rattle.runlength.proofs.rl_from_ends.Statement.{statement}
 use Rattle.runlength.proofs.rl_from_ends.Tie as tie
@@ -10,7 +10,7 @@ checked-requires : tie.Need-checked-requires
 checked-requires c κs = search needs
 
 returns : tie.Need-returns
-returns c = checked-handed (c .checked .ensures) (c .before .from-ends .ensures)
+returns c = handed (c .checked .ensures) (c .before .from-ends .ensures)
 
 pub rl-from-ends-spec : {M : Type 1} → statement M
 rl-from-ends-spec = tie.close (tie.spec from-ends-requires checked-requires returns)

@@ -1,4 +1,4 @@
-use Rattle.runlength.proofs.Handed.{plan-handed}
+use Rattle.runlength.proofs.Handed.{handed}
 use borrow.Author.Needs.{needs}
 use Rattle.runlength.proofs.rl_plan.Statement.{statement}
 use Rattle.runlength.proofs.rl_plan.Tie as tie
@@ -19,7 +19,7 @@ same-length-3 : tie.Need-same-length-3
 same-length-3 c = search needs
 
 returns : tie.Need-returns
-returns c = plan-handed (c .counted .ensures) (c .before .before .before .before .before .before .plan .ensures)
+returns c = handed (c .counted .ensures) (c .before .before .before .before .before .before .plan .ensures)
 
 pub rl-plan-spec : {M : Type 1} → statement M
 rl-plan-spec =

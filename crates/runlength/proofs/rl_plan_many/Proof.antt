@@ -1,4 +1,4 @@
-use Rattle.runlength.proofs.Handed.{plan-many-handed}
+use Rattle.runlength.proofs.Handed.{handed}
 use borrow.Author.Needs.{needs}
 use Rattle.runlength.proofs.rl_plan_many.Statement.{statement}
 use Rattle.runlength.proofs.rl_plan_many.Tie as tie
@@ -16,7 +16,7 @@ same-length-2 : tie.Need-same-length-2
 same-length-2 c = search needs
 
 returns : tie.Need-returns
-returns c = plan-many-handed (c .planned-many .ensures) (c .before .before .before .before .plan-many .ensures)
+returns c = handed (c .planned-many .ensures) (c .before .before .before .before .plan-many .ensures)
 
 pub rl-plan-many-spec : {M : Type 1} → statement M
 rl-plan-many-spec =

@@ -1,4 +1,4 @@
-use Rattle.runlength.proofs.Handed.{entries-handed}
+use Rattle.runlength.proofs.Handed.{handed}
 use borrow.Author.Needs.{needs}
 use Rattle.runlength.proofs.rl_to_dense.Statement.{statement}
 use Rattle.runlength.proofs.rl_to_dense.Tie as tie
@@ -13,7 +13,7 @@ same-length : tie.Need-same-length
 same-length c = search needs
 
 returns : tie.Need-returns
-returns c = entries-handed (c .counted .ensures) (c .before .before .to-dense .ensures)
+returns c = handed (c .counted .ensures) (c .before .before .to-dense .ensures)
 
 pub rl-to-dense-spec : {M : Type 1} → statement M
 rl-to-dense-spec = tie.close (tie.spec to-dense-requires counted-requires same-length returns)

@@ -1,4 +1,4 @@
-use Rattle.runlength.proofs.Handed.{runs-handed}
+use Rattle.runlength.proofs.Handed.{handed}
 use borrow.Author.Needs.{needs}
 use Rattle.runlength.proofs.rl_zip_many.Statement.{statement}
 use Rattle.runlength.proofs.rl_zip_many.Tie as tie
@@ -19,7 +19,7 @@ same-length-2 : tie.Need-same-length-2
 same-length-2 c = search needs
 
 returns : tie.Need-returns
-returns c = let w = c .before .before .before in runs-handed (c .counted .ensures) (rw (w .before .before .before .fill .ensures) at (w .zip-many .ensures))
+returns c = let w = c .before .before .before in handed (c .counted .ensures) (rw (w .before .before .before .fill .ensures) at (w .zip-many .ensures))
 
 pub rl-zip-many-spec : {M : Type 1} → statement M
 rl-zip-many-spec =
