@@ -19,12 +19,13 @@ impl Fill {
     }
 }
 
-/// An argument: a list or lent buffer, also of offsets or indexes, an i64, a used count, a fill, or
-/// an operation's code.
+/// An argument: a list or lent buffer, also of offsets or indexes, a mask, an i64, a used count, a
+/// fill, or a code.
 #[derive(Clone, PartialEq, Eq)]
 pub enum Arg {
     List(Vec<i64>),
     Places(Vec<usize>),
+    Bytes(Vec<u8>),
     Number(i64),
     Count(usize),
     Fill(Fill),
@@ -65,6 +66,7 @@ taken_from! {
     &'a mut Arg: List(list) => &'a mut [i64]: list;
     &'a Arg: Places(list) => &'a [usize]: list;
     &'a mut Arg: Places(list) => &'a mut [usize]: list;
+    &'a Arg: Bytes(list) => &'a [u8]: list;
     &'a Arg: Number(number) => i64: *number;
     &'a Arg: Count(count) => usize: *count;
     &'a Arg: Fill(fill) => Fill: *fill;
@@ -77,6 +79,7 @@ impl fmt::Display for Arg {
         match self {
             Arg::List(list) => write_list(f, list),
             Arg::Places(list) => write_list(f, list),
+            Arg::Bytes(list) => write_list(f, list),
             Arg::Number(number) => write!(f, "{number}"),
             Arg::Count(count) => write!(f, "{count}"),
             Arg::Fill(Fill { given, value }) => write!(f, "{given} {value}"),
@@ -104,9 +107,9 @@ pub struct Written {
 }
 
 impl Written {
-    pub fn nothing(count: usize) -> Self {
+    pub fn nothing<const COUNTS: usize>(counts: [usize; COUNTS]) -> Self {
         Written {
-            counts: vec![count],
+            counts: counts.to_vec(),
             lists: Vec::new(),
         }
     }
@@ -115,6 +118,13 @@ impl Written {
         Written {
             counts: vec![list.len()],
             lists: vec![Arg::List(list)],
+        }
+    }
+
+    pub fn places(list: Vec<usize>) -> Self {
+        Written {
+            counts: vec![list.len()],
+            lists: vec![Arg::Places(list)],
         }
     }
 
@@ -137,6 +147,29 @@ impl Written {
         Written {
             counts: vec![ends.len(), idx.len()],
             lists: vec![Arg::List(ends), Arg::Places(idx)],
+        }
+    }
+
+    pub fn ranges(starts: Vec<i64>, ends: Vec<i64>) -> Self {
+        Written {
+            counts: vec![starts.len()],
+            lists: vec![Arg::List(starts), Arg::List(ends)],
+        }
+    }
+
+    /// One offset more than there are groups.
+    pub fn groups(ends: Vec<i64>, offsets: Vec<usize>) -> Self {
+        Written {
+            counts: vec![ends.len()],
+            lists: vec![Arg::List(ends), Arg::Places(offsets)],
+        }
+    }
+
+    /// One offset more than there are sequences.
+    pub fn flat(offsets: Vec<usize>, ends: Vec<i64>, values: Vec<i64>) -> Self {
+        Written {
+            counts: vec![offsets.len() - 1, ends.len()],
+            lists: vec![Arg::Places(offsets), Arg::List(ends), Arg::List(values)],
         }
     }
 }
@@ -295,4 +328,37 @@ calls! {
         offsets: Offsets, ends: FlatEnds, values: FlatValues, fill: Fill, code: Code;
         out_ends: Room, out_values: Room
     ) -> 1;
+    15 run_index(ends: Ends, pos: Position;) -> 2;
+    16 slice(
+        ends: EndsA, values: ValuesA, start: Position, end: Position;
+        out_ends: Room, out_values: Room
+    ) -> 1;
+    17 slice_view(ends: EndsA, values: ValuesA, start: Position, end: Position;) -> 3;
+    18 slice_view_values(ends: EndsA, values: ValuesA, start: Position, end: Position;) -> 2;
+    42 getitems(
+        ends: EndsA, values: ValuesA, starts: Starts, stops: Stops;
+        out_offsets: IndexRoom, out_ends: Room, out_values: Room
+    ) -> 2;
+    19 concat(
+        offsets: Offsets, ends: FlatEnds, values: FlatValues; out_ends: Room, out_values: Room
+    ) -> 1;
+    20 shift(
+        ends: EndsA, values: ValuesA, distance: Distance, fill: Value;
+        out_ends: Room, out_values: Room
+    ) -> 1;
+    21 reversed(ends: EndsA, values: ValuesA; out_ends: Room, out_values: Room) -> 1;
+    22 ranges_where(
+        ends: EndsA, values: ValuesA, code: Comparison, number: Value;
+        out_starts: Room, out_ends: Room
+    ) -> 1;
+    23 merge(ends: EndsA, values: ValuesA; out_ends: Room, out_values: Room) -> 1;
+    24 merged(ends: EndsA, values: ValuesA; out_ends: Room, out_values: Room) -> 1;
+    25 merge_mask(
+        ends: EndsA, values: ValuesA, mask: Mask, keep: Keep; out_ends: Room, out_values: Room
+    ) -> 1;
+    26 merge_by(
+        ends: EndsA, values: ValuesA, code: Comparison; out_ends: Room, out_values: Room
+    ) -> 1;
+    27 merge_plan(ends: Ends, mask: Mask; out_ends: Room, out_offsets: IndexRoom) -> 1;
+    28 group_ids(offsets: GroupOffsets; out_ids: IndexRoom) -> 1;
 }

@@ -16,7 +16,10 @@ pub enum Role {
     Run,
     Length,
     Value,
-    /// Of the first of two sequences.
+    Position,
+    /// How far values are moved.
+    Distance,
+    /// Of the first sequence, or the only one.
     EndsA,
     ValuesA,
     /// Of the second.
@@ -26,9 +29,20 @@ pub enum Role {
     Offsets,
     FlatEnds,
     FlatValues,
+    /// Of intervals.
+    Starts,
+    Stops,
+    /// One past the last run of each group, after a 0.
+    GroupOffsets,
+    /// Which runs go with the run before.
+    Mask,
+    /// Which value of a group is kept.
+    Keep,
     Fill,
     /// An operation.
     Code,
+    /// An operation of those that compare.
+    Comparison,
     /// A buffer of which the call reads nothing.
     Room,
     /// Such a buffer for indexes.
@@ -36,10 +50,10 @@ pub enum Role {
 }
 
 impl Role {
-    /// Whether the parameter says more of the sequences of the one before it.
+    /// Whether the parameter says more of the sequences or intervals of the one before it.
     fn continues(self) -> bool {
         use Role::*;
-        matches!(self, ValuesA | ValuesB | FlatEnds | FlatValues)
+        matches!(self, ValuesA | ValuesB | FlatEnds | FlatValues | Stops)
     }
 }
 
@@ -73,14 +87,17 @@ fn combinations<T: Clone>(choices: Vec<Vec<T>>) -> impl Iterator<Item = Vec<T>> 
 }
 
 /// Every list of `length` entries out of `entries`.
-fn lists_of(entries: &[i64], length: usize) -> impl Iterator<Item = Vec<i64>> {
+fn lists_of<T: Clone>(entries: &[T], length: usize) -> impl Iterator<Item = Vec<T>> {
     combinations(vec![entries.to_vec(); length])
 }
 
 /// Every list of up to `most` entries out of `entries`.
+fn lists_up_to<T: Clone>(entries: &[T], most: usize) -> impl Iterator<Item = Vec<T>> {
+    (0..=most).flat_map(|length| lists_of(entries, length))
+}
+
 fn lists(entries: &[i64], most: usize) -> Vec<Arg> {
-    let of_length = |length| lists_of(entries, length);
-    (0..=most).flat_map(of_length).map(Arg::List).collect()
+    lists_up_to(entries, most).map(Arg::List).collect()
 }
 
 /// Every small argument for the parameter at `index`.
@@ -95,6 +112,8 @@ fn small_args(index: usize, parameter: &Parameter) -> Vec<Arg> {
         Role::Run => numbers(&[MIN, -1, 0, 1, 2, MAX - 1, MAX]),
         Role::Length => numbers(&[MIN, -1, 0, 1, 2, 3, 4, MAX - 1, MAX]),
         Role::Value => numbers(&[7, -2]),
+        Role::Position => numbers(&[MIN, -1, 0, 1, 2, 3, 4, MAX - 1, MAX]),
+        Role::Distance => numbers(&[MIN, MIN + 1, -3, -2, -1, 0, 1, 2, 3, MAX - 1, MAX]),
         Role::EndsA | Role::EndsB => lists(&[0, 1, 2, 3, MAX], 2),
         Role::Fill => {
             // Two fills that stand side by side differ.
@@ -104,15 +123,25 @@ fn small_args(index: usize, parameter: &Parameter) -> Vec<Arg> {
                 .to_vec()
         }
         Role::Code => [0, 3, 6, 8, 10].map(Arg::Code).to_vec(),
+        Role::Comparison => [6, 7, 8, 9].map(Arg::Code).to_vec(),
+        Role::Keep => [0, 1, 2].map(Arg::Code).to_vec(),
+        Role::Mask => lists_up_to(&[0, 1, 2], 3).map(Arg::Bytes).collect(),
+        Role::GroupOffsets => lists_up_to(&[0, 1, 2, 3, usize::MAX], 4)
+            .map(Arg::Places)
+            .collect(),
         Role::Room => (0..=6)
             .map(|length| Arg::List((0..length).map(|entry| held(index, entry)).collect()))
             .collect(),
         Role::IndexRoom => (0..=6)
             .map(|length| Arg::Places((0..length).map(|entry| held_index(index, entry)).collect()))
             .collect(),
-        Role::ValuesA | Role::ValuesB | Role::Offsets | Role::FlatEnds | Role::FlatValues => {
-            panic!("no argument by itself: {}", parameter.name)
-        }
+        Role::ValuesA
+        | Role::ValuesB
+        | Role::Offsets
+        | Role::FlatEnds
+        | Role::FlatValues
+        | Role::Starts
+        | Role::Stops => panic!("no argument by itself: {}", parameter.name),
     }
 }
 
@@ -199,6 +228,27 @@ fn small_flat() -> Vec<Vec<Arg>> {
     valid.chain(damaged).collect()
 }
 
+/// Up to two small intervals, valid, and damaged.
+fn small_intervals() -> Vec<Vec<Arg>> {
+    const PAIRS: &[(&[i64], &[i64])] = &[
+        (&[], &[]),
+        (&[0], &[]),
+        (&[], &[0]),
+        (&[0, 1], &[1]),
+        (&[0, 1], &[1, 3]),
+        (&[1, 0], &[2, MAX]),
+        (&[2, 0], &[2, 2]),
+        (&[0, 2], &[3, 1]),
+        (&[0, -1], &[3, 1]),
+        (&[1, -1], &[0, 1]),
+    ];
+    const LIMITS: &[i64] = &[MIN, -1, 0, 1, 2, 3, MAX];
+    let one = lists_of(LIMITS, 2).map(|pair| vec![list(&pair[..1]), list(&pair[1..])]);
+    let pairs = PAIRS.iter();
+    let pairs = pairs.map(|(starts, stops)| vec![list(starts), list(stops)]);
+    one.chain(pairs).collect()
+}
+
 /// Every combination of small arguments.
 pub fn small(call: &Call) -> impl Iterator<Item = Vec<Arg>> {
     let parameters: Vec<(usize, &Parameter)> = call.parameters.iter().enumerate().collect();
@@ -208,6 +258,7 @@ pub fn small(call: &Call) -> impl Iterator<Item = Vec<Arg>> {
             let args = small_args(*index, parameter).into_iter();
             args.map(|arg| vec![arg]).collect()
         }
+        [(_, starts), _] if starts.role == Role::Starts => small_intervals(),
         [_, _] => small_columns(),
         _ => small_flat(),
     });
@@ -358,8 +409,54 @@ impl Column {
         }
     }
 
-    /// An argument for a call that takes `columns`, this one standing for all of them.
-    fn arg(&self, columns: &[Column], role: Role, rng: &mut Rng) -> Arg {
+    /// A position, most often near the limit of a run.
+    fn position(&self, rng: &mut Rng) -> i64 {
+        let near = rng.below(5) as i64 - 2;
+        let end = match self.ends()[..] {
+            [] => 0,
+            ref ends => rng.pick(ends),
+        };
+        match rng.below(8) {
+            0 => rng.number(),
+            1 => near,
+            2 => rng.below(self.length() as usize + 1) as i64,
+            3 => end,
+            _ => end.wrapping_add(near),
+        }
+    }
+
+    /// Intervals, few of them invalid, some past the length.
+    fn intervals(&self, rng: &mut Rng) -> Vec<[i64; 2]> {
+        let careless = rng.one_in(8);
+        let number = rng.pick(&[0, 1, 2, 3, 8]);
+        let interval = |_| {
+            let mut pair = [self.position(rng), self.position(rng)];
+            if !careless {
+                pair = pair.map(|position| position.max(0));
+                pair.sort();
+            }
+            pair
+        };
+        (0..number).map(interval).collect()
+    }
+
+    /// Offsets of groups of this sequence's runs.
+    fn group_offsets(&self, rng: &mut Rng) -> Vec<usize> {
+        let runs = self.runs.len();
+        let mut offsets: Vec<usize> = (0..rng.below(6)).map(|_| rng.below(runs + 1)).collect();
+        match rng.below(16) {
+            0 => {}
+            1 => offsets.sort(),
+            _ => {
+                offsets.extend([0, runs]);
+                offsets.sort();
+            }
+        }
+        offsets
+    }
+
+    /// An argument for a call that takes `columns` and `intervals`, this column standing for all.
+    fn arg(&self, columns: &[Column], intervals: &[[i64; 2]], role: Role, rng: &mut Rng) -> Arg {
         let length = self.length();
         let near = rng.below(5) as i64 - 2;
         match role {
@@ -387,6 +484,15 @@ impl Column {
                 _ => length.wrapping_add(near),
             }),
             Role::Value => Arg::Number(self.value(rng)),
+            Role::Position => Arg::Number(self.position(rng)),
+            Role::Distance => {
+                let distance = match rng.below(3) {
+                    0 => near,
+                    1 => length.wrapping_add(near),
+                    _ => self.position(rng),
+                };
+                Arg::Number(rng.pick(&[distance, distance.wrapping_neg()]))
+            }
             Role::EndsA => Arg::List(columns[0].ends()),
             Role::ValuesA => Arg::List(columns[0].values.clone()),
             Role::EndsB => Arg::List(columns[1].ends()),
@@ -394,6 +500,26 @@ impl Column {
             Role::Offsets => Arg::Places(offsets(columns)),
             Role::FlatEnds => Arg::List(flat_ends(columns)),
             Role::FlatValues => Arg::List(flat_values(columns)),
+            Role::Starts => Arg::List(intervals.iter().map(|[start, _]| *start).collect()),
+            Role::Stops => Arg::List(intervals.iter().map(|[_, stop]| *stop).collect()),
+            Role::GroupOffsets => Arg::Places(self.group_offsets(rng)),
+            Role::Mask => {
+                let runs = self.runs.len();
+                let one_in = rng.pick(&[1, 2, 2, 4, 8]);
+                let byte = |_| match rng.below(200) {
+                    0 => rng.next() as u8,
+                    _ => rng.one_in(one_in).into(),
+                };
+                Arg::Bytes((1..runs).map(byte).collect())
+            }
+            Role::Keep => Arg::Code(match rng.below(16) {
+                0 => rng.pick(&[2, 3, 128, 255]),
+                _ => rng.pick(&[0, 1]),
+            }),
+            Role::Comparison => Arg::Code(match rng.below(16) {
+                0 => rng.pick(&[0, 6, 9, 10, 255]),
+                _ => rng.pick(&[7, 8]),
+            }),
             Role::Fill => Arg::Fill(Fill {
                 given: rng.pick(&[0, 1, 1, 2, u64::MAX]),
                 value: self.value(rng),
@@ -460,9 +586,10 @@ pub enum Fit {
 pub fn random(call: &Call, rng: &mut Rng) -> (Vec<Arg>, Fit) {
     let column = Column::random(rng);
     let columns = columns(call, &column, rng);
+    let intervals = column.intervals(rng);
     let parameters = call.parameters.iter();
     let mut args: Vec<Arg> = parameters
-        .map(|p| column.arg(&columns, p.role, rng))
+        .map(|p| column.arg(&columns, &intervals, p.role, rng))
         .collect();
     let lent = (0..args.len()).filter(|&i| call.parameters[i].lent);
     let lent: Vec<usize> = lent.collect();
@@ -524,6 +651,11 @@ fn damage(arg: &mut Arg, rng: &mut Rng) {
             damage_list(&mut signed, rng);
             *list = signed.into_iter().map(|entry| entry as usize).collect();
         }
+        Arg::Bytes(list) => match (rng.below(3), list.len()) {
+            (0, _) => drop(list.pop()),
+            (1, _) | (_, 0) => list.push(rng.pick(&[0, 1, 2])),
+            (_, length) => list[rng.below(length)] = rng.next() as u8,
+        },
         Arg::Number(number) => *number = damaged(*number, rng),
         Arg::Count(count) => {
             *count = match rng.below(3) {

@@ -29,6 +29,35 @@ pub struct PlannedMany {
     pub indexes: usize,
 }
 
+#[repr(C)]
+pub struct Found {
+    pub refusal: Refusal,
+    pub found: u64,
+    pub index: usize,
+}
+
+#[repr(C)]
+pub struct Viewed {
+    pub refusal: Refusal,
+    pub first: usize,
+    pub start: i64,
+    pub length: i64,
+}
+
+/// A part of a list.
+#[repr(C)]
+pub struct Part {
+    pub first: usize,
+    pub count: usize,
+}
+
+#[repr(C)]
+pub struct Batched {
+    pub refusal: Refusal,
+    pub keys: usize,
+    pub runs: usize,
+}
+
 macro_rules! answers {
     ($($type:ty: |$given:ident| $refusal:expr, [$($count:expr),*];)*) => {
         $(impl From<$type> for Answer {
@@ -45,6 +74,10 @@ answers! {
     Counted: |counted| counted.refusal, [counted.count];
     Equality: |equality| equality.refusal, [equality.equal as usize];
     PlannedMany: |planned| planned.refusal, [planned.segments, planned.indexes];
+    Found: |found| found.refusal, [found.found as usize, found.index];
+    Viewed: |viewed| viewed.refusal, [viewed.first, viewed.start as usize, viewed.length as usize];
+    Part: |part| Refusal::default(), [part.first, part.count];
+    Batched: |batched| batched.refusal, [batched.keys, batched.runs];
 }
 
 /// Declares each C function and wraps it in a safe one: a slice passes as a pointer and a length.
@@ -124,4 +157,49 @@ calls! {
         offsets: &[usize], ends: &[i64], values: &[i64], fill: Fill, code: u8,
         out_ends: &mut [i64], out_values: &mut [i64]
     ) -> Counted;
+    rl_run_index: run_index(ends: &[i64], pos: i64) -> Found;
+    rl_slice: slice(
+        ends: &[i64], values: &[i64], start: i64, end: i64,
+        out_ends: &mut [i64], out_values: &mut [i64]
+    ) -> Counted;
+    rl_slice_view: slice_view(ends: &[i64], values: &[i64], start: i64, end: i64) -> Viewed;
+    rl_slice_view_values: slice_view_values(
+        ends: &[i64], values: &[i64], start: i64, end: i64
+    ) -> Part;
+    rl_getitems: getitems(
+        ends: &[i64], values: &[i64], starts: &[i64], stops: &[i64],
+        out_offsets: &mut [usize], out_ends: &mut [i64], out_values: &mut [i64]
+    ) -> Batched;
+    rl_concat: concat(
+        offsets: &[usize], ends: &[i64], values: &[i64],
+        out_ends: &mut [i64], out_values: &mut [i64]
+    ) -> Counted;
+    rl_shift: shift(
+        ends: &[i64], values: &[i64], distance: i64, fill: i64,
+        out_ends: &mut [i64], out_values: &mut [i64]
+    ) -> Counted;
+    rl_reversed: reversed(
+        ends: &[i64], values: &[i64], out_ends: &mut [i64], out_values: &mut [i64]
+    ) -> Counted;
+    rl_ranges_where: ranges_where(
+        ends: &[i64], values: &[i64], code: u8, number: i64,
+        out_starts: &mut [i64], out_ends: &mut [i64]
+    ) -> Counted;
+    rl_merge: merge(
+        ends: &[i64], values: &[i64], out_ends: &mut [i64], out_values: &mut [i64]
+    ) -> Counted;
+    rl_merged: merged(
+        ends: &[i64], values: &[i64], out_ends: &mut [i64], out_values: &mut [i64]
+    ) -> Counted;
+    rl_merge_mask: merge_mask(
+        ends: &[i64], values: &[i64], mask: &[u8], keep: u8,
+        out_ends: &mut [i64], out_values: &mut [i64]
+    ) -> Counted;
+    rl_merge_by: merge_by(
+        ends: &[i64], values: &[i64], code: u8, out_ends: &mut [i64], out_values: &mut [i64]
+    ) -> Counted;
+    rl_merge_plan: merge_plan(
+        ends: &[i64], mask: &[u8], out_ends: &mut [i64], out_offsets: &mut [usize]
+    ) -> Counted;
+    rl_group_ids: group_ids(offsets: &[usize], out_ids: &mut [usize]) -> Counted;
 }

@@ -5,6 +5,7 @@ use crate::answer::{Error, Refusal};
 use crate::call::{Fill, Reading, Written};
 use std::cmp::Ordering;
 use std::collections::BTreeSet;
+use std::ops::RangeInclusive;
 
 /// A longer run is listed as a single entry. Of longer columns only some positions are looked at.
 const LISTED: i64 = 1000;
@@ -35,8 +36,8 @@ fn show(ends: &[i64], values: &[i64]) -> Vec<Shown> {
         .collect()
 }
 
-/// The runs of listed positions.
-fn runs(shown: &[Shown]) -> Written {
+/// The ends and values of listed positions.
+fn listed_runs(shown: &[Shown]) -> (Vec<i64>, Vec<i64>) {
     let (mut ends, mut values, mut position) = (Vec::new(), Vec::new(), 0);
     for entry in shown {
         position += entry.positions;
@@ -45,11 +46,17 @@ fn runs(shown: &[Shown]) -> Written {
             values.push(entry.value);
         }
     }
+    (ends, values)
+}
+
+/// The runs of listed positions.
+fn runs(shown: &[Shown]) -> Written {
+    let (ends, values) = listed_runs(shown);
     Written::runs(ends, values)
 }
 
 /// The merged runs of listed entries, each some positions and their value.
-fn merged(listed: &[(i64, i64)]) -> Written {
+fn merged_runs(listed: &[(i64, i64)]) -> Written {
     let entry = |(i, &(positions, value)): (usize, &(i64, i64))| Shown {
         positions,
         value,
@@ -68,6 +75,11 @@ fn length(ends: &[i64]) -> i64 {
     end_before(ends, ends.len())
 }
 
+/// The run that covers the position.
+fn covering(ends: &[i64], position: i64) -> Option<usize> {
+    (0..ends.len()).find(|&r| end_before(ends, r) <= position && position < ends[r])
+}
+
 /// A sequence, and what stands where it has ended.
 struct Side<'a> {
     ends: &'a [i64],
@@ -82,8 +94,7 @@ impl<'a> Side<'a> {
 
     /// What the position shows.
     fn at(&self, position: i64) -> i64 {
-        let covers = |&r: &usize| end_before(self.ends, r) <= position && position < self.ends[r];
-        match (0..self.ends.len()).find(covers) {
+        match covering(self.ends, position) {
             Some(r) => self.values[r],
             None => self.filled(),
         }
@@ -125,7 +136,7 @@ fn zipped(sides: &[Side], code: u8) -> Written {
         (pair[1] - pair[0], value.expect("a position is a side's"))
     };
     let listed: Vec<(i64, i64)> = positions(sides).windows(2).map(entry).collect();
-    merged(&listed)
+    merged_runs(&listed)
 }
 
 /// An operation by its code.
@@ -179,12 +190,22 @@ fn parts<'a>(offsets: &[usize], list: &'a [i64]) -> Vec<&'a [i64]> {
     offsets.windows(2).map(part).collect()
 }
 
+/// The codes of the operations, of the comparisons among them, and what a mask byte may be.
+const OPERATIONS: RangeInclusive<u8> = 0..=9;
+const COMPARISONS: RangeInclusive<u8> = 7..=8;
+const FLAGS: RangeInclusive<u8> = 0..=1;
+
 /// Is the code a listed one?
-fn ask_code(code: u8) -> Result<(), Refusal> {
-    if code > 9 {
+fn ask_code(code: u8, listed: RangeInclusive<u8>) -> Result<(), Refusal> {
+    if !listed.contains(&code) {
         return Err(Error::UnknownCode.with(&[code as u64]));
     }
     Ok(())
+}
+
+/// Is every mask byte 0 or 1?
+fn ask_mask(mask: &[u8]) -> Result<(), Refusal> {
+    mask.iter().try_for_each(|&byte| ask_code(byte, FLAGS))
 }
 
 /// Do lengths that belong together agree?
@@ -212,10 +233,19 @@ fn ask_ends(ends: &[i64]) -> Result<(), Refusal> {
     }
 }
 
-/// Do offsets exist, start at 0, never fall and finish at the number of ends?
+/// Do offsets exist, start at 0 and never fall? Gives the last of them.
+fn ask_rising(offsets: &[usize]) -> Result<usize, Refusal> {
+    match offsets {
+        [0, ..] if offsets.windows(2).all(|pair| pair[0] <= pair[1]) => {
+            Ok(offsets[offsets.len() - 1])
+        }
+        _ => Err(Error::InvalidOffsets.with(&[])),
+    }
+}
+
+/// And do they finish at the number of ends?
 fn ask_offsets(offsets: &[usize], ends: usize) -> Result<(), Refusal> {
-    let limits = (offsets.first(), offsets.last());
-    if limits != (Some(&0), Some(&ends)) || offsets.windows(2).any(|pair| pair[0] > pair[1]) {
+    if ask_rising(offsets)? != ends {
         return Err(Error::InvalidOffsets.with(&[]));
     }
     Ok(())
@@ -257,6 +287,16 @@ fn ask_length(length: i128) -> Result<(), Refusal> {
     Ok(())
 }
 
+/// Is each interval 0 ≤ start ≤ end?
+fn ask_intervals(intervals: &[(i64, i64)]) -> Result<(), Refusal> {
+    for (index, &(start, end)) in intervals.iter().enumerate() {
+        if !(0 <= start && start <= end) {
+            return Err(Error::InvalidInterval.with(&[index as u64, start as u64, end as u64]));
+        }
+    }
+    Ok(())
+}
+
 /// Has the buffer that is the `which`th the entries needed?
 fn ask_buffer(which: usize, needed: usize, given: usize) -> Result<(), Refusal> {
     if given < needed {
@@ -270,8 +310,14 @@ fn ask_room<const BUFFERS: usize>(needed: usize, given: [usize; BUFFERS]) -> Res
     (0..BUFFERS).try_for_each(|which| ask_buffer(which, needed, given[which]))
 }
 
+/// The questions of one sequence.
+fn ask_sequence(ends: &[i64], values: &[i64]) -> Result<(), Refusal> {
+    ask_lengths(3, ends.len(), values.len())?;
+    ask_ends(ends)
+}
+
 pub fn empty() -> Reading {
-    Ok(Written::nothing(0))
+    Ok(Written::nothing([0]))
 }
 
 pub fn from_runs(
@@ -294,9 +340,8 @@ pub fn from_runs(
 }
 
 pub fn from_ends(ends: &[i64], values: &[i64]) -> Reading {
-    ask_lengths(3, ends.len(), values.len())?;
-    ask_ends(ends)?;
-    Ok(Written::nothing(0))
+    ask_sequence(ends, values)?;
+    Ok(Written::nothing([0]))
 }
 
 pub fn repeat(value: i64, length: i64, out_ends: &[i64], out_values: &[i64]) -> Reading {
@@ -336,12 +381,11 @@ pub fn extend_to(ends: &[i64], values: &[i64], used: usize, length: i64, value: 
 pub fn from_dense(values: &[i64], out_ends: &[i64], out_values: &[i64]) -> Reading {
     ask_room(values.len(), [out_ends.len(), out_values.len()])?;
     let listed: Vec<(i64, i64)> = values.iter().map(|&value| (1, value)).collect();
-    Ok(merged(&listed))
+    Ok(merged_runs(&listed))
 }
 
 pub fn to_dense(ends: &[i64], values: &[i64], out: &[i64]) -> Reading {
-    ask_lengths(3, ends.len(), values.len())?;
-    ask_ends(ends)?;
+    ask_sequence(ends, values)?;
     ask_room(length(ends) as usize, [out.len()])?;
     let shown = show(ends, values);
     let dense = shown
@@ -367,7 +411,7 @@ pub fn equals(a_ends: &[i64], a_values: &[i64], b_ends: &[i64], b_values: &[i64]
     let [a, b] = &sides;
     let same = |pair: &[i64]| a.at(pair[0]) == b.at(pair[0]);
     let equal = length(a_ends) == length(b_ends) && positions(&sides).windows(2).all(same);
-    Ok(Written::nothing(equal.into()))
+    Ok(Written::nothing([equal.into()]))
 }
 
 pub fn plan(
@@ -388,7 +432,7 @@ pub fn plan(
 
 /// The questions of both zips of two sequences.
 fn ask_zip(sides: &[Side; 2], code: u8, given: [usize; 2]) -> Result<(), Refusal> {
-    ask_code(code)?;
+    ask_code(code, OPERATIONS)?;
     ask_both(sides)?;
     let [a, b] = sides;
     let (left, right) = (length(a.ends), length(b.ends));
@@ -434,12 +478,16 @@ zips! {
 }
 
 /// The questions of sequences laid flat.
-fn ask_many(offsets: &[usize], ends: &[i64], values: &[i64]) -> Result<(), Refusal> {
+fn ask_flat(offsets: &[usize], ends: &[i64], values: &[i64]) -> Result<(), Refusal> {
     ask_lengths(3, ends.len(), values.len())?;
     ask_offsets(offsets, ends.len())?;
-    let sequences = parts(offsets, ends);
-    ask_each_ends(&sequences)?;
-    ask_number(sequences.len())
+    ask_each_ends(&parts(offsets, ends))
+}
+
+/// And of a many-way call.
+fn ask_many(offsets: &[usize], ends: &[i64], values: &[i64]) -> Result<(), Refusal> {
+    ask_flat(offsets, ends, values)?;
+    ask_number(parts(offsets, ends).len())
 }
 
 pub fn plan_many(
@@ -469,7 +517,7 @@ pub fn zip_many(
     out_ends: &[i64],
     out_values: &[i64],
 ) -> Reading {
-    ask_code(code)?;
+    ask_code(code, OPERATIONS)?;
     ask_many(offsets, ends, values)?;
     let sequences = parts(offsets, ends).into_iter().zip(parts(offsets, values));
     let fill = fill.option();
@@ -485,4 +533,294 @@ pub fn zip_many(
     }
     ask_room(ends.len(), [out_ends.len(), out_values.len()])?;
     Ok(zipped(&sides, code))
+}
+
+pub fn run_index(ends: &[i64], pos: i64) -> Reading {
+    ask_ends(ends)?;
+    let run = covering(ends, pos);
+    let counts = [run.is_some().into(), run.unwrap_or(0)];
+    Ok(Written::nothing(counts))
+}
+
+/// The positions of a slice, from a start that is at least 0 up to an end that is at most the
+/// length, or none.
+fn clamped(ends: &[i64], start: i64, end: i64) -> Option<(i64, i64)> {
+    let (start, end) = (start.max(0), end.min(length(ends)));
+    (start < end).then_some((start, end))
+}
+
+/// What a slice shows.
+fn show_slice(ends: &[i64], values: &[i64], start: i64, end: i64) -> Vec<Shown> {
+    let Some((start, end)) = clamped(ends, start, end) else {
+        return Vec::new();
+    };
+    let run = |r: usize| ends[r].min(end) - end_before(ends, r).max(start);
+    (0..ends.len())
+        .flat_map(|r| show_run(run(r), values[r]))
+        .collect()
+}
+
+/// How many runs end among these positions.
+fn seams(shown: &[Shown]) -> usize {
+    shown.iter().filter(|entry| entry.seam).count()
+}
+
+pub fn slice(
+    ends: &[i64],
+    values: &[i64],
+    start: i64,
+    end: i64,
+    out_ends: &[i64],
+    out_values: &[i64],
+) -> Reading {
+    ask_sequence(ends, values)?;
+    let shown = show_slice(ends, values, start, end);
+    ask_room(seams(&shown), [out_ends.len(), out_values.len()])?;
+    Ok(runs(&shown))
+}
+
+/// The first run of a slice, its start and its length.
+fn view(ends: &[i64], start: i64, end: i64) -> [usize; 3] {
+    match clamped(ends, start, end) {
+        Some((start, end)) => {
+            let first = covering(ends, start).expect("a run covers every position");
+            [first, start as usize, (end - start) as usize]
+        }
+        None => [0; 3],
+    }
+}
+
+pub fn slice_view(ends: &[i64], values: &[i64], start: i64, end: i64) -> Reading {
+    ask_sequence(ends, values)?;
+    Ok(Written::nothing(view(ends, start, end)))
+}
+
+pub fn slice_view_values(ends: &[i64], values: &[i64], start: i64, end: i64) -> Reading {
+    let part = match ask_sequence(ends, values) {
+        Ok(()) => {
+            let [first, ..] = view(ends, start, end);
+            [first, seams(&show_slice(ends, values, start, end))]
+        }
+        Err(_) => [0; 2],
+    };
+    Ok(Written::nothing(part))
+}
+
+pub fn getitems(
+    ends: &[i64],
+    values: &[i64],
+    starts: &[i64],
+    stops: &[i64],
+    out_offsets: &[usize],
+    out_ends: &[i64],
+    out_values: &[i64],
+) -> Reading {
+    ask_lengths(3, ends.len(), values.len())?;
+    ask_lengths(8, starts.len(), stops.len())?;
+    ask_ends(ends)?;
+    let pairs = starts.iter().copied().zip(stops.iter().copied());
+    let intervals: Vec<(i64, i64)> = pairs.collect();
+    ask_intervals(&intervals)?;
+    let slice = |&(start, end): &(i64, i64)| show_slice(ends, values, start, end);
+    let slices: Vec<Vec<Shown>> = intervals.iter().map(slice).collect();
+    let counts: Vec<usize> = slices.iter().map(|shown| seams(shown)).collect();
+    let total = counts.iter().sum();
+    ask_buffer(0, intervals.len() + 1, out_offsets.len())?;
+    ask_buffer(1, total, out_ends.len())?;
+    ask_buffer(2, total, out_values.len())?;
+    let offset = |k: usize| counts[..k].iter().sum();
+    let offsets = (0..=counts.len()).map(offset).collect();
+    let (ends, values): (Vec<_>, Vec<_>) = slices.iter().map(|shown| listed_runs(shown)).unzip();
+    Ok(Written::flat(offsets, ends.concat(), values.concat()))
+}
+
+/// Listed positions without their seams.
+fn without_seams(shown: &[Shown]) -> Vec<(i64, i64)> {
+    let entry = |entry: &Shown| (entry.positions, entry.value);
+    shown.iter().map(entry).collect()
+}
+
+pub fn concat(
+    offsets: &[usize],
+    ends: &[i64],
+    values: &[i64],
+    out_ends: &[i64],
+    out_values: &[i64],
+) -> Reading {
+    ask_flat(offsets, ends, values)?;
+    let sequences = parts(offsets, ends).into_iter().zip(parts(offsets, values));
+    let shown: Vec<Shown> = sequences.flat_map(|(e, v)| show(e, v)).collect();
+    ask_length(shown.iter().map(|entry| entry.positions as i128).sum())?;
+    ask_room(ends.len(), [out_ends.len(), out_values.len()])?;
+    Ok(merged_runs(&without_seams(&shown)))
+}
+
+pub fn shift(
+    ends: &[i64],
+    values: &[i64],
+    distance: i64,
+    fill: i64,
+    out_ends: &[i64],
+    out_values: &[i64],
+) -> Reading {
+    ask_sequence(ends, values)?;
+    ask_room(ends.len() + 1, [out_ends.len(), out_values.len()])?;
+    let length = length(ends);
+    let moved = |position: i64| position as i128 + distance as i128;
+    // Every position, or of a longer column those where a run may have come to start.
+    let positions: BTreeSet<i64> = if length <= LISTED {
+        (0..=length).collect()
+    } else {
+        let starts = ends.iter().copied().chain([0]).map(moved);
+        let within = starts.filter(|start| (0..length as i128).contains(start));
+        within
+            .map(|start| start as i64)
+            .chain([0, length])
+            .collect()
+    };
+    let positions: Vec<i64> = positions.into_iter().collect();
+    let side = Side::new(ends, values, Some(fill));
+    let entry = |pair: &[i64]| {
+        let from = pair[0] as i128 - distance as i128;
+        // The fill stands at a position that the sequence does not have.
+        let value = side.at(i64::try_from(from).unwrap_or(-1));
+        (pair[1] - pair[0], value)
+    };
+    let listed: Vec<(i64, i64)> = positions.windows(2).map(entry).collect();
+    Ok(merged_runs(&listed))
+}
+
+pub fn reversed(ends: &[i64], values: &[i64], out_ends: &[i64], out_values: &[i64]) -> Reading {
+    ask_sequence(ends, values)?;
+    ask_room(ends.len(), [out_ends.len(), out_values.len()])?;
+    let shown = show(ends, values);
+    // A run ends where its first position stands, that is one behind which another run ended.
+    let entry = |i: usize| Shown {
+        seam: i == 0 || shown[i - 1].seam,
+        ..shown[i]
+    };
+    let reversed: Vec<Shown> = (0..shown.len()).rev().map(entry).collect();
+    Ok(runs(&reversed))
+}
+
+pub fn ranges_where(
+    ends: &[i64],
+    values: &[i64],
+    code: u8,
+    number: i64,
+    out_starts: &[i64],
+    out_ends: &[i64],
+) -> Reading {
+    ask_code(code, COMPARISONS)?;
+    ask_sequence(ends, values)?;
+    ask_room(ends.len(), [out_starts.len(), out_ends.len()])?;
+    let (mut starts, mut stops) = (Vec::new(), Vec::new());
+    let (mut position, mut within) = (0, false);
+    for entry in show(ends, values) {
+        let holds = operation(code, entry.value, number) == 1;
+        if holds && !within {
+            starts.push(position);
+        }
+        if within && !holds {
+            stops.push(position);
+        }
+        position += entry.positions;
+        within = holds;
+    }
+    if within {
+        stops.push(position);
+    }
+    Ok(Written::ranges(starts, stops))
+}
+
+pub fn merged(ends: &[i64], values: &[i64], out_ends: &[i64], out_values: &[i64]) -> Reading {
+    ask_sequence(ends, values)?;
+    ask_room(ends.len(), [out_ends.len(), out_values.len()])?;
+    Ok(merged_runs(&without_seams(&show(ends, values))))
+}
+
+pub use merged as merge;
+
+/// The groups of so many runs, each its first run and one past its last. A run belongs to the group
+/// of the run before it where the mask has a 1.
+fn groups(runs: usize, mask: &[u8]) -> Vec<(usize, usize)> {
+    let group = |run: usize| mask[..run].iter().filter(|&&byte| byte == 0).count();
+    let of = |g: usize| (0..runs).filter(move |&run| group(run) == g);
+    let bounds = |g: usize| Some((of(g).min()?, of(g).max()? + 1));
+    (0..runs).map_while(bounds).collect()
+}
+
+/// A run for each group, with the value of its first run or of its last.
+fn grouped(ends: &[i64], values: &[i64], mask: &[u8], keep: u8) -> Written {
+    let groups = groups(ends.len(), mask);
+    let value = |&(first, past): &(usize, usize)| match keep {
+        0 => values[first],
+        _ => values[past - 1],
+    };
+    let kept = groups.iter().map(value).collect();
+    Written::runs(group_ends(ends, &groups), kept)
+}
+
+/// The last end of each group.
+fn group_ends(ends: &[i64], groups: &[(usize, usize)]) -> Vec<i64> {
+    groups.iter().map(|&(_, past)| ends[past - 1]).collect()
+}
+
+/// Has the mask a byte for each run but the last?
+fn ask_mask_length(mask: &[u8], runs: usize) -> Result<(), Refusal> {
+    let pairs = if runs == 0 { 0 } else { runs - 1 };
+    ask_lengths(6, mask.len(), pairs)
+}
+
+pub fn merge_mask(
+    ends: &[i64],
+    values: &[i64],
+    mask: &[u8],
+    keep: u8,
+    out_ends: &[i64],
+    out_values: &[i64],
+) -> Reading {
+    ask_code(keep, FLAGS)?;
+    ask_mask(mask)?;
+    ask_lengths(3, ends.len(), values.len())?;
+    ask_mask_length(mask, ends.len())?;
+    ask_ends(ends)?;
+    ask_room(ends.len(), [out_ends.len(), out_values.len()])?;
+    Ok(grouped(ends, values, mask, keep))
+}
+
+pub fn merge_by(
+    ends: &[i64],
+    values: &[i64],
+    code: u8,
+    out_ends: &[i64],
+    out_values: &[i64],
+) -> Reading {
+    ask_code(code, COMPARISONS)?;
+    ask_sequence(ends, values)?;
+    ask_room(ends.len(), [out_ends.len(), out_values.len()])?;
+    let joined = |pair: &[i64]| operation(code, pair[0], pair[1]) as u8;
+    let mask: Vec<u8> = values.windows(2).map(joined).collect();
+    Ok(grouped(ends, values, &mask, 0))
+}
+
+pub fn merge_plan(ends: &[i64], mask: &[u8], out_ends: &[i64], out_offsets: &[usize]) -> Reading {
+    ask_mask(mask)?;
+    ask_mask_length(mask, ends.len())?;
+    ask_ends(ends)?;
+    ask_buffer(0, ends.len(), out_ends.len())?;
+    ask_buffer(1, ends.len() + 1, out_offsets.len())?;
+    let groups = groups(ends.len(), mask);
+    let past = groups.iter().map(|&(_, past)| past);
+    let offsets = [0].into_iter().chain(past).collect();
+    Ok(Written::groups(group_ends(ends, &groups), offsets))
+}
+
+pub fn group_ids(offsets: &[usize], out_ids: &[usize]) -> Reading {
+    let runs = ask_rising(offsets)?;
+    ask_room(runs, [out_ids.len()])?;
+    let holds = |g: &usize, run| offsets[*g] <= run && run < offsets[g + 1];
+    let group = |run| (0..offsets.len() - 1).find(|g| holds(g, run));
+    let ids = (0..runs).map(|run| group(run).expect("a group has every run"));
+    Ok(Written::places(ids.collect()))
 }

@@ -3,7 +3,7 @@
 
 use crate::answer::{self, Refusal};
 use crate::call::{Fill, Reading, Written};
-use runlength::{Error, PlanMany, Result, Rle, RleLike, RleRef};
+use runlength::{Error, Keep, MergePlan, PlanMany, Result, Rle, RleLike, RleRef};
 
 /// The most positions that the original is asked to list: it allocates them.
 const LISTED: i64 = 1 << 16;
@@ -62,6 +62,16 @@ fn made(result: Result<Rle<i64>>) -> InDomain {
     Some(result.map(written).map_err(Refusal::from))
 }
 
+/// A valid sequence.
+fn view<'a>(ends: &'a [i64], values: &'a [i64]) -> Option<RleRef<'a, i64>> {
+    RleRef::from_ends(ends, values).ok()
+}
+
+/// Valid ends alone, as a sequence of any values.
+fn of_ends(ends: &[i64]) -> Option<RleRef<'_, i64>> {
+    view(ends, ends)
+}
+
 /// The sequence in the first `used` entries, changed.
 fn changed(
     ends: &[i64],
@@ -75,7 +85,7 @@ fn changed(
 }
 
 pub fn empty() -> InDomain {
-    Some(Ok(Written::nothing(Rle::<i64>::new().num_runs())))
+    Some(Ok(Written::nothing([Rle::<i64>::new().num_runs()])))
 }
 
 pub fn from_runs(runs: &[i64], values: &[i64]) -> InDomain {
@@ -84,7 +94,11 @@ pub fn from_runs(runs: &[i64], values: &[i64]) -> InDomain {
 
 pub fn from_ends(ends: &[i64], values: &[i64]) -> InDomain {
     let checked = RleRef::from_ends(ends, values);
-    Some(checked.map(|_| Written::nothing(0)).map_err(Refusal::from))
+    Some(
+        checked
+            .map(|_| Written::nothing([0]))
+            .map_err(Refusal::from),
+    )
 }
 
 pub fn repeat(value: i64, length: i64) -> InDomain {
@@ -104,7 +118,7 @@ pub fn from_dense(values: &[i64]) -> InDomain {
 }
 
 pub fn to_dense(ends: &[i64], values: &[i64]) -> InDomain {
-    let rle = RleRef::from_ends(ends, values).ok()?;
+    let rle = view(ends, values)?;
     (rle.len() <= LISTED).then(|| Ok(Written::list(rle.to_dense())))
 }
 
@@ -135,25 +149,22 @@ fn views<'a>(
     if !whole || ends.len() != values.len() {
         return None;
     }
-    let view = |pair: &[usize]| {
+    let part = |pair: &[usize]| {
         let (ends, values) = (ends.get(pair[0]..pair[1])?, values.get(pair[0]..pair[1])?);
-        RleRef::from_ends(ends, values).ok()
+        view(ends, values)
     };
-    offsets.windows(2).map(view).collect()
+    offsets.windows(2).map(part).collect()
 }
 
 pub fn equals(a_ends: &[i64], a_values: &[i64], b_ends: &[i64], b_values: &[i64]) -> InDomain {
-    let a = RleRef::from_ends(a_ends, a_values).ok()?;
-    let b = RleRef::from_ends(b_ends, b_values).ok()?;
-    Some(Ok(Written::nothing(a.equals(&b).into())))
+    let a = view(a_ends, a_values)?;
+    let b = view(b_ends, b_values)?;
+    Some(Ok(Written::nothing([a.equals(&b).into()])))
 }
 
 pub fn plan(a: &[i64], b: &[i64]) -> InDomain {
-    let valid = |ends| RleRef::from_ends(ends, ends).is_ok();
-    (valid(a) && valid(b)).then(|| {
-        let plan = runlength::plan(a, b);
-        Ok(Written::plan(plan.ends, plan.idx_a, plan.idx_b))
-    })
+    let plan = runlength::plan(of_ends(a)?.ends(), of_ends(b)?.ends());
+    Some(Ok(Written::plan(plan.ends, plan.idx_a, plan.idx_b)))
 }
 
 macro_rules! zips {
@@ -162,8 +173,8 @@ macro_rules! zips {
             a_ends: &[i64], a_values: &[i64], b_ends: &[i64], b_values: &[i64],
             fill_a: Fill, fill_b: Fill, code: u8,
         ) -> InDomain {
-            let a = RleRef::from_ends(a_ends, a_values).ok()?;
-            let b = RleRef::from_ends(b_ends, b_values).ok()?;
+            let a = view(a_ends, a_values)?;
+            let b = view(b_ends, b_values)?;
             let (fill_a, fill_b) = (fill_a.option(), fill_b.option());
             let (fill_a, fill_b) = (fill_a.as_ref(), fill_b.as_ref());
             made(runlength::$name(a, b, fill_a, fill_b, operation(code)?))
@@ -191,4 +202,129 @@ pub fn zip_many(offsets: &[usize], ends: &[i64], values: &[i64], fill: Fill, cod
         folded.expect("a segment is a sequence's")
     };
     made(runlength::zip_many(&views, fill.option().as_ref(), fold))
+}
+
+pub fn run_index(ends: &[i64], pos: i64) -> InDomain {
+    let index = of_ends(ends)?.run_index(pos);
+    let counts = [index.is_some().into(), index.unwrap_or(0)];
+    Some(Ok(Written::nothing(counts)))
+}
+
+pub fn slice(ends: &[i64], values: &[i64], start: i64, end: i64) -> InDomain {
+    made(Ok(view(ends, values)?.slice(start, end)))
+}
+
+/// Where a part of a list starts in it, 0 of an empty part, and its length.
+fn place(part: &[i64], list: &[i64]) -> [usize; 2] {
+    let bytes = match part.len() {
+        0 => 0,
+        _ => part.as_ptr().addr() - list.as_ptr().addr(),
+    };
+    [bytes / size_of::<i64>(), part.len()]
+}
+
+pub fn slice_view(ends: &[i64], values: &[i64], start: i64, end: i64) -> InDomain {
+    let rle = view(ends, values)?;
+    let slice = rle.slice_view(start, end);
+    let [first, _] = place(slice.values(), values);
+    // A view does not tell its start: one from 0 on has so many positions more.
+    let start = match slice.is_empty() {
+        true => 0,
+        false => rle.slice_view(0, end).len() - slice.len(),
+    };
+    let counts = [first, start as usize, slice.len() as usize];
+    Some(Ok(Written::nothing(counts)))
+}
+
+pub fn slice_view_values(ends: &[i64], values: &[i64], start: i64, end: i64) -> InDomain {
+    let rle = view(ends, values)?;
+    let part = rle.slice_view(start, end).values();
+    Some(Ok(Written::nothing(place(part, values))))
+}
+
+pub fn getitems(ends: &[i64], values: &[i64], starts: &[i64], stops: &[i64]) -> InDomain {
+    let items = view(ends, values)?.getitems(starts, stops).map(|items| {
+        let (_, offsets, ends, values) = items.into_parts();
+        Written::flat(offsets, ends, values)
+    });
+    Some(items.map_err(Refusal::from))
+}
+
+pub fn concat(offsets: &[usize], ends: &[i64], values: &[i64]) -> InDomain {
+    made(runlength::concat(views(offsets, ends, values)?))
+}
+
+pub fn shift(ends: &[i64], values: &[i64], distance: i64, fill: i64) -> InDomain {
+    made(Ok(view(ends, values)?.shift(distance, fill)))
+}
+
+pub fn reversed(ends: &[i64], values: &[i64]) -> InDomain {
+    made(Ok(view(ends, values)?.reversed()))
+}
+
+/// The closure of a comparison's code, of those that merges and ranges take.
+fn comparison(code: u8) -> Option<fn(&i64, &i64) -> bool> {
+    match code {
+        7 => Some(|x, y| x == y),
+        8 => Some(|x, y| x < y),
+        _ => None,
+    }
+}
+
+pub fn ranges_where(ends: &[i64], values: &[i64], code: u8, number: i64) -> InDomain {
+    let comparison = comparison(code)?;
+    let (starts, ends) = view(ends, values)?.ranges_where(|value| comparison(value, &number));
+    Some(Ok(Written::ranges(starts, ends)))
+}
+
+fn owned(ends: &[i64], values: &[i64]) -> Option<Rle<i64>> {
+    Rle::from_ends(ends.to_vec(), values.to_vec()).ok()
+}
+
+pub fn merge(ends: &[i64], values: &[i64]) -> InDomain {
+    made(Ok(owned(ends, values)?.merge()))
+}
+
+pub fn merged(ends: &[i64], values: &[i64]) -> InDomain {
+    made(Ok(view(ends, values)?.merged()))
+}
+
+fn flag(byte: u8) -> Option<bool> {
+    match byte {
+        0 => Some(false),
+        1 => Some(true),
+        _ => None,
+    }
+}
+
+fn flags(mask: &[u8]) -> Option<Vec<bool>> {
+    mask.iter().copied().map(flag).collect()
+}
+
+pub fn merge_mask(ends: &[i64], values: &[i64], mask: &[u8], keep: u8) -> InDomain {
+    let keep = match flag(keep)? {
+        false => Keep::First,
+        true => Keep::Last,
+    };
+    made(owned(ends, values)?.merge_mask(&flags(mask)?, keep))
+}
+
+pub fn merge_by(ends: &[i64], values: &[i64], code: u8) -> InDomain {
+    made(Ok(owned(ends, values)?.merge_by(comparison(code)?)))
+}
+
+pub fn merge_plan(ends: &[i64], mask: &[u8]) -> InDomain {
+    let plan = of_ends(ends)?.merge_plan(&flags(mask)?);
+    let groups = plan.map(|plan| Written::groups(plan.ends, plan.offsets));
+    Some(groups.map_err(Refusal::from))
+}
+
+pub fn group_ids(offsets: &[usize]) -> InDomain {
+    let starts = offsets.first()? == &0 && offsets.is_sorted();
+    let few = offsets.last()? <= &(LISTED as usize);
+    let plan = MergePlan {
+        ends: Vec::new(),
+        offsets: offsets.to_vec(),
+    };
+    (starts && few).then(|| Ok(Written::places(plan.group_ids())))
 }

@@ -1,15 +1,22 @@
 //! Times the library beside the original: bench ROUNDS
 //!
-//! Both sides take the same inputs, on one thread. They check them, except that the original's
-//! calls on several sequences take views or ends that have been checked before. Rounds alternate,
-//! and the best round of each side counts. Results go to memory that has been written before: the
-//! allocator keeps what it is given back, and both sides' buffers come from it, round after round.
+//! Both sides take the same inputs, on one thread. The library checks them; the original does where
+//! it makes a sequence, but its other calls take sequences, views or ends that have been checked
+//! before. Rounds alternate, and the best round of each side counts. Results go to memory that has
+//! been written before: the allocator keeps what it is given back, and both sides' buffers come from
+//! it, round after round.
+//!
+//! Some calls look at few runs, but check the ends of all. Each has a second row, without the check:
+//! its best time less that of from_ends on the same column in the same rounds. Where the check takes
+//! nearly all of the time, the difference is no more exact than the two times are.
 
-use compare::answer::Answer;
+use compare::answer::{Answer, Refusal};
 use compare::call::Fill;
 use compare::inputs::Rng;
 use compare::library::{self, Counted};
-use runlength::{Plan, PlanMany, Result, Rle, RleLike, RleRef};
+use runlength::{
+    Keep, MergePlan, Plan, PlanMany, Result, Rle, RleBatch, RleLike, RleRef, SliceView,
+};
 use std::env;
 use std::ffi::c_int;
 use std::hint::black_box;
@@ -29,8 +36,12 @@ const DIFFERENT: usize = 1 << 40;
 /// The runs of a column that is built up by one call for each.
 const BUILT_UP: usize = 1000;
 
-/// The least that is timed at once, in what a row counts.
-const TIMED: usize = 20_000;
+/// The intervals that are taken out of a column, and their greatest length.
+const INTERVALS: usize = 100_000;
+const LONGEST_INTERVAL: usize = 1000;
+
+/// What calls that are timed at once take at least.
+const TIMED: Duration = Duration::from_micros(200);
 
 unsafe extern "C" {
     fn mallopt(parameter: c_int, value: c_int) -> c_int;
@@ -53,7 +64,8 @@ trait Reference<L> {
 
 type RunBuffers = (Vec<i64>, Vec<i64>);
 type PlanBuffers = (Vec<i64>, Vec<usize>, Vec<usize>);
-type PlanManyBuffers = (Vec<i64>, Vec<usize>);
+type PlacedBuffers = (Vec<i64>, Vec<usize>);
+type FlatBuffers = (Vec<usize>, Vec<i64>, Vec<i64>);
 
 impl Reference<RunBuffers> for Rle<i64> {
     fn matches(&self, counts: &[usize], (ends, values): &RunBuffers) -> bool {
@@ -63,8 +75,8 @@ impl Reference<RunBuffers> for Rle<i64> {
     }
 }
 
-impl Reference<Vec<i64>> for Vec<i64> {
-    fn matches(&self, counts: &[usize], list: &Vec<i64>) -> bool {
+impl<T: PartialEq> Reference<Vec<T>> for Vec<T> {
+    fn matches(&self, counts: &[usize], list: &Vec<T>) -> bool {
         counts == [self.len()] && list.starts_with(self)
     }
 }
@@ -90,8 +102,8 @@ impl Reference<PlanBuffers> for Plan {
     }
 }
 
-impl Reference<PlanManyBuffers> for PlanMany {
-    fn matches(&self, counts: &[usize], (ends, idx): &PlanManyBuffers) -> bool {
+impl Reference<PlacedBuffers> for PlanMany {
+    fn matches(&self, counts: &[usize], (ends, idx): &PlacedBuffers) -> bool {
         let (segments, columns) = (self.ends.len(), self.idx.len());
         let mut places = idx.chunks(columns).take(segments).enumerate();
         counts == [segments, segments * columns]
@@ -105,17 +117,52 @@ impl Reference<PlanManyBuffers> for PlanMany {
     }
 }
 
+impl Reference<()> for Option<usize> {
+    fn matches(&self, counts: &[usize], (): &()) -> bool {
+        counts == [usize::from(self.is_some()), self.unwrap_or(0)]
+    }
+}
+
+impl Reference<()> for SliceView<'_, i64> {
+    fn matches(&self, counts: &[usize], (): &()) -> bool {
+        counts.last() == Some(&(self.len() as usize))
+    }
+}
+
+impl Reference<FlatBuffers> for RleBatch<usize, i64> {
+    fn matches(&self, counts: &[usize], (offsets, ends, values): &FlatBuffers) -> bool {
+        counts == [self.len(), self.ends().len()]
+            && offsets.starts_with(self.offsets())
+            && ends.starts_with(self.ends())
+            && values.starts_with(self.values())
+    }
+}
+
+/// Starts and ends of ranges.
+impl Reference<RunBuffers> for RunBuffers {
+    fn matches(&self, counts: &[usize], (starts, ends): &RunBuffers) -> bool {
+        counts == [self.0.len()] && starts.starts_with(&self.0) && ends.starts_with(&self.1)
+    }
+}
+
+impl Reference<PlacedBuffers> for MergePlan {
+    fn matches(&self, counts: &[usize], (ends, offsets): &PlacedBuffers) -> bool {
+        counts == [self.num_groups()]
+            && ends.starts_with(&self.ends)
+            && offsets.starts_with(&self.offsets)
+    }
+}
+
 struct Bench {
     rounds: NonZeroUsize,
 }
 
 impl Bench {
-    /// Prints a row of the table: the time for each of a call's `units`. `lend` makes the library's
-    /// buffers and `given` what a call of the original consumes, both untimed.
+    /// Prints a row of the table. `lend` makes the library's buffers and `given` what a call of the
+    /// original consumes, both untimed.
     fn measure<L, A: Into<Answer>, G, R: Reference<L>>(
         &self,
-        [call, input, unit]: [&str; 3],
-        units: usize,
+        row: Row,
         lend: impl Fn() -> L,
         mut library: impl FnMut(&mut L) -> A,
         mut given: impl FnMut() -> G,
@@ -131,23 +178,89 @@ impl Bench {
         );
         drop((lent, result));
 
-        let calls = TIMED.div_ceil(units);
-        let (mut ours, mut theirs) = (Duration::MAX, Duration::MAX);
+        let (mut ours, mut theirs, mut check) = (Timing::new(), Timing::new(), Timing::new());
         for _ in 0..self.rounds.get() {
             let mut lent = lend();
-            ours = ours.min(time(calls, || (), |()| library(&mut lent)));
+            ours.time(|| (), |()| library(&mut lent));
             drop(lent);
-            theirs = theirs.min(time(calls, &mut given, &mut original));
+            theirs.time(&mut given, &mut original);
+            if let Some(column) = row.checked {
+                check.time(|| (), |()| check_ends(column));
+            }
         }
-        let each = |time: Duration| time.as_secs_f64() * 1e9 / (calls * units) as f64;
-        let (ours, theirs) = (each(ours), each(theirs));
-        let figures = [ours, theirs, ours / theirs].map(|figure| format!("{figure:.2}"));
-        print_row([call, input, unit], figures.each_ref().map(String::as_str));
+        row.print(row.input, ours.best, theirs.best);
+        if row.checked.is_some() {
+            row.print("  without the check", ours.best - check.best, theirs.best);
+        }
+    }
+}
+
+/// A row of the table: a call, its input, and the time for each of so many units.
+struct Row<'a> {
+    call: &'a str,
+    input: &'a str,
+    unit: &'a str,
+    units: usize,
+    /// The column without whose check the time is given as well.
+    checked: Option<&'a Rle<i64>>,
+}
+
+impl<'a> Row<'a> {
+    fn new([call, input, unit]: [&'a str; 3], units: usize) -> Self {
+        Row {
+            call,
+            input,
+            unit,
+            units,
+            checked: None,
+        }
+    }
+
+    fn without_check(self, column: &'a Rle<i64>) -> Self {
+        Row {
+            checked: Some(column),
+            ..self
+        }
+    }
+
+    /// The times of a call are in nanoseconds.
+    fn print(&self, input: &str, ours: f64, theirs: f64) {
+        let units = self.units as f64;
+        let figures = [ours / units, theirs / units, ours / theirs].map(|f| format!("{f:.2}"));
+        let names = [self.call, input, self.unit];
+        print_row(names, figures.each_ref().map(String::as_str));
+    }
+}
+
+/// What a call takes.
+struct Timing {
+    /// How many are timed at once; none before the first.
+    calls: usize,
+    /// The best time of a call, in nanoseconds.
+    best: f64,
+}
+
+impl Timing {
+    fn new() -> Self {
+        Timing {
+            calls: 0,
+            best: f64::INFINITY,
+        }
+    }
+
+    /// Times calls. What they give back is dropped after that.
+    fn time<G, R>(&mut self, mut given: impl FnMut() -> G, mut call: impl FnMut(G) -> R) {
+        if self.calls == 0 {
+            let once = time(1, &mut given, &mut call).as_nanos().max(1);
+            self.calls = TIMED.as_nanos().div_ceil(once) as usize;
+        }
+        let all = time(self.calls, given, call).as_secs_f64() * 1e9;
+        self.best = self.best.min(all / self.calls as f64);
     }
 }
 
 fn print_row([call, input, unit]: [&str; 3], [library, original, ratio]: [&str; 3]) {
-    println!("| {call:12} | {input:33} | {unit:8} | {library:>7} | {original:>7} | {ratio:>10} |");
+    println!("| {call:12} | {input:33} | {unit:8} | {library:>9} | {original:>9} | {ratio:>9} |");
 }
 
 /// How long the calls take. What they give back is dropped after that.
@@ -188,8 +301,7 @@ fn split(rng: &mut Rng, column: &Rle<i64>) -> Rle<i64> {
 
 fn from_runs(bench: &Bench, input: &str, runs: &[i64], values: &[i64]) {
     bench.measure(
-        ["from_runs", input, "run"],
-        runs.len(),
+        Row::new(["from_runs", input, "run"], runs.len()),
         || run_buffers(runs.len()),
         |(ends, out)| library::from_runs(black_box(runs), black_box(values), ends, out),
         || values.to_vec(),
@@ -197,13 +309,16 @@ fn from_runs(bench: &Bench, input: &str, runs: &[i64], values: &[i64]) {
     );
 }
 
+fn check_ends(column: &Rle<i64>) -> Refusal {
+    library::from_ends(black_box(column.ends()), black_box(column.values()))
+}
+
 fn from_ends(bench: &Bench, input: &str, column: &Rle<i64>) {
     let (ends, values) = (column.ends(), column.values());
     bench.measure(
-        ["from_ends", input, "run"],
-        ends.len(),
+        Row::new(["from_ends", input, "run"], ends.len()),
         || (),
-        |()| library::from_ends(black_box(ends), black_box(values)),
+        |()| check_ends(column),
         || (),
         |()| RleRef::from_ends(black_box(ends), black_box(values)),
     );
@@ -211,8 +326,7 @@ fn from_ends(bench: &Bench, input: &str, column: &Rle<i64>) {
 
 fn repeat(bench: &Bench, input: &str, length: i64) {
     bench.measure(
-        ["repeat", input, "call"],
-        1,
+        Row::new(["repeat", input, "call"], 1),
         || run_buffers(1),
         |(ends, out)| library::repeat(black_box(7), black_box(length), ends, out),
         || (),
@@ -231,8 +345,7 @@ fn build_up(
 ) {
     let entries = || black_box(list).iter().zip(black_box(values));
     bench.measure(
-        [call, "a column of 1000 runs", "call"],
-        list.len(),
+        Row::new([call, "a column of 1000 runs", "call"], list.len()),
         || run_buffers(list.len()),
         |(ends, out)| {
             entries().fold(Counted::default(), |answer, (&entry, &value)| {
@@ -250,8 +363,7 @@ fn build_up(
 
 fn from_dense(bench: &Bench, input: &str, values: &[i64]) {
     bench.measure(
-        ["from_dense", input, "value"],
-        values.len(),
+        Row::new(["from_dense", input, "value"], values.len()),
         || run_buffers(values.len()),
         |(ends, out)| library::from_dense(black_box(values), ends, out),
         || (),
@@ -263,8 +375,7 @@ fn to_dense(bench: &Bench, input: &str, column: &Rle<i64>) {
     let (ends, values) = (column.ends(), column.values());
     let length = column.len() as usize;
     bench.measure(
-        ["to_dense", input, "position"],
-        length,
+        Row::new(["to_dense", input, "position"], length),
         || vec![-1; length],
         |out| library::to_dense(black_box(ends), black_box(values), out),
         || (),
@@ -274,8 +385,7 @@ fn to_dense(bench: &Bench, input: &str, column: &Rle<i64>) {
 
 fn equals(bench: &Bench, input: &str, a: &Rle<i64>, b: &Rle<i64>) {
     bench.measure(
-        ["equals", input, "run"],
-        a.num_runs() + b.num_runs(),
+        Row::new(["equals", input, "run"], a.num_runs() + b.num_runs()),
         || (),
         |()| {
             let (a, b) = (black_box(a), black_box(b));
@@ -289,8 +399,7 @@ fn equals(bench: &Bench, input: &str, a: &Rle<i64>, b: &Rle<i64>) {
 fn plan(bench: &Bench, input: &str, a: &[i64], b: &[i64]) {
     let runs = a.len() + b.len();
     bench.measure(
-        ["plan", input, "run"],
-        runs,
+        Row::new(["plan", input, "run"], runs),
         || (vec![-1; runs], vec![1; runs], vec![1; runs]),
         |(ends, idx_a, idx_b)| library::plan(black_box(a), black_box(b), ends, idx_a, idx_b),
         || (a, b),
@@ -314,8 +423,7 @@ macro_rules! zips {
         let [a, b]: &[Rle<i64>; 2] = $columns;
         let runs = a.num_runs() + b.num_runs();
         $($bench.measure(
-            [stringify!($call), $input, "run"],
-            runs,
+        Row::new([stringify!($call), $input, "run"], runs),
             || run_buffers(runs),
             |(ends, out)| {
                 let (a, b) = (black_box(a), black_box(b));
@@ -358,8 +466,7 @@ fn plan_many(bench: &Bench, input: &str, columns: &[Rle<i64>]) {
     let runs = flat.ends.len();
     let inputs: Vec<&[i64]> = columns.iter().map(RleLike::ends).collect();
     bench.measure(
-        ["plan_many", input, "run"],
-        runs,
+        Row::new(["plan_many", input, "run"], runs),
         || (vec![-1; runs], vec![1; runs * columns.len()]),
         |(ends, idx)| {
             let flat = black_box(&flat);
@@ -376,8 +483,7 @@ fn zip_many(bench: &Bench, input: &str, columns: &[Rle<i64>]) {
     let runs = flat.ends.len();
     let views: Vec<RleRef<i64>> = columns.iter().map(RleLike::view).collect();
     bench.measure(
-        ["zip_many", input, "run"],
-        runs,
+        Row::new(["zip_many", input, "run"], runs),
         || run_buffers(runs),
         |(ends, out)| {
             let (flat, fill, code) = (black_box(&flat), black_box(FILL), black_box(ADD));
@@ -400,6 +506,161 @@ fn zip_many(bench: &Bench, input: &str, columns: &[Rle<i64>]) {
             };
             runlength::zip_many(views, fill, sum)
         },
+    );
+}
+
+fn run_index(bench: &Bench, input: &str, column: &Rle<i64>, pos: i64) {
+    bench.measure(
+        Row::new(["run_index", input, "call"], 1).without_check(column),
+        || (),
+        |()| library::run_index(black_box(column.ends()), black_box(pos)),
+        || (),
+        |()| Ok(black_box(column).run_index(black_box(pos))),
+    );
+}
+
+/// Of the column from a start up to an end, which touch so many runs.
+fn slice(bench: &Bench, input: &str, column: &Rle<i64>, [start, end]: [i64; 2]) {
+    let runs = column.slice(start, end).num_runs();
+    bench.measure(
+        Row::new(["slice", input, "run"], runs).without_check(column),
+        || run_buffers(runs),
+        |(ends, out)| {
+            let (column, start, end) = (black_box(column), black_box(start), black_box(end));
+            library::slice(column.ends(), column.values(), start, end, ends, out)
+        },
+        || (),
+        |()| Ok(black_box(column).slice(black_box(start), black_box(end))),
+    );
+}
+
+fn slice_view(bench: &Bench, input: &str, column: &Rle<i64>, [start, end]: [i64; 2]) {
+    bench.measure(
+        Row::new(["slice_view", input, "call"], 1).without_check(column),
+        || (),
+        |()| {
+            let (column, start, end) = (black_box(column), black_box(start), black_box(end));
+            library::slice_view(column.ends(), column.values(), start, end)
+        },
+        || (),
+        |()| Ok(black_box(column).slice_view(black_box(start), black_box(end))),
+    );
+}
+
+fn getitems(bench: &Bench, input: &str, column: &Rle<i64>, starts: &[i64], stops: &[i64]) {
+    let items = column.getitems(starts, stops);
+    let runs = items.expect("the intervals are valid").ends().len();
+    bench.measure(
+        Row::new(["getitems", input, "interval"], starts.len()),
+        || (vec![1; starts.len() + 1], vec![-1; runs], vec![-1; runs]),
+        |(offsets, ends, out)| {
+            let column = black_box(column);
+            let (starts, stops) = (black_box(starts), black_box(stops));
+            library::getitems(
+                column.ends(),
+                column.values(),
+                starts,
+                stops,
+                offsets,
+                ends,
+                out,
+            )
+        },
+        || (),
+        |()| black_box(column).getitems(black_box(starts), black_box(stops)),
+    );
+}
+
+fn concat(bench: &Bench, input: &str, columns: &[Rle<i64>]) {
+    let flat = Flat::new(columns);
+    let runs = flat.ends.len();
+    let views: Vec<RleRef<i64>> = columns.iter().map(RleLike::view).collect();
+    bench.measure(
+        Row::new(["concat", input, "run"], runs),
+        || run_buffers(runs),
+        |(ends, out)| {
+            let flat = black_box(&flat);
+            library::concat(&flat.offsets, &flat.ends, &flat.values, ends, out)
+        },
+        || &views,
+        |views| runlength::concat(views.iter().copied()),
+    );
+}
+
+fn shift(bench: &Bench, input: &str, column: &Rle<i64>, distance: i64) {
+    bench.measure(
+        Row::new(["shift", input, "run"], column.num_runs()),
+        || run_buffers(column.num_runs() + 1),
+        |(ends, out)| {
+            let (column, distance) = (black_box(column), black_box(distance));
+            library::shift(column.ends(), column.values(), distance, 7, ends, out)
+        },
+        || (),
+        |()| Ok(black_box(column).shift(black_box(distance), 7)),
+    );
+}
+
+/// The code of less.
+const LESS: u8 = 8;
+
+fn ranges_where(bench: &Bench, input: &str, column: &Rle<i64>, number: i64) {
+    bench.measure(
+        Row::new(["ranges_where", input, "run"], column.num_runs()),
+        || run_buffers(column.num_runs()),
+        |(starts, ends)| {
+            let (column, code, number) = (black_box(column), black_box(LESS), black_box(number));
+            library::ranges_where(column.ends(), column.values(), code, number, starts, ends)
+        },
+        || black_box(number),
+        |number| Ok(black_box(column).ranges_where(|value| *value < number)),
+    );
+}
+
+/// A call that makes a column of at most as many runs out of one, of which the original is `given`
+/// a copy where it consumes it.
+fn remade<'a, G>(
+    bench: &Bench,
+    [call, input]: [&str; 2],
+    column: &'a Rle<i64>,
+    library: impl Fn(&[i64], &[i64], &mut [i64], &mut [i64]) -> Counted,
+    given: impl Fn(&'a Rle<i64>) -> G,
+    original: impl Fn(G) -> Result<Rle<i64>>,
+) {
+    bench.measure(
+        Row::new([call, input, "run"], column.num_runs()),
+        || run_buffers(column.num_runs()),
+        |(ends, out)| {
+            let column = black_box(column);
+            library(column.ends(), column.values(), ends, out)
+        },
+        || given(column),
+        original,
+    );
+}
+
+/// A mask as the library takes it.
+fn bytes(mask: &[bool]) -> Vec<u8> {
+    mask.iter().map(|&joined| joined.into()).collect()
+}
+
+fn merge_plan(bench: &Bench, input: &str, ends: &[i64], mask: &[bool]) {
+    let bytes = bytes(mask);
+    bench.measure(
+        Row::new(["merge_plan", input, "run"], ends.len()),
+        || (vec![-1; ends.len()], vec![1; ends.len() + 1]),
+        |(out, offsets)| library::merge_plan(black_box(ends), black_box(&bytes), out, offsets),
+        || (),
+        |()| runlength::merge_plan(black_box(ends), black_box(mask)),
+    );
+}
+
+fn group_ids(bench: &Bench, input: &str, plan: &MergePlan, runs: usize) {
+    bench.measure(
+        Row::new(["group_ids", input, "run"], runs),
+        || vec![1; runs],
+        |ids| library::group_ids(black_box(&plan.offsets), ids),
+        || (),
+        |()| Ok(black_box(plan).group_ids()),
     );
 }
 
@@ -483,5 +744,101 @@ fn main() -> ExitCode {
     plan_many(&bench, "16 x 100k runs", &columns);
     zip_many(&bench, "16 x 100k runs, add, 4 values", &columns);
     zip_many(&bench, "100 x 20k runs, add, 4 values", &many(100, 20_000));
+    concat(&bench, "16 x 100k runs, 4 values", &columns);
+    concat(&bench, "1000 x 1000 runs, 4 values", &many(1000, 1000));
+
+    let column = &random_column(rng, RUNS, 99, DIFFERENT);
+    let length = column.len();
+    let few = &random_column(rng, BUILT_UP, 99, DIFFERENT);
+    for (input, column) in [("1M runs", column), ("1000 runs", few)] {
+        let third = column.len() / 3;
+        run_index(&bench, input, column, third);
+        slice_view(&bench, input, column, [third, 2 * third]);
+    }
+    slice(&bench, "1M runs, nearly all", column, [5, length - 5]);
+    let middle = RUNS / 2;
+    let thousand = [column.ends()[middle], column.ends()[middle + 1000]];
+    slice(&bench, "1M runs, 1000 in the middle", column, thousand);
+    let (starts, stops): (Vec<i64>, Vec<i64>) = (0..INTERVALS)
+        .map(|_| {
+            let start = rng.below(length as usize);
+            let stop = start + rng.below(LONGEST_INTERVAL);
+            (start as i64, stop as i64)
+        })
+        .unzip();
+    getitems(
+        &bench,
+        "1M runs, 100k of about 10 runs",
+        column,
+        &starts,
+        &stops,
+    );
+    shift(&bench, "1M runs, a third up", column, length / 3);
+    shift(&bench, "1M runs, a third down", column, -length / 3);
+    shift(&bench, "1M runs, by 0", column, 0);
+    let reversed = |column: &Rle<i64>| Ok(column.reversed());
+    remade(
+        &bench,
+        ["reversed", "1M runs"],
+        column,
+        library::reversed,
+        |column| column,
+        reversed,
+    );
+    let half = DIFFERENT as i64 / 2;
+    ranges_where(&bench, "1M runs, less, half of them", column, half);
+    remade(
+        &bench,
+        ["merge_by", "1M runs, less, 2^40 values"],
+        column,
+        |ends, values, out_ends, out| {
+            library::merge_by(ends, values, black_box(LESS), out_ends, out)
+        },
+        Rle::clone,
+        |column| Ok(column.merge_by(|x, y| x < y)),
+    );
+
+    let mask: Vec<bool> = (1..RUNS).map(|_| rng.below(2) == 0).collect();
+    for (input, code, keep) in [
+        ("1M runs, random, keep first", 0, Keep::First),
+        ("1M runs, random, keep last", 1, Keep::Last),
+    ] {
+        let bytes = bytes(&mask);
+        remade(
+            &bench,
+            ["merge_mask", input],
+            column,
+            |ends, values, out_ends, out| {
+                let (mask, keep) = (black_box(&bytes), black_box(code));
+                library::merge_mask(ends, values, mask, keep, out_ends, out)
+            },
+            Rle::clone,
+            |column| column.merge_mask(black_box(&mask), black_box(keep)),
+        );
+    }
+    merge_plan(&bench, "1M runs, random", column.ends(), &mask);
+    let plan = column.merge_plan(&mask).expect("a byte for each pair");
+    group_ids(&bench, "0.5M groups of 1M runs", &plan, RUNS);
+
+    let column = &random_column(rng, RUNS, 99, 4);
+    let input = "1M runs, 4 values";
+    let merged = |column: &Rle<i64>| Ok(column.merged());
+    remade(
+        &bench,
+        ["merged", input],
+        column,
+        library::merged,
+        |column| column,
+        merged,
+    );
+    let merge = |column: Rle<i64>| Ok(column.merge());
+    remade(
+        &bench,
+        ["merge", input],
+        column,
+        library::merge,
+        Rle::clone,
+        merge,
+    );
     ExitCode::SUCCESS
 }

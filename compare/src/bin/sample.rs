@@ -1,9 +1,9 @@
 //! The sample that crates/replay replays: sample SEED
 //!
 //! A line for each case: the call's number, its arguments, the refusal's six numbers, the counts
-//! and each lent buffer after the call. A list or buffer is its length and its entries; a fill is
-//! whether it is given, 0 if not, and its value. The answers are the original's in its domain, and
-//! document 01's elsewhere.
+//! and each lent buffer after the call. A list, mask or buffer is its length and its entries; a fill
+//! is whether it is given, 0 if not, and its value. The answers are the original's in its domain,
+//! and document 01's elsewhere. Both are compared on these cases and on every small input.
 
 use compare::answer::Error;
 use compare::call::{Arg, CALLS, Call, Outcome};
@@ -13,8 +13,8 @@ use std::env;
 use std::process::ExitCode;
 
 /// Lines for each call. With their length they keep the sample below 60 KiB.
-const LINES: usize = 44;
-const LONGEST_LINE: usize = 180;
+const LINES: usize = 22;
+const LONGEST_LINE: usize = 160;
 const LONGEST_LIST: usize = 16;
 
 /// Cases made for each call, out of which the lines are picked.
@@ -40,6 +40,7 @@ fn is_plain(args: &[Arg], outcome: &Outcome) -> bool {
     let plain_arg = |arg: &Arg| match arg {
         Arg::List(list) => list.len() <= LONGEST_LIST,
         Arg::Places(list) => list.len() <= LONGEST_LIST && list.iter().all(|&place| plain(place)),
+        Arg::Bytes(list) => list.len() <= LONGEST_LIST,
         Arg::Number(_) | Arg::Code(_) => true,
         Arg::Count(count) => plain(*count),
         Arg::Fill(fill) => i64::try_from(fill.given).is_ok(),
@@ -48,20 +49,26 @@ fn is_plain(args: &[Arg], outcome: &Outcome) -> bool {
     args.iter().all(plain_arg) && numbers.all(|number| i64::try_from(number).is_ok())
 }
 
+/// Document 01's answer, and the original's in its domain, which are equal.
+fn agreed(call: &Call, args: &[Arg]) -> Outcome {
+    let naive = call.naive(args);
+    if let Some(original) = call.original(args, &naive) {
+        assert!(original == naive, "{}: {original} is no {naive}", call.name);
+    }
+    naive
+}
+
 /// The lines of a call, as evenly out of all classes as these last.
 fn lines(call: &Call, rng: &mut Rng) -> Vec<String> {
     let mut classes: BTreeMap<Class, Vec<String>> = BTreeMap::new();
     let mut seen = BTreeSet::new();
     for _ in 0..CASES {
         let (args, fit) = inputs::random(call, rng);
-        let naive = call.naive(&args);
-        if let Some(original) = call.original(&args, &naive) {
-            assert!(original == naive, "{}: {original} is no {naive}", call.name);
-        }
+        let outcome = agreed(call, &args);
         let words: Vec<String> = args.iter().map(Arg::to_string).collect();
-        let line = format!("{} {} {naive}", call.number, words.join(" "));
-        if line.len() < LONGEST_LINE && is_plain(&args, &naive) && seen.insert(line.clone()) {
-            classes.entry(class(&naive, fit)).or_default().push(line);
+        let line = format!("{} {} {outcome}", call.number, words.join(" "));
+        if line.len() < LONGEST_LINE && is_plain(&args, &outcome) && seen.insert(line.clone()) {
+            classes.entry(class(&outcome, fit)).or_default().push(line);
         }
     }
     let of_rank = |rank| classes.values().filter_map(move |lines| lines.get(rank));
@@ -75,6 +82,7 @@ fn main() -> ExitCode {
     };
     let mut rng = Rng::new(seed);
     for call in CALLS.iter().filter(|call| call.takes_arguments()) {
+        inputs::small(call).for_each(|args| drop(agreed(call, &args)));
         for line in lines(call, &mut rng) {
             println!("{line}");
         }

@@ -1,13 +1,14 @@
-// The calls on a row's arguments. What they answer is in numbers: the refusal's six and two counts, the second 0 where there is one.
+// The calls on a row's arguments. What they answer is in numbers: the refusal's six and three counts, 0 where there are fewer.
 use crate::row;
 use crate::shape::Places;
 use column::sequence;
+use runlength::RlBatched;
 use runlength::RlCounted;
 use runlength::RlFill;
 use runlength::RlPlannedMany;
 use runlength::RlRefusal;
 
-fn numbers_of(refusal: RlRefusal, first: u64, second: u64) -> [i64; 8] {
+fn numbers_of(refusal: RlRefusal, first: u64, second: u64, third: u64) -> [i64; 9] {
     [
         num::as_signed(refusal.number),
         num::as_signed(refusal.first),
@@ -17,11 +18,12 @@ fn numbers_of(refusal: RlRefusal, first: u64, second: u64) -> [i64; 8] {
         num::as_signed(refusal.position),
         num::as_signed(first),
         num::as_signed(second),
+        num::as_signed(third),
     ]
 }
 
-fn counted(answer: RlCounted) -> [i64; 8] {
-    numbers_of(answer.refusal, answer.count as u64, 0)
+fn counted(answer: RlCounted) -> [i64; 9] {
+    numbers_of(answer.refusal, answer.count as u64, 0, 0)
 }
 
 // One of the lists among the arguments, of which no call has more than four.
@@ -86,7 +88,86 @@ fn zip_many(
     runlength::rl_zip_many(&starts[..n], ends, values, fill, code, out_ends, out_values)
 }
 
-// The calls with a code.
+// getitems, its offsets as numbers of a row.
+fn getitems(
+    ends: &[i64],
+    values: &[i64],
+    starts: &[i64],
+    stops: &[i64],
+    out_offsets: &mut [i64],
+    out_ends: &mut [i64],
+    out_values: &mut [i64],
+) -> RlBatched {
+    let mut offsets = [0usize; row::LONGEST];
+    let n = row::fill_places(out_offsets, &mut offsets);
+    let answer = runlength::rl_getitems(
+        ends,
+        values,
+        starts,
+        stops,
+        &mut offsets[..n],
+        out_ends,
+        out_values,
+    );
+    row::put_places(&offsets, out_offsets);
+    answer
+}
+
+// concat, its offsets as numbers of a row.
+fn concat(
+    offsets: &[i64],
+    ends: &[i64],
+    values: &[i64],
+    out_ends: &mut [i64],
+    out_values: &mut [i64],
+) -> RlCounted {
+    let mut starts = [0usize; row::LONGEST];
+    let n = row::fill_places(offsets, &mut starts);
+    runlength::rl_concat(&starts[..n], ends, values, out_ends, out_values)
+}
+
+// merge_mask, its mask as numbers of a row.
+fn merge_mask(
+    ends: &[i64],
+    values: &[i64],
+    mask: &[i64],
+    keep: u8,
+    out_ends: &mut [i64],
+    out_values: &mut [i64],
+) -> RlCounted {
+    let mut bytes = [0u8; row::LONGEST];
+    let n = row::fill_bytes(mask, &mut bytes);
+    runlength::rl_merge_mask(ends, values, &bytes[..n], keep, out_ends, out_values)
+}
+
+// merge_plan, its mask and its offsets as numbers of a row.
+fn merge_plan(
+    ends: &[i64],
+    mask: &[i64],
+    out_ends: &mut [i64],
+    out_offsets: &mut [i64],
+) -> RlCounted {
+    let mut bytes = [0u8; row::LONGEST];
+    let mut offsets = [0usize; row::LONGEST];
+    let n = row::fill_bytes(mask, &mut bytes);
+    let m = row::fill_places(out_offsets, &mut offsets);
+    let answer = runlength::rl_merge_plan(ends, &bytes[..n], out_ends, &mut offsets[..m]);
+    row::put_places(&offsets, out_offsets);
+    answer
+}
+
+// group_ids, its offsets and ids as numbers of a row.
+fn group_ids(offsets: &[i64], out_ids: &mut [i64]) -> RlCounted {
+    let mut starts = [0usize; row::LONGEST];
+    let mut ids = [0usize; row::LONGEST];
+    let n = row::fill_places(offsets, &mut starts);
+    let m = row::fill_places(out_ids, &mut ids);
+    let answer = runlength::rl_group_ids(&starts[..n], &mut ids[..m]);
+    row::put_places(&ids, out_ids);
+    answer
+}
+
+// The calls of ops.rs, and zip_many.
 fn combined(
     row: &[i64],
     call: usize,
@@ -109,25 +190,104 @@ fn combined(
     }
 }
 
-pub fn answer(
+// The calls of slice.rs.
+fn sliced(
     row: &[i64],
     call: usize,
     places: Places,
     first: &mut [i64],
     second: &mut [i64],
     third: &mut [i64],
-) -> [i64; 8] {
+) -> [i64; 9] {
+    let a = listed(row, 0);
+    let b = listed(row, 1);
+    let numbers = sequence::part(row, places.numbers, places.lent);
+    let x = row::entry(numbers, 0);
+    let y = row::entry(numbers, 1);
+    match call {
+        15 => {
+            let found = runlength::rl_run_index(a, x);
+            numbers_of(found.refusal, found.found, found.index as u64, 0)
+        }
+        16 => counted(runlength::rl_slice(a, b, x, y, first, second)),
+        17 => {
+            let viewed = runlength::rl_slice_view(a, b, x, y);
+            numbers_of(
+                viewed.refusal,
+                viewed.first as u64,
+                num::as_unsigned(viewed.start),
+                num::as_unsigned(viewed.length),
+            )
+        }
+        18 => {
+            let part = runlength::rl_slice_view_values(a, b, x, y);
+            let start = num::as_signed(part.first as u64);
+            let count = num::as_signed(part.count as u64);
+            [0, 0, 0, 0, 0, 0, start, count, 0]
+        }
+        _ => {
+            let c = listed(row, 2);
+            let batched = getitems(a, b, c, listed(row, 3), first, second, third);
+            numbers_of(batched.refusal, batched.keys as u64, batched.runs as u64, 0)
+        }
+    }
+}
+
+// The calls of transform.rs.
+fn transformed(
+    row: &[i64],
+    call: usize,
+    places: Places,
+    first: &mut [i64],
+    second: &mut [i64],
+) -> RlCounted {
+    let a = listed(row, 0);
+    let b = listed(row, 1);
+    let numbers = sequence::part(row, places.numbers, places.lent);
+    let x = row::entry(numbers, 0);
+    let y = row::entry(numbers, 1);
+    match call {
+        19 => concat(a, b, listed(row, 2), first, second),
+        20 => runlength::rl_shift(a, b, x, y, first, second),
+        21 => runlength::rl_reversed(a, b, first, second),
+        _ => runlength::rl_ranges_where(a, b, row::code(row, places.code), y, first, second),
+    }
+}
+
+// The calls of merge.rs.
+fn merged(row: &[i64], call: usize, code: u8, first: &mut [i64], second: &mut [i64]) -> RlCounted {
+    let a = listed(row, 0);
+    let b = listed(row, 1);
+    match call {
+        23 => runlength::rl_merge(a, b, first, second),
+        24 => runlength::rl_merged(a, b, first, second),
+        25 => merge_mask(a, b, listed(row, 2), code, first, second),
+        26 => runlength::rl_merge_by(a, b, code, first, second),
+        27 => merge_plan(a, b, first, second),
+        _ => group_ids(a, first),
+    }
+}
+
+// The calls of rle.rs, plan.rs and many.rs.
+fn built(
+    row: &[i64],
+    call: usize,
+    places: Places,
+    first: &mut [i64],
+    second: &mut [i64],
+    third: &mut [i64],
+) -> [i64; 9] {
     let a = listed(row, 0);
     let b = listed(row, 1);
     let c = listed(row, 2);
-    let numbers = sequence::part(row, places.numbers, places.code);
+    let numbers = sequence::part(row, places.numbers, places.lent);
     let behind = sequence::part(row, places.behind, places.answer);
     let used = row::size(behind, 0);
     let x = row::entry(behind, 1);
     let y = row::entry(behind, 2);
     match call {
         2 => counted(runlength::rl_from_runs(a, b, first, second)),
-        3 => numbers_of(runlength::rl_from_ends(a, b), 0, 0),
+        3 => numbers_of(runlength::rl_from_ends(a, b), 0, 0, 0),
         4 => counted(runlength::rl_repeat(
             row::entry(numbers, 0),
             row::entry(numbers, 1),
@@ -140,17 +300,37 @@ pub fn answer(
         8 => counted(runlength::rl_to_dense(a, b, first)),
         9 => {
             let compared = runlength::rl_equals(a, b, c, listed(row, 3));
-            numbers_of(compared.refusal, compared.equal, 0)
+            numbers_of(compared.refusal, compared.equal, 0, 0)
         }
         10 => counted(plan(a, b, first, second, third)),
-        13 => {
+        _ => {
             let planned = plan_many(a, b, c, first, second);
             numbers_of(
                 planned.refusal,
                 planned.segments as u64,
                 planned.indexes as u64,
+                0,
             )
         }
-        _ => counted(combined(row, call, places, first, second)),
+    }
+}
+
+pub fn answer(
+    row: &[i64],
+    call: usize,
+    places: Places,
+    first: &mut [i64],
+    second: &mut [i64],
+    third: &mut [i64],
+) -> [i64; 9] {
+    match call {
+        11 | 12 | 14 => counted(combined(row, call, places, first, second)),
+        15..=18 | 42 => sliced(row, call, places, first, second, third),
+        19..=22 => counted(transformed(row, call, places, first, second)),
+        23..=28 => {
+            let code = row::code(row, places.code);
+            counted(merged(row, call, code, first, second))
+        }
+        _ => built(row, call, places, first, second, third),
     }
 }

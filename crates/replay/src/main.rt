@@ -9,7 +9,7 @@ use libc::STDIN_FILENO;
 use libc::STDOUT_FILENO;
 
 // One more than the last call's number.
-const CALLS: usize = 15;
+const CALLS: usize = 43;
 
 // The most numbers that are read of a line, more than any case has.
 const NUMBERS: usize = 128;
@@ -55,12 +55,7 @@ fn report(name: &[u8], cases: u64, agreed: u64) {
     write_count(agreed, b" agreed\n");
 }
 
-fn main() {
-    let mut buffer = io::large_buffer();
-    let n = io::read_full(STDIN_FILENO, &mut buffer);
-    let mut cases = [0u64; CALLS];
-    let mut agreed = [0u64; CALLS];
-    let lines = replay(&buffer[..n], &mut cases, &mut agreed);
+fn report_calls(cases: &[u64; CALLS], agreed: &[u64; CALLS]) {
     report(b"from_runs ", cases[2], agreed[2]);
     report(b"from_ends ", cases[3], agreed[3]);
     report(b"repeat ", cases[4], agreed[4]);
@@ -74,6 +69,30 @@ fn main() {
     report(b"zip_with_raw ", cases[12], agreed[12]);
     report(b"plan_many ", cases[13], agreed[13]);
     report(b"zip_many ", cases[14], agreed[14]);
+    report(b"run_index ", cases[15], agreed[15]);
+    report(b"slice ", cases[16], agreed[16]);
+    report(b"slice_view ", cases[17], agreed[17]);
+    report(b"slice_view_values ", cases[18], agreed[18]);
+    report(b"getitems ", cases[42], agreed[42]);
+    report(b"concat ", cases[19], agreed[19]);
+    report(b"shift ", cases[20], agreed[20]);
+    report(b"reversed ", cases[21], agreed[21]);
+    report(b"ranges_where ", cases[22], agreed[22]);
+    report(b"merge ", cases[23], agreed[23]);
+    report(b"merged ", cases[24], agreed[24]);
+    report(b"merge_mask ", cases[25], agreed[25]);
+    report(b"merge_by ", cases[26], agreed[26]);
+    report(b"merge_plan ", cases[27], agreed[27]);
+    report(b"group_ids ", cases[28], agreed[28]);
+}
+
+fn main() {
+    let mut buffer = io::large_buffer();
+    let n = io::read_full(STDIN_FILENO, &mut buffer);
+    let mut cases = [0u64; CALLS];
+    let mut agreed = [0u64; CALLS];
+    let lines = replay(&buffer[..n], &mut cases, &mut agreed);
+    report_calls(&cases, &agreed);
     if cases[0] > 0 {
         io::write_all(STDOUT_FILENO, b"unknown ");
         write_count(cases[0], b" cases\n");

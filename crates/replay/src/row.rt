@@ -21,10 +21,10 @@ pub fn code(row: &[i64], at: usize) -> u8 {
     if n < 256 { n as u8 } else { 255 }
 }
 
-// The place behind a code. It is past the row if the number is no byte.
-pub fn code_end(row: &[i64], at: usize) -> usize {
-    if num::as_unsigned(entry(row, at)) < 256 {
-        num::saturating_add(at, 1)
+// The place behind numbers among which there is a code. It is past the row if the code is no byte.
+pub fn coded_end(row: &[i64], code: usize, end: usize) -> usize {
+    if num::as_unsigned(entry(row, code)) < 256 {
+        end
     } else {
         usize::MAX
     }
@@ -82,6 +82,19 @@ pub fn fill_places(list: &[i64], buffer: &mut [usize]) -> usize
     let mut i = 0;
     while i < n {
         buffer[i] = size(list, i);
+        i += 1;
+    }
+    n
+}
+
+// As `fill`, for the bytes of a mask.
+pub fn fill_bytes(list: &[i64], buffer: &mut [u8]) -> usize
+    ensures { λ r. ⌜ Counts r (now (buffer .exit)) ⌝ }
+{
+    let n = num::smaller_count(list.len(), buffer.len());
+    let mut i = 0;
+    while i < n {
+        buffer[i] = code(list, i);
         i += 1;
     }
     n

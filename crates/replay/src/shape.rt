@@ -5,23 +5,30 @@ ghost use Prim.Native.Nat.{_<_};
 
 // The call of a number, or 0 for none.
 pub fn known(number: i64) -> usize
-    ensures { λ r. ⌜ r < 15 ⌝ }
+    ensures { λ r. ⌜ r < 43 ⌝ }
 {
     let call = num::as_unsigned(number);
+    if call == 42 {
+        return 42;
+    }
     if call < 2 {
         return 0;
     }
-    if call > 14 {
+    if call > 28 {
         return 0;
     }
     call as usize
 }
 
-// The arguments of a call, in order: lists, numbers, a code or none, buffers, numbers; and how many counts it answers.
+// The place of a code among the numbers of a call that has none.
+const NO_CODE: usize = usize::MAX;
+
+// The arguments of a call, in order: lists, numbers, buffers, numbers; which of the numbers in front of the buffers is a code; and
+// how many counts the call answers.
 struct Shape {
     lists: usize,
     numbers: usize,
-    coded: bool,
+    code: usize,
     buffers: usize,
     behind: usize,
     counts: usize,
@@ -30,7 +37,7 @@ struct Shape {
 fn shaped(
     lists: usize,
     numbers: usize,
-    coded: bool,
+    code: usize,
     buffers: usize,
     behind: usize,
     counts: usize,
@@ -38,7 +45,7 @@ fn shaped(
     Shape {
         lists,
         numbers,
-        coded,
+        code,
         buffers,
         behind,
         counts,
@@ -47,24 +54,39 @@ fn shaped(
 
 fn shape_of(call: usize) -> Shape {
     match call {
-        2 => shaped(2, 0, false, 2, 0, 1),
-        3 => shaped(2, 0, false, 0, 0, 1),
-        4 => shaped(0, 2, false, 2, 0, 1),
-        5 => shaped(0, 0, false, 2, 3, 1),
-        6 => shaped(0, 0, false, 2, 3, 1),
-        7 => shaped(1, 0, false, 2, 0, 1),
-        8 => shaped(2, 0, false, 1, 0, 1),
-        9 => shaped(4, 0, false, 0, 0, 1),
-        10 => shaped(2, 0, false, 3, 0, 1),
-        11 => shaped(4, 4, true, 2, 0, 1),
-        12 => shaped(4, 4, true, 2, 0, 1),
-        13 => shaped(3, 0, false, 2, 0, 2),
-        _ => shaped(3, 2, true, 2, 0, 1),
+        2 => shaped(2, 0, NO_CODE, 2, 0, 1),
+        3 => shaped(2, 0, NO_CODE, 0, 0, 1),
+        4 => shaped(0, 2, NO_CODE, 2, 0, 1),
+        5 => shaped(0, 0, NO_CODE, 2, 3, 1),
+        6 => shaped(0, 0, NO_CODE, 2, 3, 1),
+        7 => shaped(1, 0, NO_CODE, 2, 0, 1),
+        8 => shaped(2, 0, NO_CODE, 1, 0, 1),
+        9 => shaped(4, 0, NO_CODE, 0, 0, 1),
+        10 => shaped(2, 0, NO_CODE, 3, 0, 1),
+        11 => shaped(4, 5, 4, 2, 0, 1),
+        12 => shaped(4, 5, 4, 2, 0, 1),
+        13 => shaped(3, 0, NO_CODE, 2, 0, 2),
+        14 => shaped(3, 3, 2, 2, 0, 1),
+        15 => shaped(1, 1, NO_CODE, 0, 0, 2),
+        16 => shaped(2, 2, NO_CODE, 2, 0, 1),
+        17 => shaped(2, 2, NO_CODE, 0, 0, 3),
+        18 => shaped(2, 2, NO_CODE, 0, 0, 2),
+        19 => shaped(3, 0, NO_CODE, 2, 0, 1),
+        20 => shaped(2, 2, NO_CODE, 2, 0, 1),
+        21 => shaped(2, 0, NO_CODE, 2, 0, 1),
+        22 => shaped(2, 2, 0, 2, 0, 1),
+        23 => shaped(2, 0, NO_CODE, 2, 0, 1),
+        24 => shaped(2, 0, NO_CODE, 2, 0, 1),
+        25 => shaped(3, 1, 0, 2, 0, 1),
+        26 => shaped(2, 1, 0, 2, 0, 1),
+        27 => shaped(2, 0, NO_CODE, 2, 0, 1),
+        28 => shaped(1, 0, NO_CODE, 1, 0, 1),
+        _ => shaped(4, 0, NO_CODE, 3, 0, 2),
     }
 }
 
-// How many buffers are lent, and where a row has the numbers in front of them, the code, the buffers, the numbers behind them, what
-// the call must answer, what it must leave in the buffers, and its end.
+// How many buffers are lent, and where a row has the numbers in front of them, the code among these, the buffers, the numbers
+// behind them, what the call must answer, what it must leave in the buffers, and its end.
 pub struct Places {
     pub buffers: usize,
     pub numbers: usize,
@@ -80,11 +102,11 @@ pub fn places_in(row: &[i64], call: usize) -> Places {
     let shape = shape_of(call);
     let buffers = shape.buffers;
     let numbers = row::behind(row, 1, shape.lists);
-    let code = num::saturating_add(numbers, shape.numbers);
-    let lent = if shape.coded {
-        row::code_end(row, code)
+    let code = num::saturating_add(numbers, shape.code);
+    let lent = if shape.code < shape.numbers {
+        row::coded_end(row, code, num::saturating_add(numbers, shape.numbers))
     } else {
-        code
+        num::saturating_add(numbers, shape.numbers)
     };
     let behind = row::behind(row, lent, buffers);
     let answer = num::saturating_add(behind, shape.behind);
