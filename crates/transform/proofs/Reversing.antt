@@ -6,7 +6,7 @@ use mathlib.Core.Option.{none}
 use mathlib.Core.Path.{_≡_, refl, ap, sym, _∙_}
 use native.Mathlib.Omega.{arith}
 use lib.IntN.{ℤ, pos}
-use lib.ListN.{length, getD, drop, set, replicate, length-append, length-set, drop-of-length-le}
+use lib.ListN.{length, getD, drop, set, replicate, length-append, length-set, length-drop, length-reverse, drop-of-length-le}
 use lib.Seq.{drop-cons}
 use Rattle.column.specs.Questions.{endsValid}
 use Rattle.column.specs.Runs.{Run, Runs, magnitude, endBefore, runsOf, lengthOfEnds, endsOf, valuesOf, lastEnd, lengthOf, denseFrom, dense, over, Filled}
@@ -16,75 +16,34 @@ use Rattle.column.proofs.Cover.{last-above}
 use Rattle.column.proofs.Ends.{rising, length-of-ends}
 use Rattle.column.proofs.Merging.{fill-none}
 use Rattle.column.proofs.Rising.{Rising, Valid}
-use Rattle.column.proofs.Sequences.{length-ends, length-values, ends-append, values-append, length-last}
+use Rattle.column.proofs.Sequences.{length-ends, ends-append, values-append, length-last}
 use Rattle.transform.specs.Transform.{reverseFrom, reverseRuns}
+use Rattle.transform.specs.Workers.{turnedFrom, turnedEnds}
 
--- ---- the loop: the last t runs are written
+-- ---- the two flat lists, apart
 
-module _ (es vs e₀ v₀ : List ℤ) where
-  -- in a sequence of the length n, the runs from the i-th on
-  abbrev turned : ℕ → ℕ → Runs
-  turned n i = reverseFrom n (magnitude (endBefore es i)) (runsOf (drop i es) (drop i vs))
+ends-turned : (n p : ℕ) (es vs : List ℤ) → length es ≡ length vs → endsOf (reverseFrom n p (runsOf es vs)) ≡ turnedFrom n p es
+unfolding reverseFrom runsOf turnedFrom endsOf
+ends-turned n p [] vs l = refl
+ends-turned n p (e ∷ es) [] l = let z : ⊥ = omega arith in absurd z
+ends-turned n p (e ∷ es) (v ∷ vs) l =
+    ends-append (reverseFrom n (magnitude e) (runsOf es vs)) (record { end = n - p; value = v } ∷ [])
+    ∙ ap (λ (xs : List ℤ). xs ++ pos (n - p) ∷ []) (ends-turned n (magnitude e) es vs (omega arith))
 
-  turned-none : (n i : ℕ) → length es ≤ i → turned n i ≡ []
-  unfolding reverseFrom runsOf
-  turned-none n i h = rw (drop-of-length-le es {i = i} h)
+values-turned : (n p : ℕ) (es vs : List ℤ) → length es ≡ length vs → valuesOf (reverseFrom n p (runsOf es vs)) ≡ reverse vs
+unfolding reverseFrom runsOf valuesOf
+values-turned n p [] [] l = refl
+values-turned n p [] (v ∷ vs) l = let z : ⊥ = omega arith in absurd z
+values-turned n p (e ∷ es) [] l = let z : ⊥ = omega arith in absurd z
+values-turned n p (e ∷ es) (v ∷ vs) l =
+    values-append (reverseFrom n (magnitude e) (runsOf es vs)) (record { end = n - p; value = v } ∷ [])
+    ∙ ap (λ (xs : List ℤ). xs ++ v ∷ []) (values-turned n (magnitude e) es vs (omega arith))
+    ∙ sym (reverse-cons v vs)
 
-  turned-next : (n i : ℕ) → length es ≡ length vs → i < length es
-      → turned n i ≡ turned n (suc i) ++ record { end = n - magnitude (endBefore es i); value = getD vs i (pos 0) } ∷ []
-  unfolding reverseFrom runsOf
-  turned-next n i paired h = rw (drop-cons es i (pos 0) h, drop-cons vs i (pos 0) (omega arith))
-
-  pub record Reversing (n : ℕ) (e v : List ℤ) (t : ℕ) : Type 0 where
-    pub within : t ≤ length es
-    pub count : length (turned n (length es - t)) ≡ t
-    pub ends : e ≡ over (endsOf (turned n (length es - t))) e₀
-    pub values : v ≡ over (valuesOf (turned n (length es - t))) v₀
-    pub long-ends : length e ≡ length e₀
-    pub long-values : length v ≡ length v₀
-
-  pub reverse-start : (n : ℕ) → Reversing n e₀ v₀ 0
-  unfolding endsOf valuesOf over
-  reverse-start n =
-      let k : turned n (length es - 0) ≡ [] = turned-none n (length es - 0) (omega arith) in
-      record { within = omega arith; count = ap length k; ends = rw k; values = rw k; long-ends = refl; long-values = refl }
-
-  module _ {n : ℕ} {e v : List ℤ} {t : ℕ} (r : Reversing n e v t) where
-    reverse-next : {x y : ℤ} (i : ℕ) → length es ≡ length vs → i + t + 1 ≡ length es → length es ≤ length e₀ → length es ≤ length v₀
-        → x ≡ pos (n - magnitude (endBefore es i)) → y ≡ getD vs i (pos 0) → Reversing n (set e t x) (set v t y) (t + 1)
-    unfolding endsOf valuesOf
-    reverse-next i paired h roomE roomV ex ey =
-        let now : length es - t ≡ suc i = omega arith in
-        let later : length es - (t + 1) ≡ i = omega arith in
-        let done : Runs = turned n (suc i) in
-        let next = turned-next n i paired (omega arith) in
-        let c : length done ≡ t = rw now at (r .count) in
-        let run : Run = record { end = n - magnitude (endBefore es i); value = getD vs i (pos 0) } in
-        record {
-          within = omega arith;
-          count = rw (later, next) (simp length-append (omega arith));
-          ends = rw (later, next, ex, r .ends, now)
-              (over-next (endsOf done) e₀ t (pos (run .end)) (sym (length-ends done ∙ c)) (omega arith) ∙ ap (λ (l : List ℤ). over l e₀) (sym (ends-append done (run ∷ []))));
-          values = rw (later, next, ey, r .values, now)
-              (over-next (valuesOf done) v₀ t (run .value) (sym (length-values done ∙ c)) (omega arith) ∙ ap (λ (l : List ℤ). over l v₀) (sym (values-append done (run ∷ []))));
-          long-ends = rw length-set (r .long-ends);
-          long-values = rw length-set (r .long-values);
-        }
-
-    -- before the run at j + 1
-    pub reverse-more : {x y : ℤ} {j k : ℕ} → x ≡ pos (n - magnitude (getD es j (pos 0))) → y ≡ getD vs k (pos 0)
-        → length es ≡ length vs → length es ≤ length e₀ → length es ≤ length v₀ → k ≡ suc j → j + t + 2 ≡ length es → Reversing n (set e t x) (set v t y) (t + 1)
-    reverse-more {j = j} ex ey paired roomE roomV m h = reverse-next (suc j) paired (omega arith) roomE roomV ex (rw m at ey)
-
-    -- and at the first run
-    pub reverse-end : {x y : ℤ} {k : ℕ} → x ≡ pos n → y ≡ getD vs 0 (pos 0) → length es ≡ length vs → length es ≤ length e₀ → length es ≤ length v₀
-        → k ≡ t → t + 1 ≡ length es → n ≡ lengthOf (runsOf es vs) → Filled (reverseRuns (runsOf es vs)) e₀ (set e k x) v₀ (set v k y) (length es)
-    unfolding reverseRuns
-    reverse-end {x = x} ex ey paired roomE roomV hk h l =
-        let z : n - 0 ≡ n = omega arith in
-        let q = reverse-next {x = x} 0 paired (omega arith) roomE roomV (rw z ex) ey in
-        let a : length es - (t + 1) ≡ 0 = omega arith in
-        rw hk (record { count = sym (rw (a, l) at (q .count) ∙ h); ends = rw (a, l) at (q .ends); values = rw (a, l) at (q .values) })
+length-turned : (n p : ℕ) (es : List ℤ) → length (turnedFrom n p es) ≡ length es
+unfolding turnedFrom
+length-turned n p [] = refl
+length-turned n p (e ∷ es) = simp length-append (omega (arith, length-turned n (magnitude e) es))
 
 -- no runs: nothing is written
 pub reversed-none : (es vs e₀ v₀ : List ℤ) → length es ≡ 0 → Filled (reverseRuns (runsOf es vs)) e₀ e₀ v₀ v₀ 0
@@ -92,17 +51,97 @@ unfolding reverseRuns reverseFrom runsOf
 reversed-none [] vs e₀ v₀ h = fill-none e₀ v₀
 reversed-none (e ∷ es) vs e₀ v₀ h = let z : ⊥ = omega arith in absurd z
 
--- ---- the ends that it reads
+pub reversed-filled : (es vs : List ℤ) {e₀ e v₀ v : List ℤ} → endsValid es ≡ none → length es ≡ length vs → e ≡ over (turnedEnds es) e₀ → v ≡ over (reverse vs) v₀
+    → Filled (reverseRuns (runsOf es vs)) e₀ e v₀ v (length es)
+unfolding reverseRuns
+reversed-filled es vs {e₀ = e₀} {v₀ = v₀} valid l he hv =
+    let n = lengthOf (runsOf es vs) in
+    let m : magnitude (lengthOfEnds es) ≡ n = ap magnitude (length-of-ends es vs valid l) in
+    let t = ends-turned n 0 es vs l in
+    record {
+      count = sym (sym (length-ends (reverseFrom n 0 (runsOf es vs))) ∙ ap length t ∙ length-turned n 0 es);
+      ends = he ∙ ap (λ (xs : List ℤ). over xs e₀) (ap (λ (k : ℕ). turnedFrom k 0 es) m ∙ sym t);
+      values = hv ∙ ap (λ (xs : List ℤ). over xs v₀) (sym (values-turned n 0 es vs l));
+    }
 
-module _ (es vs : List ℤ) (valid : endsValid es ≡ none) (paired : length es ≡ length vs) where
+-- ---- the loop over ends: those of the last t runs are written, in a sequence of the length n
+
+module _ (es e₀ : List ℤ) where
+  abbrev turnedAt : ℕ → ℕ → List ℤ
+  turnedAt n i = turnedFrom n (magnitude (endBefore es i)) (drop i es)
+
+  pub record TurningEnds (n : ℕ) (e : List ℤ) (t : ℕ) : Type 0 where
+    pub within : t < length es
+    pub ends : e ≡ over (turnedAt n (length es - t)) e₀
+    pub long : length e ≡ length e₀
+
+  pub ends-start : (n : ℕ) → 0 < length es → TurningEnds n e₀ 0
+  unfolding turnedFrom over
+  ends-start n h = record { within = h; ends = rw (drop-of-length-le es {i = length es - 0} (omega arith)); long = refl }
+
+  turned-next : (n i : ℕ) → i < length es → turnedAt n i ≡ turnedAt n (suc i) ++ pos (n - magnitude (endBefore es i)) ∷ []
+  unfolding turnedFrom
+  turned-next n i h = rw (drop-cons es i (pos 0) h)
+
+  module _ {n : ℕ} {e : List ℤ} {t : ℕ} (r : TurningEnds n e t) where
+    -- at the run i
+    written-at : {x : ℤ} (i : ℕ) → i + t + 1 ≡ length es → length es ≤ length e₀ → x ≡ pos (n - magnitude (endBefore es i)) → set e t x ≡ over (turnedAt n i) e₀
+    written-at i h room ex =
+        let now : length es - t ≡ suc i = omega arith in
+        let c : length (turnedAt n (suc i)) ≡ t = length-turned n (magnitude (getD es i (pos 0))) (drop (suc i) es) ∙ length-drop (suc i) es ∙ (let z : length es - suc i ≡ t = omega arith in z) in
+        rw (turned-next n i (omega arith), ex, r .ends, now) (over-next (turnedAt n (suc i)) e₀ t (pos (n - magnitude (endBefore es i))) (sym c) (omega arith))
+
+    -- before the run at j + 1
+    pub ends-more : {x : ℤ} (j : ℕ) → x ≡ pos (n - magnitude (getD es j (pos 0))) → length es ≤ length e₀ → j + t + 2 ≡ length es → TurningEnds n (set e t x) (t + 1)
+    ends-more j ex room h =
+        let later : length es - (t + 1) ≡ suc j = omega arith in
+        record { within = omega arith; ends = rw later (written-at (suc j) (omega arith) room ex); long = rw length-set (r .long) }
+
+    -- and at the first run
+    pub ends-end : {x : ℤ} {k : ℕ} → x ≡ pos n → length es ≤ length e₀ → k ≡ t → t + 1 ≡ length es → n ≡ magnitude (lengthOfEnds es) → set e k x ≡ over (turnedEnds es) e₀
+    ends-end ex room hk h l =
+        let z : n - 0 ≡ n = omega arith in
+        rw (hk, ← l) (written-at 0 (omega arith) room (rw z ex))
+
+-- ---- the loop over values: the last t of them are written
+
+module _ (vs v₀ : List ℤ) where
+  pub record TurningValues (v : List ℤ) (t : ℕ) : Type 0 where
+    pub within : t ≤ length vs
+    pub values : v ≡ over (reverse (drop (length vs - t) vs)) v₀
+    pub long : length v ≡ length v₀
+
+  pub values-start : TurningValues v₀ 0
+  unfolding over
+  values-start = record { within = omega arith; values = rw (drop-of-length-le vs {i = length vs - 0} (omega arith)); long = refl }
+
+  module _ {v : List ℤ} {t : ℕ} (r : TurningValues v t) where
+    pub values-next : {x : ℤ} (i : ℕ) → x ≡ getD vs i (pos 0) → length vs ≤ length v₀ → i + t + 1 ≡ length vs → TurningValues (set v t x) (t + 1)
+    values-next i ex room h =
+        let now : length vs - t ≡ suc i = omega arith in
+        let later : length vs - (t + 1) ≡ i = omega arith in
+        let done : List ℤ = reverse (drop (suc i) vs) in
+        let c : length done ≡ t = length-reverse (drop (suc i) vs) ∙ length-drop (suc i) vs ∙ (let z : length vs - suc i ≡ t = omega arith in z) in
+        record {
+          within = omega arith;
+          values = rw (later, drop-cons vs i (pos 0) (omega arith), reverse-cons (getD vs i (pos 0)) (drop (suc i) vs), ex, r .values, now) (over-next done v₀ t (getD vs i (pos 0)) (sym c) (omega arith));
+          long = rw length-set (r .long);
+        }
+
+    pub values-end : length vs ≤ t → v ≡ over (reverse vs) v₀
+    values-end h = let z : length vs - t ≡ 0 = omega arith in rw z at (r .values)
+
+-- ---- the ends that the loop reads
+
+module _ (es : List ℤ) (valid : endsValid es ≡ none) where
   -- the last is the length
-  pub length-read : (length es ≡ 0 → ⊥) → getD es (length es - 1) (pos 0) ≡ pos (lengthOf (runsOf es vs))
-  length-read h = sym (length-last es h) ∙ length-of-ends es vs valid paired
+  pub length-read : 0 < length es → getD es (length es - 1) (pos 0) ≡ pos (magnitude (lengthOfEnds es))
+  length-read h = sym (length-last es (λ z. let f : ⊥ = omega arith in f)) ∙ (let k = length-of-ends es es valid refl in k ∙ ap pos (sym (ap magnitude k)))
 
   -- and each is a natural number up to that
-  pub end-read : {i : ℕ} {x : ℤ} → x ≡ getD es i (pos 0) → i < length es → (x ≡ pos (magnitude (getD es i (pos 0)))) × (magnitude (getD es i (pos 0)) ≤ lengthOf (runsOf es vs))
+  pub end-read : {i : ℕ} {x : ℤ} → x ≡ getD es i (pos 0) → i < length es → (x ≡ pos (magnitude (getD es i (pos 0)))) × (magnitude (getD es i (pos 0)) ≤ magnitude (lengthOfEnds es))
   unfolding lengthOfEnds
-  end-read {i} ex h = let k = rising-at 0 es i (rising es valid) h in (ex ∙ k .0, omega (arith, k .2, ap magnitude (length-of-ends es vs valid paired)))
+  end-read {i} ex h = let k = rising-at 0 es i (rising es valid) h in (ex ∙ k .0, k .2)
 
 -- ---- what it shows
 

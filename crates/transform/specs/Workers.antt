@@ -2,7 +2,7 @@
 use Prim.Native.Nat.{ℕ, _+_, _-_, _≤_, _<_, _^_}
 use mathlib.Core.Bool.{Bool, true, false, not, _&&_, cond}
 use mathlib.Core.Option.{none}
-use mathlib.Core.List.{List, _++_, map}
+use mathlib.Core.List.{List, [], _∷_, _++_, map}
 use mathlib.Core.Path.{_≡_}
 use lib.IntN.{ℤ, pos}
 use lib.ListN.{length, getD, take, drop, replicate}
@@ -10,7 +10,7 @@ use Rattle.num.specs.Numbers.{eqZ, operation}
 use Rattle.column.specs.Flat.{Flat, columns, offsetsFlat, endsFlat}
 use Rattle.column.specs.Lists.{any, total}
 use Rattle.column.specs.Questions.{endsValid}
-use Rattle.column.specs.Runs.{runsOf, lengthOf, over}
+use Rattle.column.specs.Runs.{magnitude, runsOf, lengthOf, lengthOfEnds, over}
 use Rattle.transform.specs.Transform.{Range, rangeStarts, rangeEnds}
 use Rattle.transform.specs.declared.inner.Open.{Open}
 
@@ -40,6 +40,16 @@ pub record Shiftable (es vs : List ℤ) (by n : ℕ) (e v : List ℤ) : Type 0 w
   pub fitting : n < 2 ^ 63
   pub room-ends : length es + 1 ≤ length e
   pub room-values : length es + 1 ≤ length v
+
+-- ---- reversed
+
+-- how far it is from the start of each run to n, the last run first, the first of them from p on
+unfoldable pub turnedFrom : ℕ → ℕ → List ℤ → List ℤ
+turnedFrom n p [] = []
+turnedFrom n p (e ∷ es) = turnedFrom n (magnitude e) es ++ pos (n - p) ∷ []
+
+abbrev pub turnedEnds : List ℤ → List ℤ
+turnedEnds es = turnedFrom (magnitude (lengthOfEnds es)) 0 es
 
 -- ---- ranges_where
 

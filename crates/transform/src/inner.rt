@@ -4,14 +4,15 @@ use column::sequence;
 use slice::search;
 ghost use Prim.Native.Nat.{_+_, _≤_, _<_, _^_};
 ghost use mathlib.Core.Bool.{_&&_, not, cond};
+ghost use mathlib.Core.List.{reverse};
 ghost use mathlib.Core.Option.{none};
 ghost use mathlib.Core.Path.{_≡_};
 ghost use lib.ListN.{length};
 ghost use Rattle.column.specs.Flat.{flat, columns};
 ghost use Rattle.column.specs.Questions.{endsValid};
-ghost use Rattle.column.specs.Runs.{runsOf, dense, encode, Filled};
+ghost use Rattle.column.specs.Runs.{runsOf, dense, encode, over, Filled};
 ghost use Rattle.transform.specs.Transform.{shown, shiftValues, reverseRuns, rangesOf};
-ghost use Rattle.transform.specs.Workers.{Joinable, Shiftable, shiftedUp, shiftedDown, passing, FirstPassing, openAfter, FilledRanges};
+ghost use Rattle.transform.specs.Workers.{Joinable, Shiftable, shiftedUp, shiftedDown, turnedEnds, passing, FirstPassing, openAfter, FilledRanges};
 
 // One sequence after another.
 pub fn concat(
@@ -143,28 +144,47 @@ pub fn shift(
     }
 }
 
-// The entries from last to first, each end the distance from the run's start to the length.
+// The ends of the runs from last to first: how far it is from each run's start to the length.
+fn reverse_ends(ends: &[i64], out_ends: &mut [i64])
+    requires { ⌜ (endsValid (now ends) ≡ none) × (0 < length (now ends)) × (length (now ends) ≤ length (now «out_ends»)) ⌝ }
+    ensures { λ _. ⌜ now («out_ends» .exit) ≡ over (turnedEnds (now (ends .entry))) (now («out_ends» .entry)) ⌝ }
+{
+    let n = ends.len();
+    let length = ends[n - 1];
+    let mut t: usize = 0;
+    while t + 1 < n {
+        let start = ends[n - 2 - t];
+        out_ends[t] = length - start;
+        t += 1;
+    }
+    out_ends[n - 1] = length;
+}
+
+fn reverse_values(values: &[i64], out_values: &mut [i64])
+    requires { ⌜ length (now values) ≤ length (now «out_values») ⌝ }
+    ensures { λ _. ⌜ now («out_values» .exit) ≡ over (reverse (now (values .entry))) (now («out_values» .entry)) ⌝ }
+{
+    let n = values.len();
+    let mut t: usize = 0;
+    while t < n {
+        let value = values[n - 1 - t];
+        out_values[t] = value;
+        t += 1;
+    }
+}
+
+// The runs from last to first. Two loops of two lists each take less time than one of four: memory is what binds them.
 pub fn reversed(ends: &[i64], values: &[i64], out_ends: &mut [i64], out_values: &mut [i64]) -> usize
     requires { ⌜ (endsValid (now ends) ≡ none) × (length (now ends) ≡ length (now values)) × (length (now ends) ≤ length (now «out_ends»)) × (length (now ends) ≤ length (now «out_values»)) ⌝ }
     ensures { λ r. ⌜ Filled (reverseRuns (runsOf (now (ends .entry)) (now (values .entry))))
         (now («out_ends» .entry)) (now («out_ends» .exit)) (now («out_values» .entry)) (now («out_values» .exit)) r ⌝ }
 {
-    let n = ends.len();
-    if n == 0 {
+    if ends.len() == 0 {
         return 0;
     }
-    let length = ends[n - 1];
-    let mut t: usize = 0;
-    while t + 1 < n {
-        let start = ends[n - 2 - t];
-        let value = values[n - 1 - t];
-        out_ends[t] = length - start;
-        out_values[t] = value;
-        t += 1;
-    }
-    out_ends[n - 1] = length;
-    out_values[n - 1] = values[0];
-    n
+    reverse_ends(ends, out_ends);
+    reverse_values(values, out_values);
+    ends.len()
 }
 
 // The lowest index of a value that passes, or how many values there are.
