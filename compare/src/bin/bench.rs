@@ -1,4 +1,4 @@
-//! Times the library beside the original: bench ROUNDS
+//! Times the library beside the original: bench ROUNDS [CALL]
 //!
 //! Both sides take the same inputs, on one thread. The library checks them; the original does where
 //! it makes a sequence, but its other calls take sequences, views or ends that have been checked
@@ -155,6 +155,8 @@ impl Reference<PlacedBuffers> for MergePlan {
 
 struct Bench {
     rounds: NonZeroUsize,
+    /// The call that alone is timed; all are where none is named.
+    only: Option<String>,
 }
 
 impl Bench {
@@ -168,6 +170,9 @@ impl Bench {
         mut given: impl FnMut() -> G,
         mut original: impl FnMut(G) -> Result<R>,
     ) {
+        if self.only.as_deref().is_some_and(|only| only != row.call) {
+            return;
+        }
         let mut lent = lend();
         let answer: Answer = library(&mut lent).into();
         assert_eq!(answer.refusal.number, 0, "the library answers");
@@ -666,11 +671,12 @@ fn group_ids(bench: &Bench, input: &str, plan: &MergePlan, runs: usize) {
 
 fn main() -> ExitCode {
     let Some(Ok(rounds)) = env::args().nth(1).map(|word| word.parse()) else {
-        eprintln!("usage: bench ROUNDS");
+        eprintln!("usage: bench ROUNDS [CALL]");
         return ExitCode::from(2);
     };
     keep_memory();
-    let bench = Bench { rounds };
+    let only = env::args().nth(2);
+    let bench = Bench { rounds, only };
     let rng = &mut Rng::new(1);
     print_row(["call", "input", "ns per"], ["ours", "Rust", "ours/Rust"]);
     print_row(["---"; 3], ["---"; 3]);
