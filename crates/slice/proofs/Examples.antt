@@ -12,7 +12,7 @@ use Rattle.column.specs.Asking.{eachFrom}
 use Rattle.column.specs.Runs.{Sequence, sequence, Runs, runsOf, endsOf, valuesOf, lengthOf}
 use Rattle.column.proofs.Rows.{Lines, Row, row, Hold, refused, asRuns}
 use Rattle.slice.specs.Search.{firstEndAbove}
-use Rattle.slice.specs.Slice.{covering, runIndex, cut, sliceRuns, slice, viewOf, sliceView, slicePart, sliceViewValues, intervalRuns, getitemsAsked, getitems}
+use Rattle.slice.specs.Slice.{covering, runIndex, cut, sliceRuns, slice, viewOf, sliceView, slicePart, entriesOf, intervalRuns, getitemsAsked, getitems}
 use Rattle.slice.specs.declared.View.{View}
 
 abbrev a : Sequence
@@ -45,12 +45,12 @@ rows =
     ∷ row (asRuns (slice a (negsuc 4) (pos 3) (1 ∷ 1 ∷ []))) (answers ((pos 3 ∷ []) ∷ (pos 7 ∷ []) ∷ []))
     ∷ row (asView (sliceView a (pos 4) (pos 12))) (answers ((pos 1 ∷ pos 4 ∷ pos 5 ∷ []) ∷ []))
     ∷ row (asView (sliceView a (pos 6) (pos 6))) (answers ((pos 0 ∷ pos 0 ∷ pos 0 ∷ []) ∷ []))
-    ∷ row (answers (sliceViewValues a (pos 4) (pos 12) ∷ [])) (answers ((pos 2 ∷ pos 7 ∷ []) ∷ []))
+    ∷ row (answers (entriesOf (slicePart a (pos 4) (pos 12)) (a .values) ∷ [])) (answers ((pos 2 ∷ pos 7 ∷ []) ∷ []))
     ∷ row (asFlat (getitems a (pos 2 ∷ pos 9 ∷ pos 4 ∷ []) (pos 6 ∷ pos 12 ∷ pos 5 ∷ []) (4 ∷ 4 ∷ 4 ∷ [])))
     (answers ((pos 0 ∷ pos 3 ∷ pos 3 ∷ pos 4 ∷ []) ∷ (pos 1 ∷ pos 3 ∷ pos 4 ∷ pos 1 ∷ []) ∷ (pos 7 ∷ pos 2 ∷ pos 7 ∷ pos 2 ∷ []) ∷ []))
     ∷ row (asFlat (getitems a (pos 2 ∷ negsuc 0 ∷ []) (pos 6 ∷ pos 3 ∷ []) (0 ∷ 0 ∷ 0 ∷ []))) (refused 9 (pos 1 ∷ negsuc 0 ∷ pos 3 ∷ []) none)
     ∷ []
 
 pub examples : Hold rows
-unfolding agree paired endsFrom endsValid eachFrom intervalAt intervals roomAt roomFrom room sequenceAsked runsOf endsOf valuesOf lengthOf offsetsFrom flatEnds flatValues firstEndAbove covering runIndex cut sliceRuns slice viewOf sliceView slicePart sliceViewValues intervalRuns getitemsAsked getitems
+unfolding agree paired endsFrom endsValid eachFrom intervalAt intervals roomAt roomFrom room sequenceAsked runsOf endsOf valuesOf lengthOf offsetsFrom flatEnds flatValues firstEndAbove covering runIndex cut sliceRuns slice viewOf sliceView slicePart intervalRuns getitemsAsked getitems
 examples = (refl, (refl, (refl, (refl, (refl, (refl, (refl, (refl, (refl, (refl, (refl, (refl, (refl, (refl, tt))))))))))))))

@@ -1,15 +1,16 @@
 -- A view of a slice by the runs that it touches, and its values.
 -- Assumes nothing.
-use Prim.Native.Nat.{ℕ, zero, suc, _+_, _-_, min}
+use Prim.Native.Nat.{ℕ, zero, suc, _+_, _-_, _*_, min}
 use mathlib.Core.Option.{none, some}
 use mathlib.Core.List.{List, [], _∷_, map}
-use mathlib.Core.Path.{_≡_, refl, ap, sym, _∙_}
+use mathlib.Core.Path.{_≡_, refl, ap, sym, subst, _∙_}
 use native.Mathlib.Omega.{arith}
 use lib.IntN.{ℤ, pos, _-ℤ_}
 use lib.ListN.{length, take, drop}
 use lib.Seq.{take-nil}
 use lib.Dec.{ltb}
 use borrow.Author.Tests.{ltb-true}
+use denote.Ref.{RefT, ptr, now}
 use mir.Syntax.{w64}
 use mir.Val.{SFits}
 use Rattle.num.proofs.Tests.{by-test}
@@ -25,7 +26,7 @@ use Rattle.column.proofs.Told.{agree-told}
 use Rattle.slice.specs.declared.Part.{Part}
 use Rattle.slice.specs.declared.View.{View}
 use Rattle.slice.specs.Search.{touchedBy}
-use Rattle.slice.specs.Slice.{sliceRuns, viewOf, sliceView, slicePart, entriesOf, sliceViewValues, PartOf}
+use Rattle.slice.specs.Slice.{sliceRuns, viewOf, sliceView, slicePart, entriesOf, PartOf, HandsBack}
 use Rattle.slice.specs.Workers.{clipped, cutRuns}
 use Rattle.slice.proofs.Difference.{difference-of, difference-fits}
 use Rattle.slice.proofs.Touching.{cut-touched, touched-inside, touches, touched-count}
@@ -81,12 +82,11 @@ module _ (start end : ℤ) (es vs : List ℤ) (v : endsValid es ≡ none) (l : l
   pub part-touched : viewAsked es vs ≡ none → PartOf (record { first = touchedBy start end es .first; count = touchedBy start end es .count }) (slicePart (sequence es vs) start end) vs
   part-touched y = let i = touched-inside start end es v in record { same = part-is y; inside = omega arith }
 
-  values-touched : viewAsked es vs ≡ none → part (touchedBy start end es .first) (touchedBy start end es .first + touchedBy start end es .count) vs ≡ sliceViewValues (sequence es vs) start end
-  unfolding sliceViewValues
+  values-touched : viewAsked es vs ≡ none → part (touchedBy start end es .first) (touchedBy start end es .first + touchedBy start end es .count) vs ≡ entriesOf (slicePart (sequence es vs) start end) vs
   values-touched y = ap (λ (p : Part). entriesOf p vs) (part-is y)
 
   -- the values of a view are those of the slice
-  pub values-slice : viewAsked es vs ≡ none → sliceViewValues (sequence es vs) start end ≡ valuesOf (sliceRuns start end (runsOf es vs))
+  pub values-slice : viewAsked es vs ≡ none → entriesOf (slicePart (sequence es vs) start end) vs ≡ valuesOf (sliceRuns start end (runsOf es vs))
   unfolding cutRuns
   values-slice y =
       let t = touchedBy start end es in
@@ -101,6 +101,6 @@ pub part-refused : (start end : ℤ) (es vs : List ℤ) {r : PaperRefusal} → v
 unfolding slicePart sliceView
 part-refused start end es vs h = rw h (record { same = refl; inside = omega arith })
 
-pub part-entries : (s : Sequence) (start end : ℤ) {p : Part} → PartOf p (slicePart s start end) (s .values) → entriesOf p (s .values) ≡ sliceViewValues s start end
-unfolding sliceViewValues
-part-entries s start end h = ap (λ (q : Part). entriesOf q (s .values)) (h .same)
+-- a part of the list itself, from an entry on
+pub part-handed : {r vs : RefT (List ℤ)} {p q : Part} → PartOf p q (now vs) → ptr r .0 ≡ ptr vs .0 → ptr r .1 ≡ p .first * 8 + ptr vs .1 → now r ≡ entriesOf p (now vs) → HandsBack r q vs
+part-handed {r} {vs} h b o e = subst (λ (t : Part). HandsBack r t vs) (h .same) (record { block = b; place = o; entries = e })

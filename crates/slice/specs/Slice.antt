@@ -1,5 +1,5 @@
 -- slice.rs and the views: parts of a sequence.
-use Prim.Native.Nat.{ℕ, suc, _+_, _-_, _≤_, min}
+use Prim.Native.Nat.{ℕ, suc, _+_, _-_, _*_, _≤_, min}
 use mathlib.Core.Bool.{cond, _&&_}
 use mathlib.Core.Option.{Option, none, some}
 use mathlib.Core.List.{List, [], _∷_, map}
@@ -8,6 +8,7 @@ use lib.IntN.{ℤ, pos}
 use lib.Signed.{leZ, ltZ}
 use lib.ListN.{length}
 use lib.Dec.{leb, ltb}
+use denote.Ref.{RefT}
 use Rattle.column.specs.Asking.{Question, firstNo, _otherwise_}
 use Rattle.column.specs.Lists.{total, part}
 use Rattle.column.specs.Paper.{Outcome, answers, refuses, paper}
@@ -82,13 +83,16 @@ slicePart s start end = viewedPart (sliceView s start end) (length (sliceRuns st
 abbrev pub entriesOf : Part → List ℤ → List ℤ
 entriesOf p vs = part (p .first) (p .first + p .count) vs
 
-unfoldable pub sliceViewValues : Sequence → ℤ → ℤ → List ℤ
-sliceViewValues s start end = entriesOf (slicePart s start end) (s .values)
-
 -- the promise of a call that answers a part of a list
 pub record PartOf (p q : Part) (vs : List ℤ) : Type 0 where
   pub same : p ≡ q
   pub inside : p .first + p .count ≤ length vs
+
+-- the promise of a call that hands back a part of a list: it stands in the list itself, whose entries have 8 bytes each
+pub record HandsBack (r : RefT (List ℤ)) (p : Part) (vs : RefT (List ℤ)) : Type 0 where
+  pub block : r .ptr .0 ≡ vs .ptr .0
+  pub place : r .ptr .1 ≡ p .first * 8 + vs .ptr .1
+  pub entries : r .now ≡ entriesOf p (vs .now)
 
 -- ---- getitems of one column
 

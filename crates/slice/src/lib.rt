@@ -21,7 +21,7 @@ ghost use Rattle.column.specs.Lists.{total};
 ghost use Rattle.column.specs.Paper.{shownFound, WritesRuns};
 ghost use Rattle.column.specs.Questions.{endsValid, room, both};
 ghost use Rattle.column.specs.Runs.{sequence};
-ghost use Rattle.slice.specs.Slice.{shownViewed, PartOf};
+ghost use Rattle.slice.specs.Slice.{shownViewed, PartOf, HandsBack};
 ghost use Rattle.slice.specs.Slice as calls;
 ghost use Rattle.slice.specs.Workers.{intervalCounts};
 
@@ -137,7 +137,7 @@ pub fn slice_view_values<'e, 'v>(
     start: i64,
     end: i64,
 ) -> &'v [i64]
-    ensures { λ r. ⌜ now r ≡ calls.sliceViewValues (sequence (now (ends .entry)) (now (values .entry))) start end ⌝ }
+    ensures { λ r. ⌜ HandsBack r (calls.slicePart (sequence (now (ends .entry)) (now (values .entry))) start end) (values .entry) ⌝ }
 {
     let part = slice_view_part(ends, values, start, end);
     let first = part.first;

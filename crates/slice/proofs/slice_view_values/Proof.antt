@@ -1,6 +1,5 @@
-use denote.Ref.{now}
-use Rattle.column.specs.Runs.{sequence}
-use Rattle.slice.proofs.Viewing.{part-entries}
+use Rattle.slice.proofs.Viewing.{part-handed}
+use mathlib.Core.Path.{refl}
 use mir.Facts.{toZ-ofZ}
 use borrow.Author.Needs.{needs}
 use Rattle.slice.proofs.slice_view_values.Statement.{statement}
@@ -26,7 +25,7 @@ part-result-end c = search needs
 
 returns : tie.Need-returns
 returns c = let s = c .before .before .before in
-    part-entries (sequence (now (s .args .ends)) (now (s .args .values))) (s .args .start) (s .args .end) (rw (toZ-ofZ (s .fits .start), toZ-ofZ (s .fits .end)) at (c .before .before .slice-view-part .ensures))
+    part-handed (rw (toZ-ofZ (s .fits .start), toZ-ofZ (s .fits .end)) at (c .before .before .slice-view-part .ensures)) refl refl refl
 
 pub slice-view-values-spec : {M : Type 1} → statement M
 slice-view-values-spec =
