@@ -55,7 +55,8 @@ fn report(name: &[u8], cases: u64, agreed: u64) {
     write_count(agreed, b" agreed\n");
 }
 
-fn report_calls(cases: &[u64; CALLS], agreed: &[u64; CALLS]) {
+// The calls of rle.rs.
+fn report_rle(cases: &[u64; CALLS], agreed: &[u64; CALLS]) {
     report(b"from_runs ", cases[2], agreed[2]);
     report(b"from_ends ", cases[3], agreed[3]);
     report(b"repeat ", cases[4], agreed[4]);
@@ -64,20 +65,36 @@ fn report_calls(cases: &[u64; CALLS], agreed: &[u64; CALLS]) {
     report(b"from_dense ", cases[7], agreed[7]);
     report(b"to_dense ", cases[8], agreed[8]);
     report(b"equals ", cases[9], agreed[9]);
+}
+
+// The calls of plan.rs, ops.rs and many.rs.
+fn report_combinations(cases: &[u64; CALLS], agreed: &[u64; CALLS]) {
     report(b"plan ", cases[10], agreed[10]);
     report(b"zip_with ", cases[11], agreed[11]);
     report(b"zip_with_raw ", cases[12], agreed[12]);
     report(b"plan_many ", cases[13], agreed[13]);
     report(b"zip_many ", cases[14], agreed[14]);
+}
+
+// The calls of slice.rs.
+fn report_slice(cases: &[u64; CALLS], agreed: &[u64; CALLS]) {
     report(b"run_index ", cases[15], agreed[15]);
     report(b"slice ", cases[16], agreed[16]);
     report(b"slice_view ", cases[17], agreed[17]);
     report(b"slice_view_values ", cases[18], agreed[18]);
     report(b"getitems ", cases[42], agreed[42]);
+}
+
+// The calls of transform.rs.
+fn report_transform(cases: &[u64; CALLS], agreed: &[u64; CALLS]) {
     report(b"concat ", cases[19], agreed[19]);
     report(b"shift ", cases[20], agreed[20]);
     report(b"reversed ", cases[21], agreed[21]);
     report(b"ranges_where ", cases[22], agreed[22]);
+}
+
+// The calls of merge.rs.
+fn report_merge(cases: &[u64; CALLS], agreed: &[u64; CALLS]) {
     report(b"merge ", cases[23], agreed[23]);
     report(b"merged ", cases[24], agreed[24]);
     report(b"merge_mask ", cases[25], agreed[25]);
@@ -92,7 +109,11 @@ fn main() {
     let mut cases = [0u64; CALLS];
     let mut agreed = [0u64; CALLS];
     let lines = replay(&buffer[..n], &mut cases, &mut agreed);
-    report_calls(&cases, &agreed);
+    report_rle(&cases, &agreed);
+    report_combinations(&cases, &agreed);
+    report_slice(&cases, &agreed);
+    report_transform(&cases, &agreed);
+    report_merge(&cases, &agreed);
     if cases[0] > 0 {
         io::write_all(STDOUT_FILENO, b"unknown ");
         write_count(cases[0], b" cases\n");
