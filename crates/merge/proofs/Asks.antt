@@ -13,7 +13,7 @@ use Rattle.column.specs.Asking.{Question, firstNo}
 use Rattle.column.specs.Questions.{listed, maskListed, agree, paired, startAndRise, lastOffset, offsetsRise, endsValid, roomAt, room, both, sequenceAsked}
 use Rattle.column.specs.Runs.{sequence}
 use Rattle.column.proofs.FirstNo.{all-yes, asked-next, asked-last}
-use Rattle.column.proofs.Told.{agree-told, room-told, both-told, sequence-told}
+use Rattle.column.proofs.Told.{listed-told, agree-told, room-told, both-told, sequence-told}
 use Rattle.column.proofs.YesNo.{rise-refused, room-each, room-one}
 use Rattle.merge.specs.Merge.{maskAgrees, mergeMaskAsked, mergeByAsked, mergePlanAsked, groupIdsAsked}
 use Rattle.merge.specs.Workers.{Mergeable}
@@ -53,12 +53,13 @@ module _ (es vs e v : List ℤ) where
         agree-told 6 (length mask) (length es - 1) (y .1 .1 .1 .0),
       )
 
-  pub merge-by-yes : (code : ℕ) → mergeByAsked (sequence es vs) code (length e ∷ length v ∷ []) ≡ none → Mergeable es vs e v
+  pub merge-by-yes : (code : ℕ) → mergeByAsked (sequence es vs) code (length e ∷ length v ∷ []) ≡ none → Mergeable es vs e v × (7 ≤ code) × (code ≤ 8)
   unfolding mergeByAsked
   merge-by-yes code h =
       let y = all-yes (listed 7 8 code ∷ sequenceAsked (sequence es vs) (length es) (length e ∷ length v ∷ []) ∷ []) h in
       let t = sequence-told es vs (length es) (length e) (length v) (y .1 .0) in
-      record { valid = t .0; paired = t .1; room-ends = t .2; room-values = t .3 }
+      let c = listed-told 7 8 code (y .0) in
+      (record { valid = t .0; paired = t .1; room-ends = t .2; room-values = t .3 }, c .0, c .1)
 
 module _ (es : List ℤ) (mask : List ℕ) (e x : ℕ) where
   abbrev needed : List ℕ

@@ -6,10 +6,10 @@ use mathlib.Core.List.{List, [], _∷_, map}
 use mathlib.Core.Path.{_≡_, refl, sym, ap, _∙_}
 use native.Mathlib.Omega.{arith}
 use lib.Dec.{eqb}
-use lib.IntN.{ℤ, pos}
+use lib.IntN.{ℤ, pos, negsuc}
 use lib.ListN.{length, getD, take, set, length-set, length-map, List·getD-map}
 use lib.Seq.{take-all}
-use Rattle.num.specs.Numbers.{operation}
+use Rattle.num.specs.Numbers.{eqZ, operation}
 use Rattle.num.proofs.Tests.{by-test}
 use Rattle.column.specs.Runs.{Run, Runs, magnitude, runsOf, endsOf, valuesOf, over, Filled}
 use Rattle.column.proofs.Ends.{rising, ends-runs, values-runs, length-runs}
@@ -95,9 +95,13 @@ neighbours-at code (v ∷ w ∷ vs) (suc (suc r)) p h =
     let n : suc (suc r) - 1 ≡ suc (suc r - 1) = omega arith in
     rw n (neighbours-at code (w ∷ vs) (suc r) (omega arith) (omega arith))
 
-pub neighbours-told : (code : ℕ) (vs : List ℤ) (r : ℕ) {x y : ℤ} {b : Bool} → 0 < r → r < length vs → b ≡ eqb (magnitude (operation code x y)) 1
+one-magnitude : (z : ℤ) → eqZ z (pos 1) ≡ eqb (magnitude z) 1
+one-magnitude (pos n) = refl
+one-magnitude (negsuc n) = refl
+
+pub neighbours-told : (code : ℕ) (vs : List ℤ) (r : ℕ) {x y : ℤ} {b : Bool} → 0 < r → r < length vs → b ≡ eqZ (operation code x y) (pos 1)
     → x ≡ getD vs (r - 1) (pos 0) → y ≡ getD vs r (pos 0) → b ≡ joinsAt (neighbours code vs) (r - 1)
-neighbours-told code vs r p h e ex ey = e ∙ rw (ex, ey) (sym (neighbours-at code vs r p h))
+neighbours-told code vs r {x} {y} p h e ex ey = e ∙ one-magnitude (operation code x y) ∙ rw (ex, ey) (sym (neighbours-at code vs r p h))
 
 -- no runs
 pub merging-none : (keep : ℕ) (mask : List ℕ) (es vs e₀ v₀ : List ℤ) → length es ≡ 0 → Filled (maskRuns keep mask (runsOf es vs)) e₀ e₀ v₀ v₀ 0

@@ -7,11 +7,9 @@ ghost use Prim.Native.Nat.{_+_, _-_, _≤_, _<_, _^_};
 ghost use mathlib.Core.Bool.{true};
 ghost use mathlib.Core.Option.{none};
 ghost use mathlib.Core.Path.{_≡_};
-ghost use lib.Dec.{eqb};
 ghost use lib.ListN.{length};
-ghost use Rattle.num.specs.Numbers.{operation};
 ghost use Rattle.column.specs.Questions.{startAndRise, lastOffset, endsValid};
-ghost use Rattle.column.specs.Runs.{runsOf, magnitude, dense, encode, over, Filled};
+ghost use Rattle.column.specs.Runs.{runsOf, dense, encode, over, Filled};
 ghost use Rattle.merge.specs.Merge.{groups, maskRuns, neighbours, idsAt};
 ghost use Rattle.merge.specs.Workers.{placeAfter, keptAfter, Writable, WroteRun, Mergeable, Stored, Planned, PutIds, FilledIds};
 
@@ -107,13 +105,6 @@ pub fn merge_mask(
     writer.at + 1
 }
 
-// Whether the operation holds of two neighbours.
-fn joined(code: u8, left: i64, right: i64) -> bool
-    ensures { λ r. ⌜ r ≡ eqb (magnitude (operation code left right)) 1 ⌝ }
-{
-    num::apply(code, left, right) == 1
-}
-
 // A run for each group of neighbours of which the operation holds.
 pub fn merge_by(
     ends: &[i64],
@@ -122,7 +113,7 @@ pub fn merge_by(
     out_ends: &mut [i64],
     out_values: &mut [i64],
 ) -> usize
-    requires { ⌜ Mergeable (now ends) (now values) (now «out_ends») (now «out_values») ⌝ }
+    requires { ⌜ Mergeable (now ends) (now values) (now «out_ends») (now «out_values») × (7 ≤ code) × (code ≤ 8) ⌝ }
     ensures { λ r. ⌜ Filled (maskRuns 0 (neighbours code (now (values .entry))) (runsOf (now (ends .entry)) (now (values .entry))))
         (now («out_ends» .entry)) (now («out_ends» .exit)) (now («out_values» .entry)) (now («out_values» .exit)) r ⌝ }
 {
@@ -135,7 +126,7 @@ pub fn merge_by(
     while run < ends.len() {
         let left = values[run - 1];
         let right = values[run];
-        let joins = joined(code, left, right);
+        let joins = num::holds(code, left, right);
         writer = write_run(
             writer,
             joins,

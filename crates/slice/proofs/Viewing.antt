@@ -18,7 +18,7 @@ use Rattle.column.specs.Asking.{Question, firstNo}
 use Rattle.column.specs.Lists.{part}
 use Rattle.column.specs.Paper.{PaperRefusal}
 use Rattle.column.specs.Questions.{paired, endsValid}
-use Rattle.column.specs.Runs.{Sequence, sequence, Run, Runs, valuesOf, magnitude, runsOf, lengthOf, lengthOfEnds}
+use Rattle.column.specs.Runs.{sequence, Run, Runs, valuesOf, magnitude, runsOf, lengthOf, lengthOfEnds}
 use Rattle.column.proofs.Ends.{length-of-ends, values-runs}
 use Rattle.column.proofs.FirstNo.{all-yes}
 use Rattle.column.proofs.Naturals.{magnitude-below}

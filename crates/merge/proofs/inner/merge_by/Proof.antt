@@ -21,10 +21,10 @@ returns : tie.Need-returns Inv-loop μ-loop
 returns c = merging-none _ _ _ _ _ _ (c .if1 .taken)
 
 write-run-requires : tie.Need-write-run-requires Inv-loop μ-loop
-write-run-requires c κs = first-room (c .before .before .before .pre) (omega arith)
+write-run-requires c κs = first-room (c .before .before .before .pre .0) (omega arith)
 
 loop-holds : tie.Need-loop-holds Inv-loop μ-loop
-loop-holds c = (omega arith, merged-start (c .before .before .before .before .before .before .pre) _ _ (c .before .before .write-run .ensures) (omega arith))
+loop-holds c = (omega arith, merged-start (c .before .before .before .before .before .before .pre .0) _ _ (c .before .before .write-run .ensures) (omega arith))
 
 sub-left : tie.Need-sub-left Inv-loop μ-loop
 sub-left c = search needs
@@ -41,13 +41,13 @@ mul-right c = search needs
 shared-slice-copy-out-right : tie.Need-shared-slice-copy-out-right Inv-loop μ-loop
 shared-slice-copy-out-right c = search needs
 
-joined-requires : tie.Need-joined-requires Inv-loop μ-loop
-joined-requires c κs = search needs
+holds-requires : tie.Need-holds-requires Inv-loop μ-loop
+holds-requires c κs = search needs
 
 write-run-requires-2 : tie.Need-write-run-requires-2 Inv-loop μ-loop
 write-run-requires-2 c κs = let l = c .before .before .before .before .before .before in
     let s = c .before .before .before .before .before .before .before .before .before .before .before .before .before in
-    merged-room (started (s .pre) (c .before .before .before .before .before .before .before .before .before .write-run .ensures)) _ _ (l .loop .inv .1) (c .before .before .before .before .before .loop-test .taken) _ (omega arith)
+    merged-room (started (s .pre .0) (c .before .before .before .before .before .before .before .before .before .write-run .ensures)) _ _ (l .loop .inv .1) (c .before .before .before .before .before .loop-test .taken) _ (omega arith)
 
 add-run : tie.Need-add-run Inv-loop μ-loop
 add-run c = search needs
@@ -59,7 +59,7 @@ loop-again : tie.Need-loop-again Inv-loop μ-loop
 loop-again c = let l = c .before .before .before .before .before .before .before .before .before in
     let s = c .before .before .before .before .before .before .before .before .before .before .before .before .before .before .before .before in
     let t = c .before .before .before .before .before .before .before .before .loop-test .taken in
-    (omega arith, merged-more (started (s .pre) (c .before .before .before .before .before .before .before .before .before .before .before .before .write-run .ensures)) _ _ (l .loop .inv .1) t (c .before .before .write-run2 .ensures) (neighbours-told _ _ _ (l .loop .inv .0) (omega (arith, s .pre .paired)) (c .before .before .before .before .before .joined .ensures) (back _ (c .before .before .before .before .before .before .before .left .given)) (back _ (c .before .before .before .before .before .before .right .given))) refl)
+    (omega arith, merged-more (started (s .pre .0) (c .before .before .before .before .before .before .before .before .before .before .before .before .write-run .ensures)) _ _ (l .loop .inv .1) t (c .before .before .write-run2 .ensures) (neighbours-told _ _ _ (l .loop .inv .0) (omega (arith, s .pre .0 .paired)) (c .before .before .before .before .before .holds .ensures (s .pre .1) (s .pre .2)) (back _ (c .before .before .before .before .before .before .before .left .given)) (back _ (c .before .before .before .before .before .before .right .given))) refl)
 
 add-result : tie.Need-add-result Inv-loop μ-loop
 add-result c = omega (arith, c .before .before .loop .inv .1 .merging .few, c .before .before .loop .inv .1 .within)
@@ -74,7 +74,7 @@ returns-2 : tie.Need-returns-2 Inv-loop μ-loop
 returns-2 c = let l = c .before .before in
     let s = c .before .before .before .before .before .before .before .before .before in
     let d = c .before .before .before .before .before .write-run .ensures in
-    merged-whole (s .pre) _ _ d (omega arith) (merged-end (started (s .pre) d) _ _ (l .loop .inv .1) (c .before .loop-test .left))
+    merged-whole (s .pre .0) _ _ d (omega arith) (merged-end (started (s .pre .0) d) _ _ (l .loop .inv .1) (c .before .loop-test .left))
 
 pub merge-by-spec : {M : Type 1} → statement M
 merge-by-spec =
@@ -90,7 +90,7 @@ merge-by-spec =
     shared-slice-copy-out-left
     mul-right
     shared-slice-copy-out-right
-    joined-requires
+    holds-requires
     write-run-requires-2
     add-run
     loop-less
