@@ -648,6 +648,28 @@ fn bytes(mask: &[bool]) -> Vec<u8> {
     mask.iter().map(|&joined| joined.into()).collect()
 }
 
+/// By the code of what is kept, and by its name.
+fn merge_mask(
+    bench: &Bench,
+    input: &str,
+    column: &Rle<i64>,
+    mask: &[bool],
+    (code, kept, keep): (u8, &str, Keep),
+) {
+    let bytes = bytes(mask);
+    remade(
+        bench,
+        ["merge_mask", &format!("{input}, {kept}")],
+        column,
+        |ends, values, out_ends, out| {
+            let (mask, keep) = (black_box(&bytes), black_box(code));
+            library::merge_mask(ends, values, mask, keep, out_ends, out)
+        },
+        Rle::clone,
+        |column| column.merge_mask(black_box(mask), black_box(keep)),
+    );
+}
+
 fn merge_plan(bench: &Bench, input: &str, ends: &[i64], mask: &[bool]) {
     let bytes = bytes(mask);
     bench.measure(
@@ -783,14 +805,17 @@ fn main() -> ExitCode {
     shift(&bench, "1M runs, a third down", column, -length / 3);
     shift(&bench, "1M runs, by 0", column, 0);
     let reversed = |column: &Rle<i64>| Ok(column.reversed());
-    remade(
-        &bench,
-        ["reversed", "1M runs"],
-        column,
-        library::reversed,
-        |column| column,
-        reversed,
-    );
+    let more = &random_column(rng, 100 * BUILT_UP, 99, DIFFERENT);
+    for (input, column) in [("1M runs", column), ("100k runs", more), ("1000 runs", few)] {
+        remade(
+            &bench,
+            ["reversed", input],
+            column,
+            library::reversed,
+            |column| column,
+            reversed,
+        );
+    }
     let half = DIFFERENT as i64 / 2;
     ranges_where(&bench, "1M runs, less, half of them", column, half);
     remade(
@@ -804,27 +829,16 @@ fn main() -> ExitCode {
         |column| Ok(column.merge_by(|x, y| x < y)),
     );
 
-    let mask: Vec<bool> = (1..RUNS).map(|_| rng.below(2) == 0).collect();
-    for (input, code, keep) in [
-        ("1M runs, random, keep first", 0, Keep::First),
-        ("1M runs, random, keep last", 1, Keep::Last),
-    ] {
-        let bytes = bytes(&mask);
-        remade(
-            &bench,
-            ["merge_mask", input],
-            column,
-            |ends, values, out_ends, out| {
-                let (mask, keep) = (black_box(&bytes), black_box(code));
-                library::merge_mask(ends, values, mask, keep, out_ends, out)
-            },
-            Rle::clone,
-            |column| column.merge_mask(black_box(&mask), black_box(keep)),
-        );
+    for percent in [50, 1, 99] {
+        let mask: Vec<bool> = (1..RUNS).map(|_| rng.below(100) < percent).collect();
+        let input = &format!("1M runs, {percent} % joined");
+        for keep in [(0, "first", Keep::First), (1, "last", Keep::Last)] {
+            merge_mask(&bench, input, column, &mask, keep);
+        }
+        merge_plan(&bench, input, column.ends(), &mask);
+        let plan = column.merge_plan(&mask).expect("a byte for each pair");
+        group_ids(&bench, input, &plan, RUNS);
     }
-    merge_plan(&bench, "1M runs, random", column.ends(), &mask);
-    let plan = column.merge_plan(&mask).expect("a byte for each pair");
-    group_ids(&bench, "0.5M groups of 1M runs", &plan, RUNS);
 
     let column = &random_column(rng, RUNS, 99, 4);
     let input = "1M runs, 4 values";
