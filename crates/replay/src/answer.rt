@@ -2,11 +2,11 @@
 use crate::row;
 use crate::shape::Places;
 use column::sequence;
-use runlength::RlBatched;
-use runlength::RlCounted;
-use runlength::RlFill;
-use runlength::RlPlannedMany;
-use runlength::RlRefusal;
+use ffi::RlBatched;
+use ffi::RlCounted;
+use ffi::RlFill;
+use ffi::RlPlannedMany;
+use ffi::RlRefusal;
 
 fn numbers_of(refusal: RlRefusal, first: u64, second: u64, third: u64) -> [i64; 9] {
     [

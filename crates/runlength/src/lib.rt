@@ -1,12 +1,21 @@
 // The calls for C: each hands on what the Rattle call answers, laid flat.
-mod laid;
-
+use ffi::RlBatched;
+use ffi::RlCounted;
+use ffi::RlEquality;
+use ffi::RlFill;
+use ffi::RlFound;
+use ffi::RlPart;
+use ffi::RlPlannedMany;
+use ffi::RlRefusal;
+use ffi::RlRle;
+use ffi::RlViewed;
 use rle::Rle;
 ghost use mathlib.Core.List.{[], _∷_};
 ghost use mathlib.Core.Path.{_≡_};
 ghost use lib.ListN.{length};
 ghost use Rattle.column.specs.Flat.{flat};
 ghost use Rattle.column.specs.Runs.{sequence};
+ghost use Rattle.ffi.specs.Reading.{readFill, LaidCheck, LaidEquality, LaidFound, LaidViewed, LaidPart, LaidRuns, LaidEntries, LaidRanges, LaidGroups, LaidPlan, LaidPlanMany, LaidFlat};
 ghost use Rattle.many.specs.Many as many;
 ghost use Rattle.merge.specs.Merge as merge;
 ghost use Rattle.ops.specs.Ops as ops;
@@ -14,85 +23,6 @@ ghost use Rattle.plan.specs.Plan as plan;
 ghost use Rattle.rle.specs.Rle as calls;
 ghost use Rattle.slice.specs.Slice as slice;
 ghost use Rattle.transform.specs.Transform as transform;
-ghost use Rattle.runlength.specs.Reading.{readFill, LaidCheck, LaidEquality, LaidFound, LaidViewed, LaidPart, LaidRuns, LaidEntries, LaidRanges, LaidGroups, LaidPlan, LaidPlanMany, LaidFlat};
-
-// A refusal: document 01's number, its values in document 01's order as 64 bits each (0 where it has fewer), and the position that it
-// may carry, with 1 in `in_key`. All 0 with an answer.
-#[repr(C)]
-pub struct RlRefusal {
-    pub number: u64,
-    pub first: u64,
-    pub second: u64,
-    pub third: u64,
-    pub in_key: u64,
-    pub position: u64,
-}
-
-// The count is 0 with a refusal.
-#[repr(C)]
-pub struct RlCounted {
-    pub refusal: RlRefusal,
-    pub count: usize,
-}
-
-// 1 or 0; 0 with a refusal.
-#[repr(C)]
-pub struct RlEquality {
-    pub refusal: RlRefusal,
-    pub equal: u64,
-}
-
-// Both counts are 0 with a refusal.
-#[repr(C)]
-pub struct RlPlannedMany {
-    pub refusal: RlRefusal,
-    pub segments: usize,
-    pub indexes: usize,
-}
-
-// `found` is 1 or 0, and 0 with a refusal; without a find the index is 0.
-#[repr(C)]
-pub struct RlFound {
-    pub refusal: RlRefusal,
-    pub found: u64,
-    pub index: usize,
-}
-
-// All are 0 with a refusal.
-#[repr(C)]
-pub struct RlViewed {
-    pub refusal: RlRefusal,
-    pub first: usize,
-    pub start: i64,
-    pub length: i64,
-}
-
-// A part of a list: its first entry, and how many; both are 0 for an empty part.
-#[repr(C)]
-pub struct RlPart {
-    pub first: usize,
-    pub count: usize,
-}
-
-// Both counts are 0 with a refusal.
-#[repr(C)]
-pub struct RlBatched {
-    pub refusal: RlRefusal,
-    pub keys: usize,
-    pub runs: usize,
-}
-
-// What stands where a column has ended: missing where `given` is 0, else the value.
-#[repr(C)]
-pub struct RlFill {
-    pub given: u64,
-    pub value: i64,
-}
-
-#[repr(C)]
-pub struct RlRle {
-    pub runs: usize,
-}
 
 #[no_mangle]
 pub extern "C" fn rl_empty() -> RlRle
@@ -114,14 +44,14 @@ pub extern "C" fn rl_from_runs(
         (calls.fromRuns (now (runs .entry)) (now (values .entry)) (length (now («out_ends» .entry)) ∷ length (now («out_values» .entry)) ∷ [])) r
         (now («out_ends» .entry)) (now («out_ends» .exit)) (now («out_values» .entry)) (now («out_values» .exit)) ⌝ }
 {
-    laid::counted(rle::from_runs(runs, values, out_ends, out_values))
+    ffi::counted(rle::from_runs(runs, values, out_ends, out_values))
 }
 
 #[no_mangle]
 pub extern "C" fn rl_from_ends(ends: &[i64], values: &[i64]) -> RlRefusal
     ensures { λ r. ⌜ LaidCheck (calls.fromEnds (sequence (now (ends .entry)) (now (values .entry)))) r ⌝ }
 {
-    laid::checked(rle::from_ends(ends, values))
+    ffi::checked(rle::from_ends(ends, values))
 }
 
 #[no_mangle]
@@ -135,7 +65,7 @@ pub extern "C" fn rl_repeat(
         (calls.repeat value length (lib.ListN.length (now («out_ends» .entry)) ∷ lib.ListN.length (now («out_values» .entry)) ∷ [])) r
         (now («out_ends» .entry)) (now («out_ends» .exit)) (now («out_values» .entry)) (now («out_values» .exit)) ⌝ }
 {
-    laid::counted(rle::repeat(value, length, out_ends, out_values))
+    ffi::counted(rle::repeat(value, length, out_ends, out_values))
 }
 
 #[no_mangle]
@@ -149,7 +79,7 @@ pub extern "C" fn rl_push_run(
     ensures { λ r. ⌜ LaidRuns (calls.pushRun (sequence (now (ends .entry)) (now (values .entry))) used run value) r
         (now (ends .entry)) (now (ends .exit)) (now (values .entry)) (now (values .exit)) ⌝ }
 {
-    laid::counted(Rle { runs: used }.push_run(ends, values, run, value))
+    ffi::counted(Rle { runs: used }.push_run(ends, values, run, value))
 }
 
 #[no_mangle]
@@ -163,7 +93,7 @@ pub extern "C" fn rl_extend_to(
     ensures { λ r. ⌜ LaidRuns (calls.extendTo (sequence (now (ends .entry)) (now (values .entry))) used length value) r
         (now (ends .entry)) (now (ends .exit)) (now (values .entry)) (now (values .exit)) ⌝ }
 {
-    laid::counted(Rle { runs: used }.extend_to(ends, values, length, value))
+    ffi::counted(Rle { runs: used }.extend_to(ends, values, length, value))
 }
 
 #[no_mangle]
@@ -176,7 +106,7 @@ pub extern "C" fn rl_from_dense(
         (calls.fromDense (now (values .entry)) (length (now («out_ends» .entry)) ∷ length (now («out_values» .entry)) ∷ [])) r
         (now («out_ends» .entry)) (now («out_ends» .exit)) (now («out_values» .entry)) (now («out_values» .exit)) ⌝ }
 {
-    laid::counted(rle::from_dense(values, out_ends, out_values))
+    ffi::counted(rle::from_dense(values, out_ends, out_values))
 }
 
 #[no_mangle]
@@ -185,7 +115,7 @@ pub extern "C" fn rl_to_dense(ends: &[i64], values: &[i64], out: &mut [i64]) -> 
         (calls.toDense (sequence (now (ends .entry)) (now (values .entry))) (length (now (out .entry)) ∷ [])) r
         (now (out .entry)) (now (out .exit)) ⌝ }
 {
-    laid::counted(rle::to_dense(ends, values, out))
+    ffi::counted(rle::to_dense(ends, values, out))
 }
 
 #[no_mangle]
@@ -197,7 +127,7 @@ pub extern "C" fn rl_equals(
 ) -> RlEquality
     ensures { λ r. ⌜ LaidEquality (calls.equals (sequence (now («a_ends» .entry)) (now («a_values» .entry))) (sequence (now («b_ends» .entry)) (now («b_values» .entry)))) r ⌝ }
 {
-    laid::equality(rle::equals(a_ends, a_values, b_ends, b_values))
+    ffi::equality(rle::equals(a_ends, a_values, b_ends, b_values))
 }
 
 #[no_mangle]
@@ -212,7 +142,7 @@ pub extern "C" fn rl_plan(
         (plan.plan (now (a .entry)) (now (b .entry)) (length (now («out_ends» .entry)) ∷ length (now («out_idx_a» .entry)) ∷ length (now («out_idx_b» .entry)) ∷ [])) r
         (now («out_ends» .entry)) (now («out_ends» .exit)) (now («out_idx_a» .entry)) (now («out_idx_a» .exit)) (now («out_idx_b» .entry)) (now («out_idx_b» .exit)) ⌝ }
 {
-    laid::counted(plan::plan(a, b, out_ends, out_idx_a, out_idx_b))
+    ffi::counted(plan::plan(a, b, out_ends, out_idx_a, out_idx_b))
 }
 
 #[no_mangle]
@@ -232,13 +162,13 @@ pub extern "C" fn rl_zip_with(
         (readFill «fill_a») (readFill «fill_b») code (length (now («out_ends» .entry)) ∷ length (now («out_values» .entry)) ∷ [])) r
         (now («out_ends» .entry)) (now («out_ends» .exit)) (now («out_values» .entry)) (now («out_values» .exit)) ⌝ }
 {
-    laid::counted(ops::zip_with(
+    ffi::counted(ops::zip_with(
         a_ends,
         a_values,
         b_ends,
         b_values,
-        laid::fill(fill_a),
-        laid::fill(fill_b),
+        ffi::fill(fill_a),
+        ffi::fill(fill_b),
         code,
         out_ends,
         out_values,
@@ -262,13 +192,13 @@ pub extern "C" fn rl_zip_with_raw(
         (readFill «fill_a») (readFill «fill_b») code (length (now («out_ends» .entry)) ∷ length (now («out_values» .entry)) ∷ [])) r
         (now («out_ends» .entry)) (now («out_ends» .exit)) (now («out_values» .entry)) (now («out_values» .exit)) ⌝ }
 {
-    laid::counted(ops::zip_with_raw(
+    ffi::counted(ops::zip_with_raw(
         a_ends,
         a_values,
         b_ends,
         b_values,
-        laid::fill(fill_a),
-        laid::fill(fill_b),
+        ffi::fill(fill_a),
+        ffi::fill(fill_b),
         code,
         out_ends,
         out_values,
@@ -287,7 +217,7 @@ pub extern "C" fn rl_plan_many(
         (many.planMany (flat (now (offsets .entry)) (now (ends .entry)) (now (values .entry))) (length (now («out_ends» .entry)) ∷ length (now («out_idx» .entry)) ∷ [])) r
         (now («out_ends» .entry)) (now («out_ends» .exit)) (now («out_idx» .entry)) (now («out_idx» .exit)) ⌝ }
 {
-    laid::planned_many(many::plan_many(offsets, ends, values, out_ends, out_idx))
+    ffi::planned_many(many::plan_many(offsets, ends, values, out_ends, out_idx))
 }
 
 #[no_mangle]
@@ -304,11 +234,11 @@ pub extern "C" fn rl_zip_many(
         (many.zipMany (flat (now (offsets .entry)) (now (ends .entry)) (now (values .entry))) (readFill fill) code (length (now («out_ends» .entry)) ∷ length (now («out_values» .entry)) ∷ [])) r
         (now («out_ends» .entry)) (now («out_ends» .exit)) (now («out_values» .entry)) (now («out_values» .exit)) ⌝ }
 {
-    laid::counted(many::zip_many(
+    ffi::counted(many::zip_many(
         offsets,
         ends,
         values,
-        laid::fill(fill),
+        ffi::fill(fill),
         code,
         out_ends,
         out_values,
@@ -319,7 +249,7 @@ pub extern "C" fn rl_zip_many(
 pub extern "C" fn rl_run_index(ends: &[i64], pos: i64) -> RlFound
     ensures { λ r. ⌜ LaidFound (slice.runIndex (now (ends .entry)) pos) r ⌝ }
 {
-    laid::found(slice::run_index(ends, pos))
+    ffi::found(slice::run_index(ends, pos))
 }
 
 #[no_mangle]
@@ -335,21 +265,21 @@ pub extern "C" fn rl_slice(
         (slice.slice (sequence (now (ends .entry)) (now (values .entry))) start end (length (now («out_ends» .entry)) ∷ length (now («out_values» .entry)) ∷ [])) r
         (now («out_ends» .entry)) (now («out_ends» .exit)) (now («out_values» .entry)) (now («out_values» .exit)) ⌝ }
 {
-    laid::counted(slice::slice(ends, values, start, end, out_ends, out_values))
+    ffi::counted(slice::slice(ends, values, start, end, out_ends, out_values))
 }
 
 #[no_mangle]
 pub extern "C" fn rl_slice_view(ends: &[i64], values: &[i64], start: i64, end: i64) -> RlViewed
     ensures { λ r. ⌜ LaidViewed (slice.sliceView (sequence (now (ends .entry)) (now (values .entry))) start end) r ⌝ }
 {
-    laid::viewed(slice::slice_view(ends, values, start, end))
+    ffi::viewed(slice::slice_view(ends, values, start, end))
 }
 
 #[no_mangle]
 pub extern "C" fn rl_slice_view_values(ends: &[i64], values: &[i64], start: i64, end: i64) -> RlPart
     ensures { λ r. ⌜ LaidPart r (slice.slicePart (sequence (now (ends .entry)) (now (values .entry))) start end) (now (values .entry)) ⌝ }
 {
-    laid::part(slice::slice_view_part(ends, values, start, end))
+    ffi::part(slice::slice_view_part(ends, values, start, end))
 }
 
 #[no_mangle]
@@ -366,7 +296,7 @@ pub extern "C" fn rl_getitems(
         (slice.getitems (sequence (now (ends .entry)) (now (values .entry))) (now (starts .entry)) (now (stops .entry)) (length (now («out_offsets» .entry)) ∷ length (now («out_ends» .entry)) ∷ length (now («out_values» .entry)) ∷ [])) r
         (now («out_offsets» .entry)) (now («out_offsets» .exit)) (now («out_ends» .entry)) (now («out_ends» .exit)) (now («out_values» .entry)) (now («out_values» .exit)) ⌝ }
 {
-    laid::batched(slice::getitems(
+    ffi::batched(slice::getitems(
         ends,
         values,
         starts,
@@ -389,7 +319,7 @@ pub extern "C" fn rl_concat(
         (transform.concat (flat (now (offsets .entry)) (now (ends .entry)) (now (values .entry))) (length (now («out_ends» .entry)) ∷ length (now («out_values» .entry)) ∷ [])) r
         (now («out_ends» .entry)) (now («out_ends» .exit)) (now («out_values» .entry)) (now («out_values» .exit)) ⌝ }
 {
-    laid::counted(transform::concat(offsets, ends, values, out_ends, out_values))
+    ffi::counted(transform::concat(offsets, ends, values, out_ends, out_values))
 }
 
 #[no_mangle]
@@ -405,7 +335,7 @@ pub extern "C" fn rl_shift(
         (transform.shift (sequence (now (ends .entry)) (now (values .entry))) distance fill (length (now («out_ends» .entry)) ∷ length (now («out_values» .entry)) ∷ [])) r
         (now («out_ends» .entry)) (now («out_ends» .exit)) (now («out_values» .entry)) (now («out_values» .exit)) ⌝ }
 {
-    laid::counted(transform::shift(ends, values, distance, fill, out_ends, out_values))
+    ffi::counted(transform::shift(ends, values, distance, fill, out_ends, out_values))
 }
 
 #[no_mangle]
@@ -419,7 +349,7 @@ pub extern "C" fn rl_reversed(
         (transform.reversed (sequence (now (ends .entry)) (now (values .entry))) (length (now («out_ends» .entry)) ∷ length (now («out_values» .entry)) ∷ [])) r
         (now («out_ends» .entry)) (now («out_ends» .exit)) (now («out_values» .entry)) (now («out_values» .exit)) ⌝ }
 {
-    laid::counted(transform::reversed(ends, values, out_ends, out_values))
+    ffi::counted(transform::reversed(ends, values, out_ends, out_values))
 }
 
 #[no_mangle]
@@ -435,7 +365,7 @@ pub extern "C" fn rl_ranges_where(
         (transform.rangesWhere (sequence (now (ends .entry)) (now (values .entry))) code number (length (now («out_starts» .entry)) ∷ length (now («out_ends» .entry)) ∷ [])) r
         (now («out_starts» .entry)) (now («out_starts» .exit)) (now («out_ends» .entry)) (now («out_ends» .exit)) ⌝ }
 {
-    laid::counted(transform::ranges_where(ends, values, code, number, out_starts, out_ends))
+    ffi::counted(transform::ranges_where(ends, values, code, number, out_starts, out_ends))
 }
 
 #[no_mangle]
@@ -449,7 +379,7 @@ pub extern "C" fn rl_merge(
         (merge.merged (sequence (now (ends .entry)) (now (values .entry))) (length (now («out_ends» .entry)) ∷ length (now («out_values» .entry)) ∷ [])) r
         (now («out_ends» .entry)) (now («out_ends» .exit)) (now («out_values» .entry)) (now («out_values» .exit)) ⌝ }
 {
-    laid::counted(merge::merge(ends, values, out_ends, out_values))
+    ffi::counted(merge::merge(ends, values, out_ends, out_values))
 }
 
 #[no_mangle]
@@ -463,7 +393,7 @@ pub extern "C" fn rl_merged(
         (merge.merged (sequence (now (ends .entry)) (now (values .entry))) (length (now («out_ends» .entry)) ∷ length (now («out_values» .entry)) ∷ [])) r
         (now («out_ends» .entry)) (now («out_ends» .exit)) (now («out_values» .entry)) (now («out_values» .exit)) ⌝ }
 {
-    laid::counted(merge::merged(ends, values, out_ends, out_values))
+    ffi::counted(merge::merged(ends, values, out_ends, out_values))
 }
 
 #[no_mangle]
@@ -479,7 +409,7 @@ pub extern "C" fn rl_merge_mask(
         (merge.mergeMask (sequence (now (ends .entry)) (now (values .entry))) (now (mask .entry)) keep (length (now («out_ends» .entry)) ∷ length (now («out_values» .entry)) ∷ [])) r
         (now («out_ends» .entry)) (now («out_ends» .exit)) (now («out_values» .entry)) (now («out_values» .exit)) ⌝ }
 {
-    laid::counted(merge::merge_mask(ends, values, mask, keep, out_ends, out_values))
+    ffi::counted(merge::merge_mask(ends, values, mask, keep, out_ends, out_values))
 }
 
 #[no_mangle]
@@ -494,7 +424,7 @@ pub extern "C" fn rl_merge_by(
         (merge.mergeBy (sequence (now (ends .entry)) (now (values .entry))) code (length (now («out_ends» .entry)) ∷ length (now («out_values» .entry)) ∷ [])) r
         (now («out_ends» .entry)) (now («out_ends» .exit)) (now («out_values» .entry)) (now («out_values» .exit)) ⌝ }
 {
-    laid::counted(merge::merge_by(ends, values, code, out_ends, out_values))
+    ffi::counted(merge::merge_by(ends, values, code, out_ends, out_values))
 }
 
 #[no_mangle]
@@ -508,7 +438,7 @@ pub extern "C" fn rl_merge_plan(
         (merge.mergePlan (now (ends .entry)) (now (mask .entry)) (length (now («out_ends» .entry)) ∷ length (now («out_offsets» .entry)) ∷ [])) r
         (now («out_ends» .entry)) (now («out_ends» .exit)) (now («out_offsets» .entry)) (now («out_offsets» .exit)) ⌝ }
 {
-    laid::counted(merge::merge_plan(ends, mask, out_ends, out_offsets))
+    ffi::counted(merge::merge_plan(ends, mask, out_ends, out_offsets))
 }
 
 #[no_mangle]
@@ -517,5 +447,5 @@ pub extern "C" fn rl_group_ids(offsets: &[usize], out_ids: &mut [usize]) -> RlCo
         (merge.groupIds (now (offsets .entry)) (length (now («out_ids» .entry)) ∷ [])) r
         (now («out_ids» .entry)) (now («out_ids» .exit)) ⌝ }
 {
-    laid::counted(merge::group_ids(offsets, out_ids))
+    ffi::counted(merge::group_ids(offsets, out_ids))
 }

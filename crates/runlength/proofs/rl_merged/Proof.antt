@@ -1,4 +1,4 @@
-use Rattle.runlength.proofs.Handed.{handed}
+use Rattle.ffi.proofs.Handed.{handed}
 use borrow.Author.Needs.{needs}
 use Rattle.runlength.proofs.rl_merged.Statement.{statement}
 use Rattle.runlength.proofs.rl_merged.Tie as tie
