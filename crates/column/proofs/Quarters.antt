@@ -17,13 +17,6 @@ use Rattle.column.specs.Runs.{endBefore}
 use Rattle.column.specs.Questions.{endsFrom, endsValid}
 use Rattle.column.proofs.YesNo.{ends-next}
 
-pub before-none : (es : List ℤ) (i : ℕ) → i ≡ 0 → pos 0 ≡ endBefore es i
-before-none es i e = rw e
-
-pub before-some : (es : List ℤ) (i : ℕ) → (i ≡ 0 → ⊥) → getD es (i - 1) (pos 0) ≡ endBefore es i
-before-some es zero h = absurd (h refl)
-before-some es (suc i) h = let e : suc i - 1 ≡ i = omega arith in rw e
-
 -- the end at k is above the one before
 abbrev pub RisesAt : List ℤ → ℕ → Type 0
 RisesAt es k = leZ (getD es k (pos 0)) (endBefore es k) ≡ false
