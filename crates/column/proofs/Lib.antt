@@ -17,7 +17,6 @@ pub mod Parts
 pub mod Positions
 pub mod Promised
 pub mod Pushed
-pub mod Quarters
 pub mod Rest
 pub mod Rising
 pub mod Rows

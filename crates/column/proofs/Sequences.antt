@@ -1,12 +1,12 @@
 -- The two flat lists of a sequence, and its runs.
 -- Assumes nothing.
-use Prim.Native.Nat.{ℕ, suc, _-_}
+use Prim.Native.Nat.{ℕ, zero, suc, _-_}
 use mathlib.Core.List.{List, [], _∷_, _++_, map-append}
 use mathlib.Core.Path.{_≡_, refl, ap, _∙_}
 use native.Mathlib.Omega.{arith}
 use lib.IntN.{ℤ, pos}
 use lib.ListN.{length, getD, length-map}
-use Rattle.column.specs.Runs.{Run, Runs, runsOf, endsOf, valuesOf, lastFrom, lengthOfEnds}
+use Rattle.column.specs.Runs.{Run, Runs, runsOf, endsOf, valuesOf, lastFrom, lengthOfEnds, endBefore}
 
 pub length-ends : (rs : Runs) → length (endsOf rs) ≡ length rs
 unfolding endsOf
@@ -47,3 +47,12 @@ length-last [] h = absurd (h refl)
 length-last (e ∷ es) h =
     let m : length es ≡ suc (length es) - 1 = omega arith in
     last-from (pos 0) e es ∙ ap (λ (n : ℕ). getD (e ∷ es) n (pos 0)) m
+
+-- ---- the end before an index, 0 before the first
+
+pub before-none : (es : List ℤ) (i : ℕ) → i ≡ 0 → pos 0 ≡ endBefore es i
+before-none es i e = rw e
+
+pub before-some : (es : List ℤ) (i : ℕ) → (i ≡ 0 → ⊥) → getD es (i - 1) (pos 0) ≡ endBefore es i
+before-some es zero h = absurd (h refl)
+before-some es (suc i) h = let e : suc i - 1 ≡ i = omega arith in rw e

@@ -2,5 +2,4 @@ pub mod answer;
 pub mod error;
 pub mod inner;
 pub mod mask;
-pub mod questions;
 pub mod sequence;

@@ -4,7 +4,6 @@ use column::answer::Asked;
 use column::answer::Counted;
 use column::answer::Fill;
 use column::error::Refusal;
-use column::questions;
 ghost use Prim.Native.Nat.{_+_, _-_, _<_, _^_};
 ghost use mathlib.Core.List.{[], _∷_, map};
 ghost use mathlib.Core.Path.{_≡_};

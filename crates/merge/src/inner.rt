@@ -1,7 +1,6 @@
 // Workers that assume what the calls have asked.
 use column::inner::Writer;
 use column::mask;
-use column::questions;
 use column::sequence;
 ghost use Prim.Native.Nat.{_+_, _-_, _≤_, _<_, _^_};
 ghost use mathlib.Core.Bool.{true};

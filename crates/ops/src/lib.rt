@@ -3,7 +3,6 @@ pub mod inner;
 use column::answer::Asked;
 use column::answer::Counted;
 use column::answer::Fill;
-use column::questions;
 use column::sequence;
 ghost use mathlib.Core.List.{[], _∷_};
 ghost use mathlib.Core.Path.{_≡_};

@@ -2,7 +2,6 @@ pub mod inner;
 
 use column::answer::Asked;
 use column::answer::Counted;
-use column::questions;
 ghost use Prim.Native.Nat.{_+_};
 ghost use mathlib.Core.List.{[], _∷_};
 ghost use mathlib.Core.Path.{_≡_};

@@ -4,7 +4,6 @@ use column::answer::Asked;
 use column::answer::Checked;
 use column::answer::Counted;
 use column::error::Refusal;
-use column::questions;
 use column::sequence;
 ghost use Prim.Native.Nat.{_+_, _-_, _<_, _^_};
 ghost use mathlib.Core.List.{[], _∷_};

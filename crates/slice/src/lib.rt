@@ -7,7 +7,6 @@ use column::answer::Counted;
 use column::answer::Found;
 use column::answer::RleBatch;
 use column::error::Refusal;
-use column::questions;
 use column::sequence;
 ghost use Prim.Native.Nat.{_+_, _<_, _^_};
 ghost use mathlib.Core.List.{[], _∷_};

@@ -2,7 +2,6 @@ pub mod inner;
 
 use column::answer::Asked;
 use column::answer::Counted;
-use column::questions;
 use column::sequence;
 ghost use mathlib.Core.List.{[], _∷_, map};
 ghost use mathlib.Core.Path.{_≡_};

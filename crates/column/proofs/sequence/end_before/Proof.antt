@@ -1,6 +1,6 @@
 use mathlib.Core.Path.{_∙_}
 use Rattle.num.proofs.Bits.{back}
-use Rattle.column.proofs.Quarters.{before-none, before-some}
+use Rattle.column.proofs.Sequences.{before-none, before-some}
 use borrow.Author.Needs.{needs}
 use Rattle.column.proofs.sequence.end_before.Statement.{statement}
 use Rattle.column.proofs.sequence.end_before.Tie as tie

@@ -1,0 +1,12 @@
+-- How the check of ends goes: four quarters of a list first, then what is behind them.
+use Prim.Native.Nat.{_*_, _/_}
+use mathlib.Core.List.{List}
+use lib.IntN.{ℤ}
+use lib.ListN.{length, drop}
+use Rattle.column.specs.Asking.{Question}
+use Rattle.column.specs.Questions.{endsFrom}
+use Rattle.column.specs.Runs.{endBefore}
+
+-- the question behind four quarters of a list
+abbrev pub endsFromQuarters : List ℤ → Question
+endsFromQuarters es = let n = length es / 4 * 4 in endsFrom n (endBefore es n) (drop n es)
