@@ -16,13 +16,13 @@ use Rattle.column.specs.Runs.{magnitude}
 use Rattle.column.specs.Writing.{RisingEnds}
 use Rattle.column.proofs.Ends.{rising}
 use Rattle.column.proofs.Naturals.{lt-le}
-use Rattle.slice.specs.Search.{firstEndAbove}
+use Rattle.slice.specs.Search.{firstWhere, firstEndAbove}
 use Rattle.slice.specs.Slice.{coveringFrom, covering}
 
 module _ (p : ℤ) where
   -- from a position on that is not above p
   inside-from : (i : ℕ) (before : ℤ) (es : List ℤ) → leZ before p ≡ true → firstEndAbove p es < length es → coveringFrom i before es p ≡ some (i + firstEndAbove p es)
-  unfolding firstEndAbove
+  unfolding firstEndAbove firstWhere
   inside-from i before [] b h = let z : ⊥ = omega arith in absurd z
   inside-from i before (e ∷ es) b h =
       by-test (ltZ p e)
@@ -31,7 +31,7 @@ module _ (p : ℤ) where
       rw (b, t) (inside-from (suc i) e es (lt-le p e t) (omega arith) ∙ ap some (omega arith)))
 
   past-from : (i : ℕ) (before : ℤ) (es : List ℤ) → leZ before p ≡ true → length es ≤ firstEndAbove p es → coveringFrom i before es p ≡ none
-  unfolding firstEndAbove
+  unfolding firstEndAbove firstWhere
   past-from i before [] b h = refl
   past-from i before (e ∷ es) b h =
       by-test (ltZ p e)

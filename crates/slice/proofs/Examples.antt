@@ -11,7 +11,7 @@ use Rattle.column.specs.Questions.{agree, paired, endsFrom, endsValid, interval
 use Rattle.column.specs.Asking.{eachFrom}
 use Rattle.column.specs.Runs.{Sequence, sequence, Runs, runsOf, endsOf, valuesOf, lengthOf}
 use Rattle.column.proofs.Rows.{Lines, Row, row, Hold, refused, asRuns}
-use Rattle.slice.specs.Search.{firstEndAbove}
+use Rattle.slice.specs.Search.{firstWhere, firstEndAbove}
 use Rattle.slice.specs.Slice.{covering, runIndex, cut, sliceRuns, slice, viewOf, sliceView, slicePart, entriesOf, intervalRuns, getitemsAsked, getitems}
 use Rattle.slice.specs.declared.View.{View}
 
@@ -52,5 +52,5 @@ rows =
     ∷ []
 
 pub examples : Hold rows
-unfolding agree paired endsFrom endsValid eachFrom intervalAt intervals roomAt roomFrom room sequenceAsked runsOf endsOf valuesOf lengthOf offsetsFrom flatEnds flatValues firstEndAbove covering runIndex cut sliceRuns slice viewOf sliceView slicePart intervalRuns getitemsAsked getitems
+unfolding agree paired endsFrom endsValid eachFrom intervalAt intervals roomAt roomFrom room sequenceAsked runsOf endsOf valuesOf lengthOf offsetsFrom flatEnds flatValues firstEndAbove firstWhere covering runIndex cut sliceRuns slice viewOf sliceView slicePart intervalRuns getitemsAsked getitems
 examples = (refl, (refl, (refl, (refl, (refl, (refl, (refl, (refl, (refl, (refl, (refl, (refl, (refl, (refl, tt))))))))))))))

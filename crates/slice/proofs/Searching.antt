@@ -1,7 +1,7 @@
 -- The searches: which ends stand below the index that they find, and which at it.
 -- Assumes nothing.
 use Prim.Native.Nat.{ℕ, zero, suc, _+_, _-_, _≤_, _<_, _/_, _*_, _%_, _^_}
-use mathlib.Core.Bool.{true, false, cond}
+use mathlib.Core.Bool.{Bool, true, false, cond}
 use mathlib.Core.Option.{none}
 use mathlib.Core.List.{List, [], _∷_}
 use mathlib.Core.Path.{_≡_, refl, ap, sym, _∙_}
@@ -24,39 +24,48 @@ use mir.Val.{toZ, ofZ, SFits}
 use mir.Facts.{toZ-ofZ}
 use Rattle.num.specs.Numbers.{residue}
 use Rattle.slice.proofs.Difference.{difference-of, difference-fits}
-use Rattle.slice.specs.Search.{firstEndAbove, firstEndAtLeast}
+use Rattle.slice.specs.Search.{firstWhere, firstEndAbove, firstEndAtLeast}
 
 -- ---- any ends
 
-module _ (p : ℤ) where
-  pub above-within : (es : List ℤ) → firstEndAbove p es ≤ length es
-  unfolding firstEndAbove
-  above-within [] = omega arith
-  above-within (e ∷ es) = by-test (ltZ p e) (λ t. rw t (omega arith)) (λ t. rw t (omega (arith, above-within es)))
+module _ (test : ℤ → Bool) where
+  pub where-within : (es : List ℤ) → firstWhere test es ≤ length es
+  unfolding firstWhere
+  where-within [] = omega arith
+  where-within (e ∷ es) = by-test (test e) (λ t. rw t (omega arith)) (λ t. rw t (omega (arith, where-within es)))
 
-  -- the ends below the index are not above the position
-  pub above-below : (es : List ℤ) (i : ℕ) → i < firstEndAbove p es → leZ (getD es i (pos 0)) p ≡ true
-  unfolding firstEndAbove
-  above-below [] i h = let z : ⊥ = omega arith in absurd z
-  above-below (e ∷ es) zero h = by-test (ltZ p e) (λ t. absurd (let k : zero < 0 = rw t at h in let z : ⊥ = omega arith in z)) (λ t. lt-le p e t)
-  above-below (e ∷ es) (suc i) h =
-      by-test (ltZ p e)
+  -- the ends below the index do not pass
+  pub where-below : (es : List ℤ) (i : ℕ) → i < firstWhere test es → test (getD es i (pos 0)) ≡ false
+  unfolding firstWhere
+  where-below [] i h = let z : ⊥ = omega arith in absurd z
+  where-below (e ∷ es) zero h = by-test (test e) (λ t. absurd (let k : zero < 0 = rw t at h in let z : ⊥ = omega arith in z)) (λ t. t)
+  where-below (e ∷ es) (suc i) h =
+      by-test (test e)
       (λ t. absurd (let k : suc i < 0 = rw t at h in let z : ⊥ = omega arith in z))
-      (λ t. let k : suc i < suc (firstEndAbove p es) = rw t at h in above-below es i (omega arith))
+      (λ t. let k : suc i < suc (firstWhere test es) = rw t at h in where-below es i (omega arith))
 
-  -- the end at it is
-  pub above-at : (es : List ℤ) → firstEndAbove p es < length es → ltZ p (getD es (firstEndAbove p es) (pos 0)) ≡ true
-  unfolding firstEndAbove
-  above-at [] h = let z : ⊥ = omega arith in absurd z
-  above-at (e ∷ es) h =
-      by-test (ltZ p e) (λ t. rw t t) (λ t. let k : suc (firstEndAbove p es) < suc (length es) = rw t at h in rw t (above-at es (omega arith)))
+  -- the end at it does
+  pub where-at : (es : List ℤ) → firstWhere test es < length es → test (getD es (firstWhere test es) (pos 0)) ≡ true
+  unfolding firstWhere
+  where-at [] h = let z : ⊥ = omega arith in absurd z
+  where-at (e ∷ es) h =
+      by-test (test e) (λ t. rw t t) (λ t. let k : suc (firstWhere test es) < suc (length es) = rw t at h in rw t (where-at es (omega arith)))
 
-  -- and no index past one of an end above the position is found
-  pub above-least : (es : List ℤ) (i : ℕ) → i < length es → leZ (getD es i (pos 0)) p ≡ false → firstEndAbove p es ≤ i
+  -- and no index past one of an end that passes is found
+  pub where-least : (es : List ℤ) (i : ℕ) → i < length es → test (getD es i (pos 0)) ≡ true → firstWhere test es ≤ i
+  unfolding firstWhere
+  where-least [] i h k = let z : ⊥ = omega arith in absurd z
+  where-least (e ∷ es) zero h k = rw k (omega arith)
+  where-least (e ∷ es) (suc i) h k = by-test (test e) (λ t. rw t (omega arith)) (λ t. rw t (omega (arith, where-least es i (omega arith) k)))
+
+module _ (p : ℤ) (es : List ℤ) (i : ℕ) (h : i < length es) where
+  pub above-least : leZ (getD es i (pos 0)) p ≡ false → firstEndAbove p es ≤ i
   unfolding firstEndAbove
-  above-least [] i h k = let z : ⊥ = omega arith in absurd z
-  above-least (e ∷ es) zero h k = rw (le-lt e p k) (omega arith)
-  above-least (e ∷ es) (suc i) h k = by-test (ltZ p e) (λ t. rw t (omega arith)) (λ t. rw t (omega (arith, above-least es i (omega arith) k)))
+  above-least k = where-least (λ e. ltZ p e) es i h (le-lt (getD es i (pos 0)) p k)
+
+  pub least-least : ltZ (getD es i (pos 0)) p ≡ false → firstEndAtLeast p es ≤ i
+  unfolding firstEndAtLeast
+  least-least k = where-least (λ e. leZ p e) es i h (lt-le (getD es i (pos 0)) p k)
 
 -- ---- valid ends
 
@@ -74,7 +83,7 @@ le-lower m n (pos q) h t = le-leb m q (omega (arith, leb-true n q t))
 le-lower m n (negsuc q) h t = cc
 
 above-past-from : (p : ℤ) (q : ℕ) (es : List ℤ) (i : ℕ) → RisingEnds q es → i < length es → leZ (getD es i (pos 0)) p ≡ true → i < firstEndAbove p es
-unfolding firstEndAbove
+unfolding firstEndAbove firstWhere
 above-past-from p q [] i r h t = let z : ⊥ = omega arith in absurd z
 above-past-from p q (e ∷ es) zero r h t = rw (le-lt e p t) (omega arith)
 above-past-from p q (e ∷ es) (suc i) r h t =
@@ -88,7 +97,7 @@ above-past p es i v h t = above-past-from p 0 es i (rising es v) h t
 
 -- valid ends are above every negative position
 above-start : (p : ℤ) (q : ℕ) (es : List ℤ) → ltZ p (pos 0) ≡ true → RisingEnds q es → 0 ≡ firstEndAbove p es
-unfolding firstEndAbove
+unfolding firstEndAbove firstWhere
 above-start p q [] t r = refl
 above-start (pos n) q (e ∷ es) t r = let z : ⊥ = omega (arith, ltb-true n 0 t) in absurd z
 above-start (negsuc n) q (e ∷ es) t r = rw (r .0)
@@ -131,7 +140,8 @@ pub record Halving (p : ℤ) (es : List ℤ) (low size : ℕ) : Type 0 where
 
 module _ (p : ℤ) (es : List ℤ) where
   pub halving-start : Halving p es 0 (length es)
-  halving-start = record { inside = omega arith; from-low = λ v. omega arith; to-high = λ v. omega (arith, above-within p es) }
+  unfolding firstEndAbove
+  halving-start = record { inside = omega arith; from-low = λ v. omega arith; to-high = λ v. omega (arith, where-within (λ e. ltZ p e) es) }
 
 module _ {p : ℤ} {es : List ℤ} {low size : ℕ} (s : Halving p es low size) where
   pub halving-end : size ≤ 0 → (low ≤ length es) × (endsValid es ≡ none → low ≡ firstEndAbove p es)
@@ -175,7 +185,7 @@ le-suc n (pos e) = refl
 le-suc n (negsuc e) = refl
 
 pub least-above : (n : ℕ) (es : List ℤ) → firstEndAtLeast (pos (suc n)) es ≡ firstEndAbove (pos n) es
-unfolding firstEndAbove firstEndAtLeast
+unfolding firstEndAbove firstWhere firstEndAtLeast
 least-above n [] = refl
 least-above n (e ∷ es) = rw (le-suc n e, least-above n es)
 
@@ -195,7 +205,7 @@ before-fits p t f = let m = position-above p t in difference-fits {b = 1} m refl
 
 -- valid ends are all above 0
 least-start : (p : ℤ) (es : List ℤ) → leZ p (pos 0) ≡ true → RisingEnds 0 es → 0 ≡ firstEndAtLeast p es
-unfolding firstEndAtLeast
+unfolding firstEndAtLeast firstWhere
 least-start p [] h r = refl
 least-start (pos n) (e ∷ es) h r = rw (r .0, le-leb n (magnitude e) (omega (arith, leb-true n 0 h)))
 least-start (negsuc n) (e ∷ es) h r = rw (r .0)
@@ -203,35 +213,10 @@ least-start (negsuc n) (e ∷ es) h r = rw (r .0)
 pub least-low : (p : ℤ) (es : List ℤ) → leZ p (pos 0) ≡ true → endsValid es ≡ none → 0 ≡ firstEndAtLeast p es
 least-low p es h v = least-start p es h (rising es v)
 
-module _ (p : ℤ) where
-  -- the ends below the index are below the position
-  pub least-below : (es : List ℤ) (i : ℕ) → i < firstEndAtLeast p es → ltZ (getD es i (pos 0)) p ≡ true
-  unfolding firstEndAtLeast
-  least-below [] i h = let z : ⊥ = omega arith in absurd z
-  least-below (e ∷ es) zero h = by-test (leZ p e) (λ t. absurd (let k : zero < 0 = rw t at h in let z : ⊥ = omega arith in z)) (λ t. le-lt p e t)
-  least-below (e ∷ es) (suc i) h =
-      by-test (leZ p e)
-      (λ t. absurd (let k : suc i < 0 = rw t at h in let z : ⊥ = omega arith in z))
-      (λ t. let k : suc i < suc (firstEndAtLeast p es) = rw t at h in least-below es i (omega arith))
-
-  -- the end at it is not
-  pub least-at : (es : List ℤ) → firstEndAtLeast p es < length es → leZ p (getD es (firstEndAtLeast p es) (pos 0)) ≡ true
-  unfolding firstEndAtLeast
-  least-at [] h = let z : ⊥ = omega arith in absurd z
-  least-at (e ∷ es) h =
-      by-test (leZ p e) (λ t. rw t t) (λ t. let k : suc (firstEndAtLeast p es) < suc (length es) = rw t at h in rw t (least-at es (omega arith)))
-
-  -- and no index past one of an end at or above the position is found
-  pub least-least : (es : List ℤ) (i : ℕ) → i < length es → ltZ (getD es i (pos 0)) p ≡ false → firstEndAtLeast p es ≤ i
-  unfolding firstEndAtLeast
-  least-least [] i h k = let z : ⊥ = omega arith in absurd z
-  least-least (e ∷ es) zero h k = rw (lt-le e p k) (omega arith)
-  least-least (e ∷ es) (suc i) h k = by-test (leZ p e) (λ t. rw t (omega arith)) (λ t. rw t (omega (arith, least-least es i (omega arith) k)))
-
 -- ---- among the first ends, up to one at or above the position
 
 front-from : (p : ℤ) (es : List ℤ) (n : ℕ) → n < length es → leZ p (getD es n (pos 0)) ≡ true → firstEndAtLeast p (take (suc n) es) ≡ firstEndAtLeast p es
-unfolding firstEndAtLeast
+unfolding firstEndAtLeast firstWhere
 front-from p [] n h t = let z : ⊥ = omega arith in absurd z
 front-from p (e ∷ es) zero h t = rw t
 front-from p (e ∷ es) (suc n) h t = by-test (leZ p e) (λ u. rw u) (λ u. rw u (ap suc (front-from p es n (omega arith) t)))

@@ -21,7 +21,7 @@ use Rattle.column.proofs.Ends.{rising, length-of-ends, natural-end}
 use Rattle.column.proofs.Naturals.{smaller-naturals}
 use Rattle.column.proofs.Sequences.{length-none, length-last}
 use Rattle.slice.specs.declared.search.TouchedRuns.{TouchedRuns}
-use Rattle.slice.specs.Search.{firstEndAbove, firstEndAtLeast, touchedBy}
+use Rattle.slice.specs.Search.{firstWhere, firstEndAbove, firstEndAtLeast, touchedBy}
 use Rattle.slice.specs.Slice.{cut, sliceRuns}
 use Rattle.slice.specs.Workers.{clipped, cutRuns, Touches}
 use Rattle.slice.proofs.Slicing.{length-cut}
@@ -45,7 +45,7 @@ rest-valid i es v = rising-valid (drop i es) (rising-rest 0 i es (rising es v))
 
 cut-all : (x y : ℕ) (es vs : List ℤ) → RisingEnds x es → length es ≡ length vs
     → cut x y (runsOf es vs) ≡ map (clipped x y) (take (firstEndAtLeast (pos y) es + 1) (runsOf es vs))
-unfolding cut runsOf firstEndAtLeast
+unfolding cut runsOf firstEndAtLeast firstWhere
 cut-all x y [] vs r l = refl
 cut-all x y (e ∷ es) [] r l = let z : ⊥ = omega arith in absurd z
 cut-all x y (e ∷ es) (v ∷ vs) r l =
@@ -60,7 +60,7 @@ cut-all x y (e ∷ es) (v ∷ vs) r l =
 
 cut-from : (x y p : ℕ) (es vs : List ℤ) → RisingEnds p es → length es ≡ length vs
     → cut x y (runsOf es vs) ≡ map (clipped x y) (take (firstEndAtLeast (pos y) (drop (firstEndAbove (pos x) es) es) + 1) (drop (firstEndAbove (pos x) es) (runsOf es vs)))
-unfolding cut runsOf firstEndAbove firstEndAtLeast
+unfolding cut runsOf firstEndAbove firstWhere firstEndAtLeast
 cut-from x y p [] vs r l = refl
 cut-from x y p (e ∷ es) [] r l = let z : ⊥ = omega arith in absurd z
 cut-from x y p (e ∷ es) (v ∷ vs) r l =

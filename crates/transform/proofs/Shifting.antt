@@ -30,7 +30,7 @@ use Rattle.column.proofs.Naturals.{magnitude-below}
 use Rattle.column.proofs.Pushed.{place}
 use Rattle.column.proofs.Rising.{Rising}
 use Rattle.column.proofs.Merging.{merge-start, merge-more, merge-at, merge-end, fill-none}
-use Rattle.slice.specs.Search.{firstEndAbove}
+use Rattle.slice.specs.Search.{firstWhere, firstEndAbove}
 use Rattle.transform.specs.Transform.{shiftValues}
 use Rattle.transform.specs.Workers.{shiftedUp, shiftedDown, Shiftable}
 
@@ -72,7 +72,7 @@ record Left (p q f : ℕ) (es vs : List ℤ) : Type 0 where
   shown : denseFrom q (runsOf (drop f es) (drop f vs)) ≡ drop (q - p) (denseFrom p (runsOf es vs))
 
 left-above : (p q : ℕ) (es vs : List ℤ) → RisingEnds p es → length es ≡ length vs → p ≤ q → Left p q (firstEndAbove (pos q) es) es vs
-unfolding firstEndAbove runsOf denseFrom
+unfolding firstEndAbove firstWhere runsOf denseFrom
 left-above p q [] vs r l h = record { rises = tt; shown = sym (drop-of-length-le [] {i = q - p} (omega arith)) }
 left-above p q (e ∷ es) [] r l h = let z : ⊥ = omega arith in absurd z
 left-above p q (e ∷ es) (v ∷ vs) r l h =
@@ -95,7 +95,7 @@ record Front (p q f : ℕ) (es vs : List ℤ) : Type 0 where
       ≡ take (suc q - p) (denseFrom p (runsOf es vs))
 
 front-above : (p q : ℕ) (es vs : List ℤ) → RisingEnds p es → length es ≡ length vs → p ≤ q → firstEndAbove (pos q) es < length es → Front p q (firstEndAbove (pos q) es) es vs
-unfolding firstEndAbove runsOf denseFrom
+unfolding firstEndAbove firstWhere runsOf denseFrom
 front-above p q [] vs r l h w = let z : ⊥ = omega arith in absurd z
 front-above p q (e ∷ es) [] r l h w = let z : ⊥ = omega arith in absurd z
 front-above p q (e ∷ es) (v ∷ vs) r l h w =
@@ -118,7 +118,7 @@ front-above p q (e ∷ es) (v ∷ vs) r l h w =
 
 -- the first end above a position that is not past the last is inside
 above-inside : (p q : ℕ) (es : List ℤ) → RisingEnds p es → q < magnitude (lastFrom (pos p) es) → p ≤ q → firstEndAbove (pos q) es < length es
-unfolding firstEndAbove
+unfolding firstEndAbove firstWhere
 above-inside p q [] r h k = let z : ⊥ = omega arith in absurd z
 above-inside p q (e ∷ es) r h k =
     let m = magnitude e in
