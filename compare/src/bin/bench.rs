@@ -17,6 +17,7 @@ use compare::library::{self, Counted};
 use runlength::{
     Keep, MergePlan, Plan, PlanMany, Result, Rle, RleBatch, RleLike, RleRef, SliceView,
 };
+use std::cell::Cell;
 use std::env;
 use std::ffi::c_int;
 use std::hint::black_box;
@@ -157,6 +158,8 @@ struct Bench {
     rounds: NonZeroUsize,
     /// The call that alone is timed; all are where none is named.
     only: Option<String>,
+    /// Whether a call was timed.
+    timed: Cell<bool>,
 }
 
 impl Bench {
@@ -173,6 +176,7 @@ impl Bench {
         if self.only.as_deref().is_some_and(|only| only != row.call) {
             return;
         }
+        self.timed.set(true);
         let mut lent = lend();
         let answer: Answer = library(&mut lent).into();
         assert_eq!(answer.refusal.number, 0, "the library answers");
@@ -698,7 +702,11 @@ fn main() -> ExitCode {
     };
     keep_memory();
     let only = env::args().nth(2);
-    let bench = Bench { rounds, only };
+    let bench = Bench {
+        rounds,
+        only,
+        timed: Cell::new(false),
+    };
     let rng = &mut Rng::new(1);
     print_row(["call", "input", "ns per"], ["ours", "Rust", "ours/Rust"]);
     print_row(["---"; 3], ["---"; 3]);
@@ -860,5 +868,9 @@ fn main() -> ExitCode {
         Rle::clone,
         merge,
     );
+    if !bench.timed.get() {
+        eprintln!("bench: no call has that name");
+        return ExitCode::from(2);
+    }
     ExitCode::SUCCESS
 }
