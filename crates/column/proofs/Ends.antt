@@ -17,7 +17,7 @@ use Rattle.column.specs.Writing.{RisingEnds}
 use Rattle.column.proofs.FirstNo.{first-yes, rest-yes}
 use Rattle.column.proofs.Rising.{Rising, Valid}
 
-from-check : (p i : ℕ) (es : List ℤ) → endsFrom i (pos p) es ≡ none → RisingEnds p es
+pub from-check : (p i : ℕ) (es : List ℤ) → endsFrom i (pos p) es ≡ none → RisingEnds p es
 unfolding endsFrom
 from-check p i [] h = tt
 from-check p i (pos e ∷ es) h =

@@ -29,7 +29,7 @@ use Rattle.slice.proofs.Searching.{rising-valid, above-least, above-pas
 
 -- ---- the rest of valid ends is valid
 
-rising-lower : (p q : ℕ) (es : List ℤ) → p ≤ q → RisingEnds q es → RisingEnds p es
+pub rising-lower : (p q : ℕ) (es : List ℤ) → p ≤ q → RisingEnds q es → RisingEnds p es
 rising-lower p q [] h r = tt
 rising-lower p q (e ∷ es) h r = (r .0, omega (arith, r .1), r .2)
 

@@ -1,0 +1,134 @@
+-- The reductions of the slices of intervals, written one after another; and the questions of that call, as the code joins them.
+-- Assumes nothing.
+use Prim.Native.Nat.{ℕ, _+_, _≤_, _<_, _^_}
+use mathlib.Core.Bool.{not}
+use mathlib.Core.Option.{none, some}
+use mathlib.Core.List.{List, [], _∷_, _++_, map}
+use mathlib.Core.Path.{_≡_, refl, ap, ap₂, sym, _∙_}
+use native.Mathlib.Numerals.{add-one}
+use native.Mathlib.Omega.{arith}
+use lib.Dec.{T}
+use lib.Ieee.{Float, nan, inf, fin, isNan}
+use lib.Ieee.Scale.{finite}
+use lib.IntN.{ℤ, pos}
+use lib.ListN.{length, getD, take, set, length-map, List·getD-map}
+use lib.Seq.{take-suc, take-all}
+use lib.Signed.{mag}
+use Rattle.column.specs.declared.answer.Counted.{Counted}
+use Rattle.column.specs.declared.error.Refusal.{Refusal}
+use Rattle.column.specs.Asking.{Question, firstNo, _otherwise_}
+use Rattle.column.specs.Paper.{answers, paper}
+use Rattle.column.specs.Questions.{listed, agree, paired, endsValid, intervals, room, both}
+use Rattle.column.specs.Runs.{sequence, Runs, runsOf}
+use Rattle.column.proofs.Buffer.{Written, write-start, write-next}
+use Rattle.column.proofs.FirstNo.{all-yes, asked-next, asked-last}
+use Rattle.column.proofs.Told.{agree-told, both-told}
+use Rattle.slice.specs.declared.search.TouchedRuns.{TouchedRuns}
+use Rattle.slice.specs.Search.{touchedBy}
+use Rattle.slice.specs.Slice.{intervalRuns}
+use Rattle.slice.proofs.Items.{item-at, length-items}
+use Rattle.reduce.specs.declared.Reduction.{Reduction}
+use Rattle.reduce.specs.declared.inner.WindowReduction.{WindowReduction}
+use Rattle.reduce.specs.Reduce.{reduction, FiniteReduction, kindOf, bitsOf, allKinds, allBits, sliceReduceAsked, WritesReductions}
+use Rattle.reduce.specs.Workers.{Window, ReducesWindow, Reducible, FilledReductions}
+use Rattle.reduce.proofs.Windows.{window-of, window-rises, window-slice}
+
+-- a float of an answer has bits
+pub finite-no-nan : (x : Float) → T (finite x) → T (not (isNan x))
+unfolding isNan finite
+finite-no-nan nan h = absurd h
+finite-no-nan (inf s) h = tt
+finite-no-nan (fin s m e) h = tt
+
+-- ---- of each interval
+
+abbrev pub reductions : ℕ → ℤ → List ℤ → List ℤ → Runs → List Reduction
+reductions code ddof starts stops rs = map (reduction code ddof) (intervalRuns starts stops rs)
+
+-- the interval at i, by the runs that the code found
+module _ (es vs starts stops : List ℤ) (valid : endsValid es ≡ none) (l : length es ≡ length vs) (m : length starts ≡ length stops) (i : ℕ) (h : i < length starts)
+    {x y : ℤ} {t : TouchedRuns} (ex : x ≡ getD starts i (pos 0)) (ey : y ≡ getD stops i (pos 0)) (et : endsValid es ≡ none → t ≡ touchedBy x y es) where
+  found : t ≡ touchedBy (getD starts i (pos 0)) (getD stops i (pos 0)) es
+  found = et valid ∙ ap₂ (λ (a b : ℤ). touchedBy a b es) ex ey
+
+  pub interval-window : mag (t .end) < 2 ^ 63 → Window t es vs
+  interval-window f = rw found (window-of (getD starts i (pos 0)) (getD stops i (pos 0)) es vs valid l (rw found at f))
+
+  module _ {code : ℕ} {ddof : ℤ} {r : WindowReduction} (w : ReducesWindow code ddof t es vs r) where
+    reduces : ReducesWindow code ddof (touchedBy (getD starts i (pos 0)) (getD stops i (pos 0)) es) es vs r
+    reduces = rw found at w
+
+    pub interval-finite : FiniteReduction (r .reduction)
+    interval-finite = reduces .finite (window-rises (getD starts i (pos 0)) (getD stops i (pos 0)) es valid)
+
+    pub interval-reduced : r .reduction ≡ getD (reductions code ddof starts stops (runsOf es vs)) i (reduction code ddof [])
+    interval-reduced =
+        reduces .answer (window-rises (getD starts i (pos 0)) (getD stops i (pos 0)) es valid)
+        ∙ ap (reduction code ddof) (window-slice (getD starts i (pos 0)) (getD stops i (pos 0)) es vs valid l ∙ sym (item-at starts stops (runsOf es vs) i m h))
+        ∙ sym (List·getD-map (reduction code ddof) (intervalRuns starts stops (runsOf es vs)) i [])
+
+-- the first i of them are written
+pub record Filling (rs : List Reduction) (k₀ k b₀ b : List ℕ) (i : ℕ) : Type 0 where
+  pub kinds : Written kindOf (take i rs) k₀ k i
+  pub bits : Written bitsOf (take i rs) b₀ b i
+
+pub filling-start : (rs : List Reduction) (k₀ b₀ : List ℕ) → Filling rs k₀ k₀ b₀ b₀ 0
+filling-start rs k₀ b₀ = record { kinds = write-start kindOf k₀; bits = write-start bitsOf b₀ }
+
+pub filling-next : {rs : List Reduction} {k₀ k b₀ b : List ℕ} {i : ℕ} → Filling rs k₀ k b₀ b i → i < length rs → length rs ≤ length k₀ → length rs ≤ length b₀
+    → {r : Reduction} (d : Reduction) → r ≡ getD rs i d → {x y : ℕ} → x ≡ kindOf r → y ≡ bitsOf r → Filling rs k₀ (set k i x) b₀ (set b i y) (i + 1)
+filling-next {rs = rs} {i = i} s h hk hb {r} d er ex ey =
+    let next : take (i + 1) rs ≡ take i rs ++ r ∷ [] = ap (λ (n : ℕ). take n rs) (add-one i) ∙ take-suc rs i d h ∙ ap (λ (a : Reduction). take i rs ++ a ∷ []) (sym er) in
+    record {
+      kinds = rw next (write-next kindOf (s .kinds) (omega arith) r ex);
+      bits = rw next (write-next bitsOf (s .bits) (omega arith) r ey);
+    }
+
+pub filling-end : {rs : List Reduction} {k₀ k b₀ b : List ℕ} {i : ℕ} → Filling rs k₀ k b₀ b i → length rs ≤ i → FilledReductions rs k₀ k b₀ b i
+unfolding allKinds allBits
+filling-end {rs = rs} {i = i} s h =
+    let all : take i rs ≡ rs = take-all i rs h in
+    record { count = rw all at (s .kinds .count); kinds = rw all at (s .kinds .entries); bits = rw all at (s .bits .entries) }
+
+pub length-reductions : (code : ℕ) (ddof : ℤ) (starts stops : List ℤ) (rs : Runs) → length starts ≡ length stops → length (reductions code ddof starts stops rs) ≡ length starts
+length-reductions code ddof starts stops rs m = rw length-map (length-items starts stops rs m)
+
+-- ---- the call
+
+module _ (es vs starts stops : List ℤ) (code k b : ℕ) where
+  pub reduce-asked : {q c d f g n o p s u v : Question} → q ≡ firstNo (c ∷ d ∷ []) → c ≡ listed 0 2 code
+      → d ≡ firstNo (f ∷ g ∷ []) → f ≡ agree 3 (length es) (length vs)
+      → g ≡ firstNo (n ∷ o ∷ []) → n ≡ agree 8 (length starts) (length stops)
+      → o ≡ firstNo (p ∷ s ∷ []) → p ≡ endsValid es
+      → s ≡ firstNo (u ∷ v ∷ []) → u ≡ intervals starts stops
+      → v ≡ room (both (length starts)) (k ∷ b ∷ [])
+      → q ≡ sliceReduceAsked (sequence es vs) starts stops code (k ∷ b ∷ [])
+  unfolding sliceReduceAsked paired
+  reduce-asked hq hc hd hf hg hn ho hp hs hu hv =
+      let r = room (both (length starts)) (k ∷ b ∷ []) in
+      asked-next (listed 0 2 code) (agree 3 (length es) (length vs) ∷ agree 8 (length starts) (length stops) ∷ endsValid es ∷ intervals starts stops ∷ r ∷ []) hq hc
+      (λ y. asked-next (agree 3 (length es) (length vs)) (agree 8 (length starts) (length stops) ∷ endsValid es ∷ intervals starts stops ∷ r ∷ []) hd hf
+      (λ y. asked-next (agree 8 (length starts) (length stops)) (endsValid es ∷ intervals starts stops ∷ r ∷ []) hg hn
+      (λ y. asked-next (endsValid es) (intervals starts stops ∷ r ∷ []) ho hp
+      (λ y. asked-last (intervals starts stops) hs hu (λ y. hv)))))
+
+pub reduce-yes : (es vs starts stops : List ℤ) (code : ℕ) (k b : List ℕ) → sliceReduceAsked (sequence es vs) starts stops code (length k ∷ length b ∷ []) ≡ none
+    → Reducible (sequence es vs) starts stops k b
+unfolding sliceReduceAsked paired
+reduce-yes es vs starts stops code k b h =
+    let y = all-yes (listed 0 2 code ∷ paired (sequence es vs) ∷ agree 8 (length starts) (length stops) ∷ endsValid es ∷ intervals starts stops
+    ∷ room (both (length starts)) (length k ∷ length b ∷ []) ∷ []) h in
+    let r = both-told (length starts) (length k) (length b) (y .1 .1 .1 .1 .1 .0) in
+    record {
+      valid = y .1 .1 .1 .0;
+      paired = agree-told 3 (length es) (length vs) (y .1 .0);
+      intervals = agree-told 8 (length starts) (length stops) (y .1 .1 .0);
+      room-kinds = r .0;
+      room-bits = r .1;
+    }
+
+pub reductions-written : {q : Question} (rs : List Reduction) {k k′ b b′ : List ℕ} {n : ℕ} → q ≡ none → FilledReductions rs k k′ b b′ n → WritesReductions (q otherwise rs) (Counted.Count n) k k′ b b′
+reductions-written rs h f = rw h (record { answer = ap answers (f .count); kinds = f .kinds; bits = f .bits })
+
+pub reductions-refused : {q : Question} (rs : List Reduction) {r : Refusal} {k b : List ℕ} → q ≡ some (paper r) → WritesReductions (q otherwise rs) (Counted.Refused r) k k b b
+reductions-refused rs h = rw h (record { answer = refl; kinds = refl; bits = refl })

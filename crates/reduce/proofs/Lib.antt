@@ -1,0 +1,9 @@
+pub mod Answers
+pub mod Divisor
+pub mod Intervals
+pub mod Reducing
+pub mod Sums
+pub mod Terms
+pub mod Totals
+pub mod Walking
+pub mod Windows
