@@ -93,6 +93,20 @@ typedef struct {
     size_t runs; /* the entries of out_ends and of out_values; 0 with a refusal */
 } rl_batched;
 
+typedef struct {
+    rl_refusal refusal;
+    int64_t total; /* 0 with a refusal */
+} rl_summed;
+
+/* What a reduction comes to. What its kind does not have is 0, and all is 0 with a refusal. */
+typedef struct {
+    rl_refusal refusal;
+    uint64_t kind;   /* 0 Nothing, 1 Whole, 2 Fraction */
+    int64_t whole;   /* of Whole: the sum */
+    double mean;     /* of Fraction: the mean, of a variance the one that it was taken around */
+    double variance; /* of Fraction: the variance, or the mean once more */
+} rl_reduced;
+
 /* The value that stands where a column has ended. */
 typedef struct {
     uint64_t given; /* 0: no fill, whatever the value is */
@@ -310,6 +324,36 @@ rl_counted rl_merge_plan(const int64_t *ends, size_t ends_len, const uint8_t *ma
  * Refuses: 3 where there are no offsets, or they do not start at 0 or fall; 12: the output needs as many entries as the last
  * offset says. */
 rl_counted rl_group_ids(const size_t *offsets, size_t offsets_len, size_t *out_ids, size_t out_ids_len);
+
+/* reduce.rs. A position counts as often as it is there: a value as many times as its run is long. */
+
+/* The sum over all positions, modulo 2^64, read as signed; 0 at length 0. Writes nothing.
+ * Refuses: 2 (what 3); 4. */
+rl_summed rl_sum(const int64_t *ends, size_t ends_len, const int64_t *values, size_t values_len);
+
+/* The reductions. In a mean and a variance each int64_t is first converted to the nearest double, ties to even, and each operation
+ * is rounded once (IEEE 754), run after run from +0. No answer is a NaN or an infinity.
+ *
+ *   code
+ *   0  sum        Whole: as rl_sum
+ *   1  mean       Fraction: the sum of run * value, divided by the length; Nothing at length 0
+ *   2  variance   Fraction: with d = value - mean the sum of d * d * run, divided by length - ddof; Nothing unless the length is
+ *                 above 0 and length - ddof, taken exactly, is from 1 to 2^63 - 1
+ *
+ * ddof is read for code 2 alone. */
+
+/* A reduction of the whole sequence. Writes nothing.
+ * Refuses: 1 where the code is not 0, 1 or 2; 2 (what 3); 4. */
+rl_reduced rl_reduce(const int64_t *ends, size_t ends_len, const int64_t *values, size_t values_len, uint8_t code, int64_t ddof);
+
+/* The reductions of the slices from starts[k] up to stops[k], each as rl_reduce would answer for the slice: its kind, and 64 bits,
+ * which are 0 for Nothing, the whole number's, or the double's, of a variance without its mean. The count is the number of
+ * intervals.
+ * Refuses: 1 as rl_reduce; 2 (what 3, then 8); 4; 9: the lowest index of an interval that is not 0 <= start <= end; 12: each output
+ * needs starts_len entries. */
+rl_counted rl_slice_reduce(const int64_t *ends, size_t ends_len, const int64_t *values, size_t values_len, const int64_t *starts,
+                           size_t starts_len, const int64_t *stops, size_t stops_len, uint8_t code, int64_t ddof,
+                           uint8_t *out_kinds, size_t out_kinds_len, uint64_t *out_bits, size_t out_bits_len);
 
 #ifdef __cplusplus
 }

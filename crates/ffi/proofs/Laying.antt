@@ -23,6 +23,10 @@ use Rattle.column.specs.declared.error.InKey.the-variants.{Outside, Position}
 use Rattle.column.specs.declared.error.Refusal.{Refusal}
 use Rattle.column.specs.Paper.{numberOf}
 use Rattle.many.specs.declared.PlannedMany.{PlannedMany}
+use Rattle.reduce.specs.declared.Reduced.{Reduced}
+use Rattle.reduce.specs.declared.Reduction.{Reduction}
+use Rattle.reduce.specs.declared.Reduction.the-variants.{Whole, Fraction, Nothing}
+use Rattle.reduce.specs.declared.Summed.{Summed}
 use Rattle.rle.specs.declared.Equality.{Equality}
 use Rattle.slice.specs.declared.View.{View}
 use Rattle.slice.specs.declared.Viewed.{Viewed}
@@ -31,9 +35,11 @@ use Rattle.ffi.specs.declared.RlCounted.{RlCounted}
 use Rattle.ffi.specs.declared.RlEquality.{RlEquality}
 use Rattle.ffi.specs.declared.RlFound.{RlFound}
 use Rattle.ffi.specs.declared.RlPlannedMany.{RlPlannedMany}
+use Rattle.ffi.specs.declared.RlReduced.{RlReduced}
 use Rattle.ffi.specs.declared.RlRefusal.{RlRefusal}
+use Rattle.ffi.specs.declared.RlSummed.{RlSummed}
 use Rattle.ffi.specs.declared.RlViewed.{RlViewed}
-use Rattle.ffi.specs.Reading.{readError, readInKey, readRefusal, readChecked, readCounted, readEquality, readFound, readViewed, readBatched, readPlannedMany, bitsAt, carried, placeOf, fields, laidRefusal, laidChecked, laidCounted, laidEquality, laidFound, laidViewed, laidBatched, laidPlannedMany}
+use Rattle.ffi.specs.Reading.{readError, readInKey, readRefusal, readChecked, readCounted, readEquality, readFound, readViewed, readBatched, readSummed, readReduction, readReduced, readPlannedMany, bitsAt, carried, placeOf, fields, laidRefusal, laidChecked, laidCounted, laidEquality, laidFound, laidViewed, laidBatched, laidSummed, laidReduction, laidReduced, laidPlannedMany}
 
 -- the bits of an i64, as `as_unsigned` tells them, out of which it is read
 pub signed-told : (z : ℤ) {u : ℕ} → mag z < 2 ^ 63 → u ≡ residue (toZ w64 (ofZ w64 z)) → (u ≡ residue z) × (signed u ≡ z)
@@ -86,6 +92,20 @@ viewed x n s l = record { refusal = x; first = n; start = s; length = l }
 abbrev batched : RlRefusal → ℕ → ℕ → RlBatched
 batched x n m = record { refusal = x; keys = n; runs = m }
 
+abbrev summed : RlRefusal → ℤ → RlSummed
+summed x z = record { refusal = x; total = z }
+
+-- a reduction is read out of its fields, whatever the refusal beside it
+reduction-back : (x : RlRefusal) (a : Reduction) → readReduction (laidReduction x a) ≡ a
+reduction-back x (Whole z) = refl
+reduction-back x (Fraction m) = refl
+reduction-back x Nothing = refl
+
+reduction-refusal : (x : RlRefusal) (a : Reduction) → laidReduction x a .refusal ≡ x
+reduction-refusal x (Whole z) = refl
+reduction-refusal x (Fraction m) = refl
+reduction-refusal x Nothing = refl
+
 abbrev planned : RlRefusal → ℕ → ℕ → RlPlannedMany
 planned x n m = record { refusal = x; segments = n; indexes = m }
 
@@ -110,6 +130,12 @@ module _ {r : Refusal} {x : RlRefusal} (again : readRefusal x ≡ r) (laid : x �
 
   pub batched-refused : {c : Batched} → c ≡ Batched.Refused r → (readBatched (batched x 0 0) ≡ c) × (batched x 0 0 ≡ laidBatched c)
   batched-refused e = rw (e, refused) (ap Batched.Refused again, ap (λ (y : RlRefusal). batched y 0 0) laid)
+
+  pub summed-refused : {c : Summed} → c ≡ Summed.Refused r → (readSummed (summed x (pos 0)) ≡ c) × (summed x (pos 0) ≡ laidSummed c)
+  summed-refused e = rw (e, refused) (ap Summed.Refused again, ap (λ (y : RlRefusal). summed y (pos 0)) laid)
+
+  pub reduced-refused : {c : Reduced} {y : RlReduced} → y ≡ laidReduction x Nothing → c ≡ Reduced.Refused r → (readReduced y ≡ c) × (y ≡ laidReduced c)
+  reduced-refused h e = rw (e, h, refused) (ap Reduced.Refused again, ap (λ (z : RlRefusal). laidReduction z Nothing) laid)
 
   pub planned-refused : {c : PlannedMany} → c ≡ PlannedMany.Refused r → (readPlannedMany (planned x 0 0) ≡ c) × (planned x 0 0 ≡ laidPlannedMany c)
   planned-refused e = rw (e, refused) (ap PlannedMany.Refused again, ap (λ (y : RlRefusal). planned y 0 0) laid)
@@ -139,6 +165,12 @@ module _ {x : RlRefusal} (laid : x ≡ laidChecked Checked.Valid) where
 
   pub batched-batch : {c : Batched} {b : RleBatch} → c ≡ Batched.Batch b → (readBatched (batched x (b .keys) (b .runs)) ≡ c) × (batched x (b .keys) (b .runs) ≡ laidBatched c)
   batched-batch e = rw (e, laid) (refl, refl)
+
+  pub summed-total : {c : Summed} {y z : ℤ} → y ≡ z → c ≡ Summed.Total z → (readSummed (summed x y) ≡ c) × (summed x y ≡ laidSummed c)
+  summed-total same e = rw (e, laid, same) (refl, refl)
+
+  pub reduced-answer : {c : Reduced} {a : Reduction} {y : RlReduced} → y ≡ laidReduction x a → c ≡ Reduced.Answer a → (readReduced y ≡ c) × (y ≡ laidReduced c)
+  reduced-answer {a = a} h e = rw (e, h, laid) (rw (reduction-refusal (laidChecked Checked.Valid) a) (ap Reduced.Answer (reduction-back (laidChecked Checked.Valid) a)), refl)
 
   pub planned-counts : {c : PlannedMany} {n m : ℕ} → c ≡ PlannedMany.Counts n m → (readPlannedMany (planned x n m) ≡ c) × (planned x n m ≡ laidPlannedMany c)
   planned-counts e = rw (e, laid) (refl, refl)

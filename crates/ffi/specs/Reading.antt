@@ -26,6 +26,11 @@ use Rattle.many.specs.declared.PlannedMany.{PlannedMany}
 use Rattle.many.specs.Many.{WritesPlanMany}
 use Rattle.merge.specs.Merge.{Group, WritesGroups}
 use Rattle.plan.specs.Plan.{Segment, WritesPlan}
+use Rattle.reduce.specs.declared.Reduced.{Reduced}
+use Rattle.reduce.specs.declared.Reduction.{Reduction}
+use Rattle.reduce.specs.declared.Reduction.the-variants.{Whole, Fraction, Nothing}
+use Rattle.reduce.specs.declared.Summed.{Summed}
+use Rattle.reduce.specs.Reduce.{plusZero, kindOf, shownSummed, Reduces, WritesReductions}
 use Rattle.rle.specs.declared.Equality.{Equality}
 use Rattle.rle.specs.Rle.{shownEquality}
 use Rattle.slice.specs.declared.Part.{Part}
@@ -40,7 +45,9 @@ use Rattle.ffi.specs.declared.RlFill.{RlFill}
 use Rattle.ffi.specs.declared.RlFound.{RlFound}
 use Rattle.ffi.specs.declared.RlPart.{RlPart}
 use Rattle.ffi.specs.declared.RlPlannedMany.{RlPlannedMany}
+use Rattle.ffi.specs.declared.RlReduced.{RlReduced}
 use Rattle.ffi.specs.declared.RlRefusal.{RlRefusal}
+use Rattle.ffi.specs.declared.RlSummed.{RlSummed}
 use Rattle.ffi.specs.declared.RlViewed.{RlViewed}
 
 -- ---- reading
@@ -97,6 +104,18 @@ readPart r = record { first = r .first; count = r .count }
 
 abbrev pub readBatched : RlBatched → Batched
 readBatched r = cond (eqb (r .refusal .number) 0) (Batched.Batch (record { keys = r .keys; runs = r .runs })) (Batched.Refused (readRefusal (r .refusal)))
+
+abbrev pub readSummed : RlSummed → Summed
+readSummed r = cond (eqb (r .refusal .number) 0) (Summed.Total (r .total)) (Summed.Refused (readRefusal (r .refusal)))
+
+-- by "a kind byte (0 Nothing, 1 Whole, 2 Fraction)"
+abbrev pub readReduction : RlReduced → Reduction
+readReduction r =
+    cond (eqb (r .kind) 0) Nothing
+    (cond (eqb (r .kind) 1) (Whole (r .whole)) (Fraction (record { mean = r .mean; variance = r .variance })))
+
+abbrev pub readReduced : RlReduced → Reduced
+readReduced r = cond (eqb (r .refusal .number) 0) (Reduced.Answer (readReduction r)) (Reduced.Refused (readRefusal (r .refusal)))
 
 -- and a fill that is not given is missing
 abbrev pub readFill : RlFill → Fill
@@ -156,6 +175,21 @@ abbrev pub laidBatched : Batched → RlBatched
 laidBatched (Batched.Batch b) = record { refusal = laidChecked Checked.Valid; keys = b .keys; runs = b .runs }
 laidBatched (Batched.Refused r) = record { refusal = laidRefusal r; keys = 0; runs = 0 }
 
+abbrev pub laidSummed : Summed → RlSummed
+laidSummed (Summed.Total z) = record { refusal = laidChecked Checked.Valid; total = z }
+laidSummed (Summed.Refused r) = record { refusal = laidRefusal r; total = pos 0 }
+
+-- what a reduction does not have is 0, or +0
+abbrev pub laidReduction : RlRefusal → Reduction → RlReduced
+laidReduction x (Whole z) = record { refusal = x; kind = kindOf (Whole z); whole = z; mean = plusZero; variance = plusZero }
+laidReduction x (Fraction m) = record { refusal = x; kind = kindOf (Fraction m); whole = pos 0; mean = m .mean; variance = m .variance }
+laidReduction x Nothing = record { refusal = x; kind = kindOf Nothing; whole = pos 0; mean = plusZero; variance = plusZero }
+
+-- a refusal has the fields of Nothing
+abbrev pub laidReduced : Reduced → RlReduced
+laidReduced (Reduced.Answer a) = laidReduction (laidChecked Checked.Valid) a
+laidReduced (Reduced.Refused r) = laidReduction (laidRefusal r) Nothing
+
 -- ---- the promises: the Rattle call's own, for the answer that is read, and no field left open
 
 pub record Laid {R A : Type 0} (read : R → A) (lay : A → R) (promised : A → Type 0) (r : R) : Type 0 where
@@ -174,6 +208,12 @@ LaidFound o r = Laid readFound laidFound (λ c. shownFound c ≡ o) r
 abbrev pub LaidViewed : Outcome View → RlViewed → Type 0
 LaidViewed o r = Laid readViewed laidViewed (λ c. shownViewed c ≡ o) r
 
+abbrev pub LaidSum : Outcome ℤ → RlSummed → Type 0
+LaidSum o r = Laid readSummed laidSummed (λ c. shownSummed c ≡ o) r
+
+abbrev pub LaidReduced : Outcome Reduction → RlReduced → Type 0
+LaidReduced o r = Laid readReduced laidReduced (λ c. Reduces o c) r
+
 -- a part has no refusal, and is read field by field
 abbrev pub LaidPart : RlPart → Part → List ℤ → Type 0
 LaidPart r p vs = PartOf (readPart r) p vs
@@ -189,6 +229,9 @@ LaidRanges o r s s′ e e′ = Laid readCounted laidCounted (λ c. WritesRanges 
 
 abbrev pub LaidGroups : Outcome (List (Group ℤ)) → RlCounted → List ℤ → List ℤ → List ℕ → List ℕ → Type 0
 LaidGroups o r e e′ x x′ = Laid readCounted laidCounted (λ c. WritesGroups o c e e′ x x′) r
+
+abbrev pub LaidReductions : Outcome (List Reduction) → RlCounted → List ℕ → List ℕ → List ℕ → List ℕ → Type 0
+LaidReductions o r k k′ b b′ = Laid readCounted laidCounted (λ c. WritesReductions o c k k′ b b′) r
 
 abbrev pub LaidPlan : Outcome (List Segment) → RlCounted → List ℤ → List ℤ → List ℕ → List ℕ → List ℕ → List ℕ → Type 0
 LaidPlan o r e e′ a a′ b b′ = Laid readCounted laidCounted (λ c. WritesPlan o c e e′ a a′ b b′) r

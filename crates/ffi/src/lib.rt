@@ -8,12 +8,15 @@ use column::error::Error;
 use column::error::InKey;
 use column::error::Refusal;
 use many::PlannedMany;
+use reduce::Reduced;
+use reduce::Reduction;
+use reduce::Summed;
 use rle::Equality;
 use slice::Part;
 use slice::Viewed;
 ghost use mathlib.Core.Path.{_≡_};
 ghost use Rattle.ffi.specs.Reading as Reading;
-ghost use Rattle.ffi.specs.Reading.{readRefusal, readChecked, readCounted, readEquality, readFound, readViewed, readPart, readBatched, readPlannedMany, readFill, laidRefusal, laidChecked, laidCounted, laidEquality, laidFound, laidViewed, laidBatched, laidPlannedMany};
+ghost use Rattle.ffi.specs.Reading.{readRefusal, readChecked, readCounted, readEquality, readFound, readViewed, readPart, readBatched, readSummed, readReduced, readPlannedMany, readFill, laidRefusal, laidChecked, laidCounted, laidEquality, laidFound, laidViewed, laidBatched, laidSummed, laidReduction, laidReduced, laidPlannedMany};
 
 // A refusal: document 01's number, its values in document 01's order as 64 bits each (0 where it has fewer), and the position that it
 // may carry, with 1 in `in_key`. All 0 with an answer.
@@ -79,6 +82,23 @@ pub struct RlBatched {
     pub refusal: RlRefusal,
     pub keys: usize,
     pub runs: usize,
+}
+
+// The total is 0 with a refusal.
+#[repr(C)]
+pub struct RlSummed {
+    pub refusal: RlRefusal,
+    pub total: i64,
+}
+
+// `kind` is document 01's kind byte, and 0 with a refusal: 0 Nothing, 1 Whole, 2 Fraction. What the kind does not have is 0.
+#[repr(C)]
+pub struct RlReduced {
+    pub refusal: RlRefusal,
+    pub kind: u64,
+    pub whole: i64,
+    pub mean: f64,
+    pub variance: f64,
 }
 
 // What stands where a column has ended: missing where `given` is 0, else the value.
@@ -318,6 +338,59 @@ pub fn batched(b: Batched) -> RlBatched
                 runs: 0,
             }
         }
+    }
+}
+
+pub fn summed(s: Summed) -> RlSummed
+    ensures { λ x. ⌜ (readSummed x ≡ s) × (x ≡ laidSummed s) ⌝ }
+{
+    match s {
+        Summed::Total(total) => {
+            let refusal = checked(Checked::Valid);
+            RlSummed { refusal, total }
+        }
+        Summed::Refused(r) => {
+            let refusal = refused(r);
+            RlSummed { refusal, total: 0 }
+        }
+    }
+}
+
+// A refusal, or that there is none, and a reduction beside it.
+fn reduction(refusal: RlRefusal, answer: Reduction) -> RlReduced
+    ensures { λ x. ⌜ x ≡ laidReduction refusal answer ⌝ }
+{
+    match answer {
+        Reduction::Whole(whole) => RlReduced {
+            refusal,
+            kind: 1,
+            whole,
+            mean: 0.0,
+            variance: 0.0,
+        },
+        Reduction::Fraction(moments) => RlReduced {
+            refusal,
+            kind: 2,
+            whole: 0,
+            mean: moments.mean,
+            variance: moments.variance,
+        },
+        Reduction::Nothing => RlReduced {
+            refusal,
+            kind: 0,
+            whole: 0,
+            mean: 0.0,
+            variance: 0.0,
+        },
+    }
+}
+
+pub fn reduced(r: Reduced) -> RlReduced
+    ensures { λ x. ⌜ (readReduced x ≡ r) × (x ≡ laidReduced r) ⌝ }
+{
+    match r {
+        Reduced::Answer(answer) => reduction(checked(Checked::Valid), answer),
+        Reduced::Refused(refusal) => reduction(refused(refusal), Reduction::Nothing),
     }
 }
 

@@ -6,8 +6,10 @@ use ffi::RlFill;
 use ffi::RlFound;
 use ffi::RlPart;
 use ffi::RlPlannedMany;
+use ffi::RlReduced;
 use ffi::RlRefusal;
 use ffi::RlRle;
+use ffi::RlSummed;
 use ffi::RlViewed;
 use rle::Rle;
 ghost use mathlib.Core.List.{[], _∷_};
@@ -15,11 +17,12 @@ ghost use mathlib.Core.Path.{_≡_};
 ghost use lib.ListN.{length};
 ghost use Rattle.column.specs.Flat.{flat};
 ghost use Rattle.column.specs.Runs.{sequence};
-ghost use Rattle.ffi.specs.Reading.{readFill, LaidCheck, LaidEquality, LaidFound, LaidViewed, LaidPart, LaidRuns, LaidEntries, LaidRanges, LaidGroups, LaidPlan, LaidPlanMany, LaidFlat};
+ghost use Rattle.ffi.specs.Reading.{readFill, LaidCheck, LaidEquality, LaidFound, LaidViewed, LaidSum, LaidReduced, LaidPart, LaidRuns, LaidEntries, LaidRanges, LaidGroups, LaidReductions, LaidPlan, LaidPlanMany, LaidFlat};
 ghost use Rattle.many.specs.Many as many;
 ghost use Rattle.merge.specs.Merge as merge;
 ghost use Rattle.ops.specs.Ops as ops;
 ghost use Rattle.plan.specs.Plan as plan;
+ghost use Rattle.reduce.specs.Reduce as reduce;
 ghost use Rattle.rle.specs.Rle as calls;
 ghost use Rattle.slice.specs.Slice as slice;
 ghost use Rattle.transform.specs.Transform as transform;
@@ -448,4 +451,36 @@ pub extern "C" fn rl_group_ids(offsets: &[usize], out_ids: &mut [usize]) -> RlCo
         (now («out_ids» .entry)) (now («out_ids» .exit)) ⌝ }
 {
     ffi::counted(merge::group_ids(offsets, out_ids))
+}
+
+#[no_mangle]
+pub extern "C" fn rl_sum(ends: &[i64], values: &[i64]) -> RlSummed
+    ensures { λ r. ⌜ LaidSum (reduce.sum (sequence (now (ends .entry)) (now (values .entry)))) r ⌝ }
+{
+    ffi::summed(reduce::sum(ends, values))
+}
+
+#[no_mangle]
+pub extern "C" fn rl_reduce(ends: &[i64], values: &[i64], code: u8, ddof: i64) -> RlReduced
+    ensures { λ r. ⌜ LaidReduced (reduce.reduce (sequence (now (ends .entry)) (now (values .entry))) code ddof) r ⌝ }
+{
+    ffi::reduced(reduce::reduce(ends, values, code, ddof))
+}
+
+#[no_mangle]
+pub extern "C" fn rl_slice_reduce(
+    ends: &[i64],
+    values: &[i64],
+    starts: &[i64],
+    stops: &[i64],
+    code: u8,
+    ddof: i64,
+    out_kinds: &mut [u8],
+    out_bits: &mut [u64],
+) -> RlCounted
+    ensures { λ r. ⌜ LaidReductions
+        (reduce.sliceReduce (sequence (now (ends .entry)) (now (values .entry))) (now (starts .entry)) (now (stops .entry)) code ddof (length (now («out_kinds» .entry)) ∷ length (now («out_bits» .entry)) ∷ [])) r
+        (now («out_kinds» .entry)) (now («out_kinds» .exit)) (now («out_bits» .entry)) (now («out_bits» .exit)) ⌝ }
+{
+    ffi::counted(reduce::slice_reduce(ends, values, starts, stops, code, ddof, out_kinds, out_bits))
 }
