@@ -70,14 +70,54 @@ impl Refusal {
     }
 }
 
-/// A refusal and counts, which are zero with a refusal. A yes or no is the count 1 or 0.
+/// What a reduction comes to.
+#[derive(Clone, Copy)]
+pub enum Reduction {
+    Nothing,
+    Whole(i64),
+    Fraction { mean: f64, variance: f64 },
+}
+
+impl Reduction {
+    /// Its kind byte.
+    pub fn kind(self) -> u8 {
+        match self {
+            Reduction::Nothing => 0,
+            Reduction::Whole(_) => 1,
+            Reduction::Fraction { .. } => 2,
+        }
+    }
+
+    /// Its 64 bits, of a variance without its mean.
+    pub fn bits(self) -> u64 {
+        match self {
+            Reduction::Nothing => 0,
+            Reduction::Whole(number) => number as u64,
+            Reduction::Fraction { variance, .. } => variance.to_bits(),
+        }
+    }
+
+    /// Its kind, and the bits of the whole number, the mean and the variance, 0 where it has none.
+    pub fn counts(self) -> [usize; 4] {
+        let (whole, fraction) = match self {
+            Reduction::Nothing => (0, [0.0; 2]),
+            Reduction::Whole(number) => (number, [0.0; 2]),
+            Reduction::Fraction { mean, variance } => (0, [mean, variance]),
+        };
+        let [mean, variance] = fraction.map(|float: f64| float.to_bits() as usize);
+        [self.kind().into(), whole as usize, mean, variance]
+    }
+}
+
+/// A refusal and counts, which are zero with a refusal. A yes or no is the count 1 or 0; a number
+/// or a float that is answered stands among them by its bits.
 #[derive(PartialEq, Eq)]
 pub struct Answer {
     pub refusal: Refusal,
     pub counts: Vec<usize>,
 }
 
-/// The refusal's six numbers and the counts.
+/// The refusal's six numbers and the counts, as the signed numbers of their bits.
 impl fmt::Display for Answer {
     fn fmt(&self, f: &mut fmt::Formatter<'_>) -> fmt::Result {
         let [number, values @ ..] = self.refusal.numbers();
@@ -85,6 +125,6 @@ impl fmt::Display for Answer {
         values.iter().try_for_each(|value| write!(f, " {value}"))?;
         self.counts
             .iter()
-            .try_for_each(|count| write!(f, " {count}"))
+            .try_for_each(|&count| write!(f, " {}", count as i64))
     }
 }

@@ -1,6 +1,6 @@
 //! The calls: what each takes, and what each side makes of the same arguments.
 
-use crate::answer::{Answer, Error, Refusal};
+use crate::answer::{Answer, Error, Reduction, Refusal};
 use crate::inputs::Role;
 use crate::{naive, original};
 use std::fmt;
@@ -19,13 +19,14 @@ impl Fill {
     }
 }
 
-/// An argument: a list or lent buffer, also of offsets or indexes, a mask, an i64, a used count, a
-/// fill, or a code.
+/// An argument: a list or lent buffer, also of offsets or indexes, of mask or kind bytes, or of 64
+/// bits each, an i64, a used count, a fill, or a code.
 #[derive(Clone, PartialEq, Eq)]
 pub enum Arg {
     List(Vec<i64>),
     Places(Vec<usize>),
     Bytes(Vec<u8>),
+    Bits(Vec<u64>),
     Number(i64),
     Count(usize),
     Fill(Fill),
@@ -38,6 +39,8 @@ impl Arg {
         match (self, buffer) {
             (Arg::List(list), Arg::List(held)) => Arg::List(in_front(list, held)),
             (Arg::Places(list), Arg::Places(held)) => Arg::Places(in_front(list, held)),
+            (Arg::Bytes(list), Arg::Bytes(held)) => Arg::Bytes(in_front(list, held)),
+            (Arg::Bits(list), Arg::Bits(held)) => Arg::Bits(in_front(list, held)),
             (list, _) => panic!("not what the buffer holds: {list}"),
         }
     }
@@ -67,19 +70,26 @@ taken_from! {
     &'a Arg: Places(list) => &'a [usize]: list;
     &'a mut Arg: Places(list) => &'a mut [usize]: list;
     &'a Arg: Bytes(list) => &'a [u8]: list;
+    &'a mut Arg: Bytes(list) => &'a mut [u8]: list;
+    &'a Arg: Bits(list) => &'a [u64]: list;
+    &'a mut Arg: Bits(list) => &'a mut [u64]: list;
     &'a Arg: Number(number) => i64: *number;
     &'a Arg: Count(count) => usize: *count;
     &'a Arg: Fill(fill) => Fill: *fill;
     &'a Arg: Code(code) => u8: *code;
 }
 
-/// The number, the fill's two numbers, or the list's length and its entries.
+/// The number, the fill's two numbers, or the list's length and its entries, bits as signed numbers.
 impl fmt::Display for Arg {
     fn fmt(&self, f: &mut fmt::Formatter<'_>) -> fmt::Result {
         match self {
             Arg::List(list) => write_list(f, list),
             Arg::Places(list) => write_list(f, list),
             Arg::Bytes(list) => write_list(f, list),
+            Arg::Bits(list) => {
+                let signed: Vec<i64> = list.iter().map(|&bits| bits as i64).collect();
+                write_list(f, &signed)
+            }
             Arg::Number(number) => write!(f, "{number}"),
             Arg::Count(count) => write!(f, "{count}"),
             Arg::Fill(Fill { given, value }) => write!(f, "{given} {value}"),
@@ -162,6 +172,15 @@ impl Written {
         Written {
             counts: vec![ends.len()],
             lists: vec![Arg::List(ends), Arg::Places(offsets)],
+        }
+    }
+
+    pub fn reductions(reductions: &[Reduction]) -> Self {
+        let kinds = reductions.iter().map(|reduction| reduction.kind());
+        let bits = reductions.iter().map(|reduction| reduction.bits());
+        Written {
+            counts: vec![reductions.len()],
+            lists: vec![Arg::Bytes(kinds.collect()), Arg::Bits(bits.collect())],
         }
     }
 
@@ -361,4 +380,10 @@ calls! {
     ) -> 1;
     27 merge_plan(ends: Ends, mask: Mask; out_ends: Room, out_offsets: IndexRoom) -> 1;
     28 group_ids(offsets: GroupOffsets; out_ids: IndexRoom) -> 1;
+    29 sum(ends: EndsA, values: ValuesA;) -> 1;
+    30 reduce(ends: EndsA, values: ValuesA, code: Reduction, ddof: Ddof;) -> 4;
+    43 slice_reduce(
+        ends: EndsA, values: ValuesA, starts: Starts, stops: Stops, code: Reduction, ddof: Ddof;
+        out_kinds: KindRoom, out_bits: BitRoom
+    ) -> 1;
 }

@@ -43,10 +43,16 @@ pub enum Role {
     Code,
     /// An operation of those that compare.
     Comparison,
+    /// A reduction.
+    Reduction,
+    /// What is taken off a length that a sum of squares is divided by.
+    Ddof,
     /// A buffer of which the call reads nothing.
     Room,
-    /// Such a buffer for indexes.
+    /// Such a buffer for indexes, for kinds of reductions, and for their bits.
     IndexRoom,
+    KindRoom,
+    BitRoom,
 }
 
 impl Role {
@@ -68,9 +74,24 @@ fn held(parameter: usize, entry: usize) -> i64 {
     -((parameter as i64 + 1) * 1000 + entry as i64)
 }
 
-/// As [`held`], of a buffer for indexes.
-fn held_index(parameter: usize, entry: usize) -> usize {
-    held(parameter, entry).unsigned_abs() as usize
+/// A lent buffer of no entries.
+fn no_room(role: Role) -> Arg {
+    match role {
+        Role::IndexRoom => Arg::Places(Vec::new()),
+        Role::KindRoom => Arg::Bytes(Vec::new()),
+        Role::BitRoom => Arg::Bits(Vec::new()),
+        _ => Arg::List(Vec::new()),
+    }
+}
+
+/// Lent buffers of up to `most` entries, for the parameter at `index`.
+fn rooms(index: usize, role: Role, most: usize) -> Vec<Arg> {
+    let room = |length| {
+        let mut room = no_room(role);
+        lengthen(&mut room, index, length);
+        room
+    };
+    (0..=most).map(room).collect()
 }
 
 /// Every way to take one out of each of the choices.
@@ -129,12 +150,10 @@ fn small_args(index: usize, parameter: &Parameter) -> Vec<Arg> {
         Role::GroupOffsets => lists_up_to(&[0, 1, 2, 3, usize::MAX], 4)
             .map(Arg::Places)
             .collect(),
-        Role::Room => (0..=6)
-            .map(|length| Arg::List((0..length).map(|entry| held(index, entry)).collect()))
-            .collect(),
-        Role::IndexRoom => (0..=6)
-            .map(|length| Arg::Places((0..length).map(|entry| held_index(index, entry)).collect()))
-            .collect(),
+        Role::Reduction => [0, 1, 2, 3].map(Arg::Code).to_vec(),
+        Role::Ddof => numbers(&[MIN, -1, 0, 1, 2, 3, MAX]),
+        Role::Room | Role::IndexRoom => rooms(index, parameter.role, 6),
+        Role::KindRoom | Role::BitRoom => rooms(index, parameter.role, 3),
         Role::ValuesA
         | Role::ValuesB
         | Role::Offsets
@@ -249,6 +268,38 @@ fn small_intervals() -> Vec<Vec<Arg>> {
     one.chain(pairs).collect()
 }
 
+/// Seams of document 01 whose numbers are floats.
+pub fn seams(call: &Call) -> Vec<Vec<Arg>> {
+    const MEAN: u8 = 1;
+    const VARIANCE: u8 = 2;
+    // The last number up to which all whole numbers are floats.
+    const LAST: i64 = 1 << 53;
+    const REDUCED: &[(&[i64], &[i64], u8, i64)] = &[
+        (&[1], &[LAST + 1], MEAN, 0),
+        (&[1], &[LAST + 3], MEAN, 0),
+        (&[2, 4], &[1, 3], VARIANCE, 0),
+        (&[2, 4], &[1, 3], VARIANCE, 3),
+        (&[2, 4], &[1, 3], VARIANCE, 4),
+    ];
+    let reduced = |intervals: &[Arg], rooms: &[Arg]| {
+        let args = |&(ends, values, code, ddof): &_| {
+            let column = [list(ends), list(values)];
+            let reduction = [Arg::Code(code), Arg::Number(ddof)];
+            [&column, intervals, &reduction, rooms].concat()
+        };
+        REDUCED.iter().map(args).collect()
+    };
+    match call.name {
+        "reduce" => reduced(&[], &[]),
+        // All of the sequence, and all but a position.
+        "slice_reduce" => reduced(
+            &[list(&[0, 1]), list(&[MAX, MAX])],
+            &[Arg::Bytes(vec![7; 2]), Arg::Bits(vec![7; 2])],
+        ),
+        _ => Vec::new(),
+    }
+}
+
 /// Every combination of small arguments.
 pub fn small(call: &Call) -> impl Iterator<Item = Vec<Arg>> {
     let parameters: Vec<(usize, &Parameter)> = call.parameters.iter().enumerate().collect();
@@ -294,12 +345,18 @@ impl Rng {
         choices[self.below(choices.len())]
     }
 
-    /// Any i64, most often one near 0 or a limit.
+    /// Any i64, most often one near 0 or a limit, or near or at the middle of two floats.
     fn number(&mut self) -> i64 {
         let near = self.below(7) as i64 - 3;
-        match self.below(4) {
+        match self.below(5) {
             0 => self.next() as i64,
             1 => i64::MAX.wrapping_add(near),
+            2 => {
+                // Floats from 2^53 * half on are 2 * half apart.
+                let half = 1 << self.below(10);
+                let middle = (half << 53) + half * near;
+                self.pick(&[middle, -middle]) + self.pick(&[-1, 0, 0, 1])
+            }
             _ => near,
         }
     }
@@ -332,7 +389,14 @@ impl Column {
             let spare = rng.below(3) as i64;
             runs[rng.below(count)] += i64::MAX - spare - length;
         }
-        let different = [rng.number(), rng.number(), rng.number()];
+        let one = rng.number();
+        let other = rng.number();
+        // Sums may cancel.
+        let different = [
+            one,
+            other,
+            rng.pick(&[one.wrapping_neg(), other.wrapping_add(1)]),
+        ];
         let kinds = rng.below(3) + 1;
         let values = (0..count).map(|_| rng.pick(&different[..kinds])).collect();
         Column { runs, values }
@@ -528,8 +592,16 @@ impl Column {
                 0 => rng.pick(&[10, 11, 128, 255]),
                 _ => rng.below(10) as u8,
             }),
-            Role::Room => Arg::List(Vec::new()),
-            Role::IndexRoom => Arg::Places(Vec::new()),
+            Role::Reduction => Arg::Code(match rng.below(16) {
+                0 => rng.pick(&[3, 4, 128, 255]),
+                _ => rng.below(3) as u8,
+            }),
+            Role::Ddof => Arg::Number(match rng.below(4) {
+                0 => rng.number(),
+                1 => length.wrapping_add(near),
+                _ => near,
+            }),
+            Role::Room | Role::IndexRoom | Role::KindRoom | Role::BitRoom => no_room(role),
         }
     }
 }
@@ -594,13 +666,16 @@ pub fn random(call: &Call, rng: &mut Rng) -> (Vec<Arg>, Fit) {
     let lent = (0..args.len()).filter(|&i| call.parameters[i].lent);
     let lent: Vec<usize> = lent.collect();
     lengthen_to_need(call, &lent, &mut args);
-    let fit = rng.pick(&[Fit::Exact, Fit::Spare, Fit::Short]);
+    let fit = match lent.len() {
+        0 => Fit::Exact,
+        _ => rng.pick(&[Fit::Exact, Fit::Spare, Fit::Short]),
+    };
     match fit {
+        Fit::Exact => {}
         Fit::Spare => lent
             .iter()
-            .for_each(|&index| lengthen(&mut args, index, rng.below(4))),
-        Fit::Short if !lent.is_empty() => shorten(&mut args[rng.pick(&lent)]),
-        _ => {}
+            .for_each(|&index| lengthen(&mut args[index], index, rng.below(4))),
+        Fit::Short => shorten(&mut args[rng.pick(&lent)]),
     }
     if rng.one_in(2) {
         for _ in 0..=rng.below(2) {
@@ -619,17 +694,24 @@ fn lengthen_to_need(call: &Call, lent: &[usize], args: &mut [Arg]) {
         if !refusal.is(Error::ShortBuffer) || needed > LONGEST {
             return;
         }
-        lengthen(args, lent[which as usize], (needed - given) as usize);
+        let index = lent[which as usize];
+        lengthen(&mut args[index], index, (needed - given) as usize);
     }
 }
 
-fn lengthen(args: &mut [Arg], index: usize, more: usize) {
+/// Puts so many entries behind a buffer, the one for the parameter at `index`.
+fn lengthen(arg: &mut Arg, index: usize, more: usize) {
     fn extend<T>(list: &mut Vec<T>, more: usize, held: impl Fn(usize) -> T) {
         list.extend((list.len()..list.len() + more).map(held));
     }
-    match &mut args[index] {
+    match arg {
         Arg::List(list) => extend(list, more, |entry| held(index, entry)),
-        Arg::Places(list) => extend(list, more, |entry| held_index(index, entry)),
+        // An index is not negative.
+        Arg::Places(list) => extend(list, more, |entry| {
+            held(index, entry).unsigned_abs() as usize
+        }),
+        Arg::Bytes(list) => extend(list, more, |entry| held(index, entry) as u8),
+        Arg::Bits(list) => extend(list, more, |entry| held(index, entry) as u64),
         arg => panic!("no buffer: {arg}"),
     }
 }
@@ -639,6 +721,8 @@ fn shorten(arg: &mut Arg) {
     match arg {
         Arg::List(list) => drop(list.pop()),
         Arg::Places(list) => drop(list.pop()),
+        Arg::Bytes(list) => drop(list.pop()),
+        Arg::Bits(list) => drop(list.pop()),
         arg => panic!("no buffer: {arg}"),
     }
 }
@@ -647,10 +731,9 @@ fn damage(arg: &mut Arg, rng: &mut Rng) {
     match arg {
         Arg::List(list) => damage_list(list, rng),
         Arg::Places(list) => {
-            let mut signed = list.iter().map(|&entry| entry as i64).collect();
-            damage_list(&mut signed, rng);
-            *list = signed.into_iter().map(|entry| entry as usize).collect();
+            damage_as_signed(list, |place| place as i64, |number| number as usize, rng)
         }
+        Arg::Bits(list) => damage_as_signed(list, |bits| bits as i64, |number| number as u64, rng),
         Arg::Bytes(list) => match (rng.below(3), list.len()) {
             (0, _) => drop(list.pop()),
             (1, _) | (_, 0) => list.push(rng.pick(&[0, 1, 2])),
@@ -667,6 +750,17 @@ fn damage(arg: &mut Arg, rng: &mut Rng) {
         Arg::Fill(fill) => fill.given = u64::from(fill.given == 0),
         Arg::Code(code) => *code = rng.next() as u8,
     }
+}
+
+fn damage_as_signed<T: Copy>(
+    list: &mut Vec<T>,
+    signed: fn(T) -> i64,
+    back: fn(i64) -> T,
+    rng: &mut Rng,
+) {
+    let mut numbers = list.iter().copied().map(signed).collect();
+    damage_list(&mut numbers, rng);
+    *list = numbers.into_iter().map(back).collect();
 }
 
 fn damage_list(list: &mut Vec<i64>, rng: &mut Rng) {

@@ -58,6 +58,21 @@ pub struct Batched {
     pub runs: usize,
 }
 
+#[repr(C)]
+pub struct Summed {
+    pub refusal: Refusal,
+    pub total: i64,
+}
+
+#[repr(C)]
+pub struct Reduced {
+    pub refusal: Refusal,
+    pub kind: u64,
+    pub whole: i64,
+    pub mean: f64,
+    pub variance: f64,
+}
+
 macro_rules! answers {
     ($($type:ty: |$given:ident| $refusal:expr, [$($count:expr),*];)*) => {
         $(impl From<$type> for Answer {
@@ -78,6 +93,11 @@ answers! {
     Viewed: |viewed| viewed.refusal, [viewed.first, viewed.start as usize, viewed.length as usize];
     Part: |part| Refusal::default(), [part.first, part.count];
     Batched: |batched| batched.refusal, [batched.keys, batched.runs];
+    Summed: |summed| summed.refusal, [summed.total as usize];
+    Reduced: |reduced| reduced.refusal, [
+        reduced.kind as usize, reduced.whole as usize,
+        reduced.mean.to_bits() as usize, reduced.variance.to_bits() as usize
+    ];
 }
 
 /// Declares each C function and wraps it in a safe one: a slice passes as a pointer and a length.
@@ -202,4 +222,10 @@ calls! {
         ends: &[i64], mask: &[u8], out_ends: &mut [i64], out_offsets: &mut [usize]
     ) -> Counted;
     rl_group_ids: group_ids(offsets: &[usize], out_ids: &mut [usize]) -> Counted;
+    rl_sum: sum(ends: &[i64], values: &[i64]) -> Summed;
+    rl_reduce: reduce(ends: &[i64], values: &[i64], code: u8, ddof: i64) -> Reduced;
+    rl_slice_reduce: slice_reduce(
+        ends: &[i64], values: &[i64], starts: &[i64], stops: &[i64], code: u8, ddof: i64,
+        out_kinds: &mut [u8], out_bits: &mut [u64]
+    ) -> Counted;
 }

@@ -1,7 +1,7 @@
 //! Document 01 read naively. A column is listed position by position, with a mark where a run ends,
 //! and a result is read off that list; the questions stand in document 01's order.
 
-use crate::answer::{Error, Refusal};
+use crate::answer::{Error, Reduction, Refusal};
 use crate::call::{Fill, Reading, Written};
 use std::cmp::Ordering;
 use std::collections::BTreeSet;
@@ -190,9 +190,11 @@ fn parts<'a>(offsets: &[usize], list: &'a [i64]) -> Vec<&'a [i64]> {
     offsets.windows(2).map(part).collect()
 }
 
-/// The codes of the operations, of the comparisons among them, and what a mask byte may be.
+/// The codes of the operations, of the comparisons among them, of the reductions, and what a mask
+/// byte may be.
 const OPERATIONS: RangeInclusive<u8> = 0..=9;
 const COMPARISONS: RangeInclusive<u8> = 7..=8;
+const REDUCTIONS: RangeInclusive<u8> = 0..=2;
 const FLAGS: RangeInclusive<u8> = 0..=1;
 
 /// Is the code a listed one?
@@ -288,8 +290,8 @@ fn ask_length(length: i128) -> Result<(), Refusal> {
 }
 
 /// Is each interval 0 ≤ start ≤ end?
-fn ask_intervals(intervals: &[(i64, i64)]) -> Result<(), Refusal> {
-    for (index, &(start, end)) in intervals.iter().enumerate() {
+fn ask_intervals(starts: &[i64], stops: &[i64]) -> Result<(), Refusal> {
+    for (index, (&start, &end)) in starts.iter().zip(stops).enumerate() {
         if !(0 <= start && start <= end) {
             return Err(Error::InvalidInterval.with(&[index as u64, start as u64, end as u64]));
         }
@@ -560,6 +562,14 @@ fn show_slice(ends: &[i64], values: &[i64], start: i64, end: i64) -> Vec<Shown> 
         .collect()
 }
 
+/// What the slice of each interval shows.
+fn show_slices(ends: &[i64], values: &[i64], starts: &[i64], stops: &[i64]) -> Vec<Vec<Shown>> {
+    let intervals = starts.iter().zip(stops);
+    intervals
+        .map(|(&start, &end)| show_slice(ends, values, start, end))
+        .collect()
+}
+
 /// How many runs end among these positions.
 fn seams(shown: &[Shown]) -> usize {
     shown.iter().filter(|entry| entry.seam).count()
@@ -618,14 +628,11 @@ pub fn getitems(
     ask_lengths(3, ends.len(), values.len())?;
     ask_lengths(8, starts.len(), stops.len())?;
     ask_ends(ends)?;
-    let pairs = starts.iter().copied().zip(stops.iter().copied());
-    let intervals: Vec<(i64, i64)> = pairs.collect();
-    ask_intervals(&intervals)?;
-    let slice = |&(start, end): &(i64, i64)| show_slice(ends, values, start, end);
-    let slices: Vec<Vec<Shown>> = intervals.iter().map(slice).collect();
+    ask_intervals(starts, stops)?;
+    let slices = show_slices(ends, values, starts, stops);
     let counts: Vec<usize> = slices.iter().map(|shown| seams(shown)).collect();
     let total = counts.iter().sum();
-    ask_buffer(0, intervals.len() + 1, out_offsets.len())?;
+    ask_buffer(0, starts.len() + 1, out_offsets.len())?;
     ask_buffer(1, total, out_ends.len())?;
     ask_buffer(2, total, out_values.len())?;
     let offset = |k: usize| counts[..k].iter().sum();
@@ -823,4 +830,119 @@ pub fn group_ids(offsets: &[usize], out_ids: &[usize]) -> Reading {
     let group = |run| (0..offsets.len() - 1).find(|g| holds(g, run));
     let ids = (0..runs).map(|run| group(run).expect("a group has every run"));
     Ok(Written::places(ids.collect()))
+}
+
+/// The sum of all positions, taken modulo 2^64. Exactly it is at most 2^63 times 2^63 in size.
+fn total(shown: &[Shown]) -> i64 {
+    let exact = shown
+        .iter()
+        .map(|entry| entry.positions as i128 * entry.value as i128);
+    exact.sum::<i128>() as i64
+}
+
+/// The float nearest to the number, of two equally near the one that is even: where the magnitude
+/// has more than 53 digits, the others are dropped or carried.
+fn nearest(number: i64) -> f64 {
+    let magnitude = number.unsigned_abs();
+    let dropped = (64 - 53_u32).saturating_sub(magnitude.leading_zeros());
+    let unit = 1 << dropped;
+    let (digits, rest) = (magnitude / unit, magnitude % unit);
+    let carry = match (2 * rest).cmp(&unit) {
+        Ordering::Less => 0,
+        Ordering::Equal => digits % 2,
+        Ordering::Greater => 1,
+    };
+    // Nothing is rounded here: both halves and the unit are floats, as is what comes of them.
+    let [high, low] = [(digits + carry) >> 32, (digits + carry) & 0xffff_ffff];
+    let [high, low, unit] = [high, low, unit].map(|exact| f64::from(exact as u32));
+    let float = (high * 4_294_967_296.0 + low) * unit;
+    if number < 0 { -float } else { float }
+}
+
+/// The length of each run and its value, in run order.
+fn weighted(shown: &[Shown]) -> Vec<(i64, i64)> {
+    let (ends, values) = listed_runs(shown);
+    let run = |r: usize| (ends[r] - end_before(&ends, r), values[r]);
+    (0..ends.len()).map(run).collect()
+}
+
+/// The mean of runs of this length in all, which is not 0.
+fn mean(runs: &[(i64, i64)], length: i64) -> f64 {
+    let mut sum = 0.0;
+    for &(run, value) in runs {
+        let product = nearest(run) * nearest(value);
+        sum += product;
+    }
+    sum / nearest(length)
+}
+
+/// The sum of the squares around a mean.
+fn squares(runs: &[(i64, i64)], mean: f64) -> f64 {
+    let mut sum = 0.0;
+    for &(run, value) in runs {
+        let d = nearest(value) - mean;
+        let square = d * d;
+        let product = square * nearest(run);
+        sum += product;
+    }
+    sum
+}
+
+/// A reduction by its code.
+fn reduction(shown: &[Shown], code: u8, ddof: i64) -> Reduction {
+    let runs = weighted(shown);
+    let length = runs.iter().map(|(run, _)| run).sum();
+    let divisor = i64::try_from(length as i128 - ddof as i128);
+    match (code, divisor) {
+        (0, _) => Reduction::Whole(total(shown)),
+        _ if length == 0 => Reduction::Nothing,
+        (1, _) => {
+            let mean = mean(&runs, length);
+            let variance = mean;
+            Reduction::Fraction { mean, variance }
+        }
+        (2, Ok(divisor)) if divisor > 0 => {
+            let mean = mean(&runs, length);
+            let variance = squares(&runs, mean) / nearest(divisor);
+            Reduction::Fraction { mean, variance }
+        }
+        _ => Reduction::Nothing,
+    }
+}
+
+pub fn sum(ends: &[i64], values: &[i64]) -> Reading {
+    ask_sequence(ends, values)?;
+    let total = total(&show(ends, values));
+    Ok(Written::nothing([total as usize]))
+}
+
+pub fn reduce(ends: &[i64], values: &[i64], code: u8, ddof: i64) -> Reading {
+    ask_code(code, REDUCTIONS)?;
+    ask_sequence(ends, values)?;
+    let reduction = reduction(&show(ends, values), code, ddof);
+    Ok(Written::nothing(reduction.counts()))
+}
+
+pub fn slice_reduce(
+    ends: &[i64],
+    values: &[i64],
+    starts: &[i64],
+    stops: &[i64],
+    code: u8,
+    ddof: i64,
+    out_kinds: &[u8],
+    out_bits: &[u64],
+) -> Reading {
+    ask_code(code, REDUCTIONS)?;
+    ask_lengths(3, ends.len(), values.len())?;
+    ask_lengths(8, starts.len(), stops.len())?;
+    ask_ends(ends)?;
+    ask_intervals(starts, stops)?;
+    ask_room(starts.len(), [out_kinds.len(), out_bits.len()])?;
+    let slices = show_slices(ends, values, starts, stops);
+    let reductions: Vec<Reduction> = slices
+        .iter()
+        .map(|shown| reduction(shown, code, ddof))
+        .collect();
+    Ok(Written::reductions(&reductions))
 }

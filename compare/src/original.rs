@@ -1,7 +1,7 @@
 //! The Rust original on flat lists. Its domain has no buffers and, outside the calls that only
 //! check, valid sequences alone.
 
-use crate::answer::{self, Refusal};
+use crate::answer::{self, Reduction, Refusal};
 use crate::call::{Fill, Reading, Written};
 use runlength::{Error, Keep, MergePlan, PlanMany, Result, Rle, RleLike, RleRef};
 
@@ -327,4 +327,50 @@ pub fn group_ids(offsets: &[usize]) -> InDomain {
         offsets: offsets.to_vec(),
     };
     (starts && few).then(|| Ok(Written::places(plan.group_ids())))
+}
+
+pub fn sum(ends: &[i64], values: &[i64]) -> InDomain {
+    let total = view(ends, values)?.sum();
+    Some(Ok(Written::nothing([total as usize])))
+}
+
+/// The reduction of a code. A sequence and a view of a part have no trait in common.
+macro_rules! reduction {
+    ($runs:expr, $code:expr, $ddof:expr) => {
+        match $code {
+            0 => Reduction::Whole($runs.sum()),
+            1 => fraction($runs.mean(), $runs.mean()),
+            _ => fraction($runs.mean(), $runs.variance($ddof)),
+        }
+    };
+}
+
+fn fraction(mean: Option<f64>, variance: Option<f64>) -> Reduction {
+    match (mean, variance) {
+        (Some(mean), Some(variance)) => Reduction::Fraction { mean, variance },
+        _ => Reduction::Nothing,
+    }
+}
+
+/// The number of reductions.
+const REDUCTIONS: u8 = 3;
+
+pub fn reduce(ends: &[i64], values: &[i64], code: u8, ddof: i64) -> InDomain {
+    let rle = view(ends, values)?;
+    let answer = || Ok(Written::nothing(reduction!(rle, code, ddof).counts()));
+    (code < REDUCTIONS).then(answer)
+}
+
+pub fn slice_reduce(
+    ends: &[i64],
+    values: &[i64],
+    starts: &[i64],
+    stops: &[i64],
+    code: u8,
+    ddof: i64,
+) -> InDomain {
+    let rle = view(ends, values)?;
+    let reduced = rle.slice_reduce(starts, stops, |part| reduction!(part, code, ddof));
+    let written = reduced.map(|reductions| Written::reductions(&reductions));
+    (code < REDUCTIONS).then(|| written.map_err(Refusal::from))
 }

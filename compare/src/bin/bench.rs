@@ -10,7 +10,7 @@
 //! its best time less that of from_ends on the same column in the same rounds. Where the check takes
 //! nearly all of the time, the difference is no more exact than the two times are.
 
-use compare::answer::{Answer, Refusal};
+use compare::answer::{Answer, Reduction, Refusal};
 use compare::call::Fill;
 use compare::inputs::Rng;
 use compare::library::{self, Counted};
@@ -34,12 +34,11 @@ const LONGEST: usize = 16;
 /// So many different values that neighbours hardly ever are equal.
 const DIFFERENT: usize = 1 << 40;
 
+/// All numbers but one.
+const ANY: usize = usize::MAX;
+
 /// The runs of a column that is built up by one call for each.
 const BUILT_UP: usize = 1000;
-
-/// The intervals that are taken out of a column, and their greatest length.
-const INTERVALS: usize = 100_000;
-const LONGEST_INTERVAL: usize = 1000;
 
 /// What calls that are timed at once take at least.
 const TIMED: Duration = Duration::from_micros(200);
@@ -67,6 +66,7 @@ type RunBuffers = (Vec<i64>, Vec<i64>);
 type PlanBuffers = (Vec<i64>, Vec<usize>, Vec<usize>);
 type PlacedBuffers = (Vec<i64>, Vec<usize>);
 type FlatBuffers = (Vec<usize>, Vec<i64>, Vec<i64>);
+type ReductionBuffers = (Vec<u8>, Vec<u64>);
 
 impl Reference<RunBuffers> for Rle<i64> {
     fn matches(&self, counts: &[usize], (ends, values): &RunBuffers) -> bool {
@@ -151,6 +151,52 @@ impl Reference<PlacedBuffers> for MergePlan {
         counts == [self.num_groups()]
             && ends.starts_with(&self.ends)
             && offsets.starts_with(&self.offsets)
+    }
+}
+
+impl Reference<()> for i64 {
+    fn matches(&self, counts: &[usize], (): &()) -> bool {
+        counts == [*self as usize]
+    }
+}
+
+/// What the original reduces to.
+trait Reduced: Copy {
+    /// The same as the library's. A variance stands for its mean as well.
+    fn reduction(self) -> Reduction;
+}
+
+impl Reduced for i64 {
+    fn reduction(self) -> Reduction {
+        Reduction::Whole(self)
+    }
+}
+
+impl Reduced for Option<f64> {
+    fn reduction(self) -> Reduction {
+        match self {
+            Some(float) => Reduction::Fraction {
+                mean: float,
+                variance: float,
+            },
+            None => Reduction::Nothing,
+        }
+    }
+}
+
+impl Reference<()> for Option<f64> {
+    fn matches(&self, counts: &[usize], (): &()) -> bool {
+        let [kind, whole, _, variance] = self.reduction().counts();
+        counts[..2] == [kind, whole] && counts[3..] == [variance]
+    }
+}
+
+impl<T: Reduced> Reference<ReductionBuffers> for Vec<T> {
+    fn matches(&self, counts: &[usize], (kinds, bits): &ReductionBuffers) -> bool {
+        let reductions = || self.iter().map(|answer| answer.reduction());
+        counts == [self.len()]
+            && reductions().map(Reduction::kind).eq(kinds.iter().copied())
+            && reductions().map(Reduction::bits).eq(bits.iter().copied())
     }
 }
 
@@ -294,6 +340,28 @@ fn random_column(rng: &mut Rng, count: usize, longest: usize, values: usize) -> 
         .map(|_| (rng.below(longest) as i64 + 1, rng.below(values) as i64))
         .unzip();
     Rle::from_runs(&runs, values).expect("runs above 0 are a sequence")
+}
+
+/// The column with each run so much longer.
+fn lengthened(column: &Rle<i64>, more: i64) -> Rle<i64> {
+    let runs: Vec<i64> = column.runs().iter().map(|run| run + more).collect();
+    Rle::from_runs(&runs, column.values().to_vec()).expect("the length is an i64")
+}
+
+/// Starts and stops of intervals that start in the column and are shorter than `longest`.
+fn random_intervals(
+    rng: &mut Rng,
+    column: &Rle<i64>,
+    count: usize,
+    longest: usize,
+) -> (Vec<i64>, Vec<i64>) {
+    (0..count)
+        .map(|_| {
+            let start = rng.below(column.len() as usize);
+            let stop = start + rng.below(longest);
+            (start as i64, stop as i64)
+        })
+        .unzip()
 }
 
 /// What the column shows, with most runs split in two.
@@ -695,6 +763,93 @@ fn group_ids(bench: &Bench, input: &str, plan: &MergePlan, runs: usize) {
     );
 }
 
+fn sum(bench: &Bench, input: &str, column: &Rle<i64>) {
+    bench.measure(
+        Row::new(["sum", input, "run"], column.num_runs()),
+        || (),
+        |()| {
+            let column = black_box(column);
+            library::sum(column.ends(), column.values())
+        },
+        || (),
+        |()| Ok(black_box(column).sum()),
+    );
+}
+
+/// The codes of reductions, and what is taken off the length that a variance divides by.
+const SUM: u8 = 0;
+const MEAN: u8 = 1;
+const VARIANCE: u8 = 2;
+const DDOF: i64 = 1;
+
+fn reduce(
+    bench: &Bench,
+    input: &str,
+    column: &Rle<i64>,
+    code: u8,
+    original: impl Fn(&Rle<i64>) -> Option<f64>,
+) {
+    bench.measure(
+        Row::new(["reduce", input, "run"], column.num_runs()),
+        || (),
+        |()| {
+            let column = black_box(column);
+            library::reduce(
+                column.ends(),
+                column.values(),
+                black_box(code),
+                black_box(DDOF),
+            )
+        },
+        || (),
+        |()| Ok(original(black_box(column))),
+    );
+}
+
+fn mean(bench: &Bench, input: &str, column: &Rle<i64>) {
+    let input = &format!("mean, {input}");
+    reduce(bench, input, column, MEAN, |column| column.mean());
+}
+
+fn variance(bench: &Bench, input: &str, column: &Rle<i64>) {
+    let input = &format!("variance, {input}");
+    reduce(bench, input, column, VARIANCE, |column| {
+        column.variance(black_box(DDOF))
+    });
+}
+
+fn slice_reduce<T: Reduced + Send>(
+    bench: &Bench,
+    input: &str,
+    column: &Rle<i64>,
+    (starts, stops): &(Vec<i64>, Vec<i64>),
+    code: u8,
+    original: impl Fn(SliceView<i64>) -> T + Sync,
+) {
+    let count = starts.len();
+    bench.measure(
+        Row::new(["slice_reduce", input, "interval"], count).without_check(column),
+        || (vec![7; count], vec![7; count]),
+        |(kinds, bits)| {
+            let column = black_box(column);
+            let (starts, stops) = (black_box(starts), black_box(stops));
+            let (code, ddof) = (black_box(code), black_box(DDOF));
+            library::slice_reduce(
+                column.ends(),
+                column.values(),
+                starts,
+                stops,
+                code,
+                ddof,
+                kinds,
+                bits,
+            )
+        },
+        || (),
+        |()| black_box(column).slice_reduce(black_box(starts), black_box(stops), &original),
+    );
+}
+
 fn main() -> ExitCode {
     let Some(Ok(rounds)) = env::args().nth(1).map(|word| word.parse()) else {
         eprintln!("usage: bench ROUNDS [CALL]");
@@ -795,20 +950,36 @@ fn main() -> ExitCode {
     let middle = RUNS / 2;
     let thousand = [column.ends()[middle], column.ends()[middle + 1000]];
     slice(&bench, "1M runs, 1000 in the middle", column, thousand);
-    let (starts, stops): (Vec<i64>, Vec<i64>) = (0..INTERVALS)
-        .map(|_| {
-            let start = rng.below(length as usize);
-            let stop = start + rng.below(LONGEST_INTERVAL);
-            (start as i64, stop as i64)
-        })
-        .unzip();
+    let short = random_intervals(rng, column, 100_000, 1000);
+    let (starts, stops) = &short;
     getitems(
         &bench,
         "1M runs, 100k of about 10 runs",
         column,
-        &starts,
-        &stops,
+        starts,
+        stops,
     );
+    let long = random_intervals(rng, column, 1000, 100_000);
+    for (input, intervals) in [
+        ("100k of about 10 runs", &short),
+        ("1000 of about 1000 runs", &long),
+    ] {
+        let input = |reduction| format!("{reduction}, {input}");
+        slice_reduce(&bench, &input("sum"), column, intervals, SUM, |part| {
+            part.sum()
+        });
+        slice_reduce(&bench, &input("mean"), column, intervals, MEAN, |part| {
+            part.mean()
+        });
+        slice_reduce(
+            &bench,
+            &input("variance"),
+            column,
+            intervals,
+            VARIANCE,
+            |part| part.variance(black_box(DDOF)),
+        );
+    }
     shift(&bench, "1M runs, a third up", column, length / 3);
     shift(&bench, "1M runs, a third down", column, -length / 3);
     shift(&bench, "1M runs, by 0", column, 0);
@@ -868,6 +1039,28 @@ fn main() -> ExitCode {
         Rle::clone,
         merge,
     );
+
+    for (input, count) in [
+        ("1M runs, 1000 values", RUNS),
+        ("100k runs, 1000 values", 100 * BUILT_UP),
+        ("1000 runs, 1000 values", BUILT_UP),
+    ] {
+        let column = &random_column(rng, count, 99, 1000);
+        sum(&bench, input, column);
+        mean(&bench, input, column);
+        variance(&bench, input, column);
+    }
+    let column = &random_column(rng, RUNS, 99, ANY);
+    mean(&bench, "1M runs, 2^64 values", column);
+    variance(&bench, "1M runs, 2^64 values", column);
+    for (input, values) in [
+        ("1000 long runs, 1000 values", 1000),
+        ("1000 long runs, 2^64 values", ANY),
+    ] {
+        // Above 2^53 not every number is a float.
+        let column = lengthened(&random_column(rng, BUILT_UP, 1 << 47, values), 1 << 53);
+        mean(&bench, input, &column);
+    }
     if !bench.timed.get() {
         eprintln!("bench: no call has that name");
         return ExitCode::from(2);

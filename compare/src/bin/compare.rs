@@ -79,7 +79,8 @@ fn main() -> ExitCode {
     };
     let mut comparison = Comparison::default();
     for call in CALLS {
-        inputs::small(call).for_each(|args| comparison.compare(call, args));
+        let inputs = inputs::seams(call).into_iter().chain(inputs::small(call));
+        inputs.for_each(|args| comparison.compare(call, args));
     }
     let mut rng = Rng::new(*seed);
     let end = Instant::now() + Duration::from_secs(*seconds);

@@ -3,7 +3,8 @@
 //! A line for each case: the call's number, its arguments, the refusal's six numbers, the counts
 //! and each lent buffer after the call. A list, mask or buffer is its length and its entries; a fill
 //! is whether it is given, 0 if not, and its value. The answers are the original's in its domain,
-//! and document 01's elsewhere. Both are compared on these cases and on every small input.
+//! and document 01's elsewhere. Both are compared on these cases and on every small input. Seams of
+//! document 01 come first.
 
 use compare::answer::Error;
 use compare::call::{Arg, CALLS, Call, Outcome};
@@ -13,7 +14,7 @@ use std::env;
 use std::process::ExitCode;
 
 /// Lines for each call. With their length they keep the sample below 60 KiB.
-const LINES: usize = 22;
+const LINES: usize = 20;
 const LONGEST_LINE: usize = 160;
 const LONGEST_LIST: usize = 16;
 
@@ -41,6 +42,7 @@ fn is_plain(args: &[Arg], outcome: &Outcome) -> bool {
         Arg::List(list) => list.len() <= LONGEST_LIST,
         Arg::Places(list) => list.len() <= LONGEST_LIST && list.iter().all(|&place| plain(place)),
         Arg::Bytes(list) => list.len() <= LONGEST_LIST,
+        Arg::Bits(list) => list.len() <= LONGEST_LIST,
         Arg::Number(_) | Arg::Code(_) => true,
         Arg::Count(count) => plain(*count),
         Arg::Fill(fill) => i64::try_from(fill.given).is_ok(),
@@ -58,15 +60,28 @@ fn agreed(call: &Call, args: &[Arg]) -> Outcome {
     naive
 }
 
-/// The lines of a call, as evenly out of all classes as these last.
+fn line(call: &Call, args: &[Arg], outcome: &Outcome) -> String {
+    let words: Vec<String> = args.iter().map(Arg::to_string).collect();
+    format!("{} {} {outcome}", call.number, words.join(" "))
+}
+
+/// The lines of a call's seams.
+fn seams(call: &Call) -> Vec<String> {
+    let seams = inputs::seams(call);
+    seams
+        .iter()
+        .map(|args| line(call, args, &agreed(call, args)))
+        .collect()
+}
+
+/// The random lines of a call, as evenly out of all classes as these last.
 fn lines(call: &Call, rng: &mut Rng) -> Vec<String> {
     let mut classes: BTreeMap<Class, Vec<String>> = BTreeMap::new();
     let mut seen = BTreeSet::new();
     for _ in 0..CASES {
         let (args, fit) = inputs::random(call, rng);
         let outcome = agreed(call, &args);
-        let words: Vec<String> = args.iter().map(Arg::to_string).collect();
-        let line = format!("{} {} {outcome}", call.number, words.join(" "));
+        let line = line(call, &args, &outcome);
         if line.len() < LONGEST_LINE && is_plain(&args, &outcome) && seen.insert(line.clone()) {
             classes.entry(class(&outcome, fit)).or_default().push(line);
         }
@@ -83,7 +98,7 @@ fn main() -> ExitCode {
     let mut rng = Rng::new(seed);
     for call in CALLS.iter().filter(|call| call.takes_arguments()) {
         inputs::small(call).for_each(|args| drop(agreed(call, &args)));
-        for line in lines(call, &mut rng) {
+        for line in seams(call).into_iter().chain(lines(call, &mut rng)) {
             println!("{line}");
         }
     }
