@@ -1,4 +1,5 @@
-// The calls on a row's arguments. What they answer is in numbers: the refusal's six and three counts, 0 where there are fewer.
+// The calls on a row's arguments. What they answer is in numbers: the refusal's six and four counts, 0 where there are fewer. A float
+// counts by its bits.
 use crate::row;
 use crate::shape::Places;
 use column::sequence;
@@ -8,7 +9,7 @@ use ffi::RlFill;
 use ffi::RlPlannedMany;
 use ffi::RlRefusal;
 
-fn numbers_of(refusal: RlRefusal, first: u64, second: u64, third: u64) -> [i64; 9] {
+fn numbers_of(refusal: RlRefusal, first: u64, second: u64, third: u64, fourth: u64) -> [i64; 10] {
     [
         num::as_signed(refusal.number),
         num::as_signed(refusal.first),
@@ -19,11 +20,12 @@ fn numbers_of(refusal: RlRefusal, first: u64, second: u64, third: u64) -> [i64; 
         num::as_signed(first),
         num::as_signed(second),
         num::as_signed(third),
+        num::as_signed(fourth),
     ]
 }
 
-fn counted(answer: RlCounted) -> [i64; 9] {
-    numbers_of(answer.refusal, answer.count as u64, 0, 0)
+fn counted(answer: RlCounted) -> [i64; 10] {
+    numbers_of(answer.refusal, answer.count as u64, 0, 0, 0)
 }
 
 // One of the lists among the arguments, of which no call has more than four.
@@ -33,7 +35,7 @@ fn listed(row: &[i64], index: usize) -> &[i64] {
 
 fn fill_at(numbers: &[i64], at: usize) -> RlFill {
     RlFill {
-        given: num::as_unsigned(row::entry(numbers, at)),
+        given: row::bits(numbers, at),
         value: row::entry(numbers, num::saturating_add(at, 1)),
     }
 }
@@ -167,6 +169,44 @@ fn group_ids(offsets: &[i64], out_ids: &mut [i64]) -> RlCounted {
     answer
 }
 
+fn reduce(ends: &[i64], values: &[i64], code: u8, ddof: i64) -> [i64; 10] {
+    let reduced = runlength::rl_reduce(ends, values, code, ddof);
+    let mean = f64::to_bits(reduced.mean);
+    let variance = f64::to_bits(reduced.variance);
+    let whole = num::as_unsigned(reduced.whole);
+    numbers_of(reduced.refusal, reduced.kind, whole, mean, variance)
+}
+
+// slice_reduce, its kinds and bits as numbers of a row.
+fn slice_reduce(
+    ends: &[i64],
+    values: &[i64],
+    starts: &[i64],
+    stops: &[i64],
+    code: u8,
+    ddof: i64,
+    out_kinds: &mut [i64],
+    out_bits: &mut [i64],
+) -> RlCounted {
+    let mut kinds = [0u8; row::LONGEST];
+    let mut bits = [0u64; row::LONGEST];
+    let n = row::fill_bytes(out_kinds, &mut kinds);
+    let m = row::fill_bits(out_bits, &mut bits);
+    let answer = runlength::rl_slice_reduce(
+        ends,
+        values,
+        starts,
+        stops,
+        code,
+        ddof,
+        &mut kinds[..n],
+        &mut bits[..m],
+    );
+    row::put_bytes(&kinds, out_kinds);
+    row::put_bits(&bits, out_bits);
+    answer
+}
+
 // The calls of ops.rs, and zip_many.
 fn combined(
     row: &[i64],
@@ -198,7 +238,7 @@ fn sliced(
     first: &mut [i64],
     second: &mut [i64],
     third: &mut [i64],
-) -> [i64; 9] {
+) -> [i64; 10] {
     let a = listed(row, 0);
     let b = listed(row, 1);
     let numbers = sequence::part(row, places.numbers, places.lent);
@@ -207,7 +247,7 @@ fn sliced(
     match call {
         15 => {
             let found = runlength::rl_run_index(a, x);
-            numbers_of(found.refusal, found.found, found.index as u64, 0)
+            numbers_of(found.refusal, found.found, found.index as u64, 0, 0)
         }
         16 => counted(runlength::rl_slice(a, b, x, y, first, second)),
         17 => {
@@ -217,18 +257,25 @@ fn sliced(
                 viewed.first as u64,
                 num::as_unsigned(viewed.start),
                 num::as_unsigned(viewed.length),
+                0,
             )
         }
         18 => {
             let part = runlength::rl_slice_view_values(a, b, x, y);
             let start = num::as_signed(part.first as u64);
             let count = num::as_signed(part.count as u64);
-            [0, 0, 0, 0, 0, 0, start, count, 0]
+            [0, 0, 0, 0, 0, 0, start, count, 0, 0]
         }
         _ => {
             let c = listed(row, 2);
             let batched = getitems(a, b, c, listed(row, 3), first, second, third);
-            numbers_of(batched.refusal, batched.keys as u64, batched.runs as u64, 0)
+            numbers_of(
+                batched.refusal,
+                batched.keys as u64,
+                batched.runs as u64,
+                0,
+                0,
+            )
         }
     }
 }
@@ -268,6 +315,32 @@ fn merged(row: &[i64], call: usize, code: u8, first: &mut [i64], second: &mut [i
     }
 }
 
+// The calls of reduce.rs.
+fn reduced(
+    row: &[i64],
+    call: usize,
+    places: Places,
+    first: &mut [i64],
+    second: &mut [i64],
+) -> [i64; 10] {
+    let a = listed(row, 0);
+    let b = listed(row, 1);
+    let code = row::code(row, places.code);
+    let ddof = row::entry(sequence::part(row, places.numbers, places.lent), 1);
+    match call {
+        29 => {
+            let summed = runlength::rl_sum(a, b);
+            numbers_of(summed.refusal, num::as_unsigned(summed.total), 0, 0, 0)
+        }
+        30 => reduce(a, b, code, ddof),
+        _ => {
+            let c = listed(row, 2);
+            let d = listed(row, 3);
+            counted(slice_reduce(a, b, c, d, code, ddof, first, second))
+        }
+    }
+}
+
 // The calls of rle.rs, plan.rs and many.rs.
 fn built(
     row: &[i64],
@@ -276,7 +349,7 @@ fn built(
     first: &mut [i64],
     second: &mut [i64],
     third: &mut [i64],
-) -> [i64; 9] {
+) -> [i64; 10] {
     let a = listed(row, 0);
     let b = listed(row, 1);
     let c = listed(row, 2);
@@ -287,7 +360,7 @@ fn built(
     let y = row::entry(behind, 2);
     match call {
         2 => counted(runlength::rl_from_runs(a, b, first, second)),
-        3 => numbers_of(runlength::rl_from_ends(a, b), 0, 0, 0),
+        3 => numbers_of(runlength::rl_from_ends(a, b), 0, 0, 0, 0),
         4 => counted(runlength::rl_repeat(
             row::entry(numbers, 0),
             row::entry(numbers, 1),
@@ -300,7 +373,7 @@ fn built(
         8 => counted(runlength::rl_to_dense(a, b, first)),
         9 => {
             let compared = runlength::rl_equals(a, b, c, listed(row, 3));
-            numbers_of(compared.refusal, compared.equal, 0, 0)
+            numbers_of(compared.refusal, compared.equal, 0, 0, 0)
         }
         10 => counted(plan(a, b, first, second, third)),
         _ => {
@@ -309,6 +382,7 @@ fn built(
                 planned.refusal,
                 planned.segments as u64,
                 planned.indexes as u64,
+                0,
                 0,
             )
         }
@@ -322,7 +396,7 @@ pub fn answer(
     first: &mut [i64],
     second: &mut [i64],
     third: &mut [i64],
-) -> [i64; 9] {
+) -> [i64; 10] {
     match call {
         11 | 12 | 14 => counted(combined(row, call, places, first, second)),
         15..=18 | 42 => sliced(row, call, places, first, second, third),
@@ -331,6 +405,7 @@ pub fn answer(
             let code = row::code(row, places.code);
             counted(merged(row, call, code, first, second))
         }
+        29..=30 | 43 => reduced(row, call, places, first, second),
         _ => built(row, call, places, first, second, third),
     }
 }

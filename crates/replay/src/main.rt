@@ -9,7 +9,7 @@ use libc::STDIN_FILENO;
 use libc::STDOUT_FILENO;
 
 // One more than the last call's number.
-const CALLS: usize = 43;
+const CALLS: usize = 44;
 
 // The most numbers that are read of a line, more than any case has.
 const NUMBERS: usize = 128;
@@ -103,6 +103,13 @@ fn report_merge(cases: &[u64; CALLS], agreed: &[u64; CALLS]) {
     report(b"group_ids ", cases[28], agreed[28]);
 }
 
+// The calls of reduce.rs.
+fn report_reduce(cases: &[u64; CALLS], agreed: &[u64; CALLS]) {
+    report(b"sum ", cases[29], agreed[29]);
+    report(b"reduce ", cases[30], agreed[30]);
+    report(b"slice_reduce ", cases[43], agreed[43]);
+}
+
 fn main() {
     let mut buffer = io::large_buffer();
     let n = io::read_full(STDIN_FILENO, &mut buffer);
@@ -114,6 +121,7 @@ fn main() {
     report_slice(&cases, &agreed);
     report_transform(&cases, &agreed);
     report_merge(&cases, &agreed);
+    report_reduce(&cases, &agreed);
     if cases[0] > 0 {
         io::write_all(STDOUT_FILENO, b"unknown ");
         write_count(cases[0], b" cases\n");

@@ -10,20 +10,25 @@ pub fn entry(row: &[i64], at: usize) -> i64 {
     sequence::entry_or(row, at, -1)
 }
 
+// The bits of a number.
+pub fn bits(row: &[i64], at: usize) -> u64 {
+    num::as_unsigned(entry(row, at))
+}
+
 // A number as a size or a place, by its bits.
 pub fn size(row: &[i64], at: usize) -> usize {
-    num::as_unsigned(entry(row, at)) as usize
+    bits(row, at) as usize
 }
 
 // A number as a code; 255, which no call knows, for any that is no byte.
 pub fn code(row: &[i64], at: usize) -> u8 {
-    let n = num::as_unsigned(entry(row, at));
+    let n = bits(row, at);
     if n < 256 { n as u8 } else { 255 }
 }
 
 // The place behind numbers among which there is a code. It is past the row if the code is no byte.
 pub fn coded_end(row: &[i64], code: usize, end: usize) -> usize {
-    if num::as_unsigned(entry(row, code)) < 256 {
+    if bits(row, code) < 256 {
         end
     } else {
         usize::MAX
@@ -32,7 +37,7 @@ pub fn coded_end(row: &[i64], code: usize, end: usize) -> usize {
 
 // The place behind a list, which starts with its length. It is past the row if the list runs past it or is too long.
 fn list_end(row: &[i64], at: usize) -> usize {
-    let n = num::as_unsigned(entry(row, at));
+    let n = bits(row, at);
     if n > LONGEST as u64 {
         usize::MAX
     } else {
@@ -87,7 +92,7 @@ pub fn fill_places(list: &[i64], buffer: &mut [usize]) -> usize
     n
 }
 
-// As `fill`, for the bytes of a mask.
+// As `fill`, for bytes.
 pub fn fill_bytes(list: &[i64], buffer: &mut [u8]) -> usize
     ensures { λ r. ⌜ Counts r (now (buffer .exit)) ⌝ }
 {
@@ -100,12 +105,49 @@ pub fn fill_bytes(list: &[i64], buffer: &mut [u8]) -> usize
     n
 }
 
+// As `fill`, for a buffer of bits.
+pub fn fill_bits(list: &[i64], buffer: &mut [u64]) -> usize
+    ensures { λ r. ⌜ Counts r (now (buffer .exit)) ⌝ }
+{
+    let n = num::smaller_count(list.len(), buffer.len());
+    let mut i = 0;
+    while i < n {
+        buffer[i] = bits(list, i);
+        i += 1;
+    }
+    n
+}
+
 // Fills a list with the front of a buffer of indexes.
 pub fn put_places(places: &[usize; LONGEST], list: &mut [i64]) {
     let n = num::smaller_count(list.len(), LONGEST);
     let mut i = 0;
     while i < n {
         list[i] = num::as_signed(places[i] as u64);
+        i += 1;
+    }
+}
+
+fn number(byte: u8) -> i64 {
+    byte as i64
+}
+
+// As `put_places`, for a buffer of bytes.
+pub fn put_bytes(bytes: &[u8; LONGEST], list: &mut [i64]) {
+    let n = num::smaller_count(list.len(), LONGEST);
+    let mut i = 0;
+    while i < n {
+        list[i] = number(bytes[i]);
+        i += 1;
+    }
+}
+
+// As `put_places`, for a buffer of bits.
+pub fn put_bits(bits: &[u64; LONGEST], list: &mut [i64]) {
+    let n = num::smaller_count(list.len(), LONGEST);
+    let mut i = 0;
+    while i < n {
+        list[i] = num::as_signed(bits[i]);
         i += 1;
     }
 }

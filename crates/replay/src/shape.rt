@@ -5,19 +5,13 @@ ghost use Prim.Native.Nat.{_<_};
 
 // The call of a number, or 0 for none.
 pub fn known(number: i64) -> usize
-    ensures { λ r. ⌜ r < 43 ⌝ }
+    ensures { λ r. ⌜ r < 44 ⌝ }
 {
     let call = num::as_unsigned(number);
-    if call == 42 {
-        return 42;
+    match call {
+        2..=30 | 42..=43 => call as usize,
+        _ => 0,
     }
-    if call < 2 {
-        return 0;
-    }
-    if call > 28 {
-        return 0;
-    }
-    call as usize
 }
 
 // The place of a code among the numbers of a call that has none.
@@ -81,7 +75,10 @@ fn shape_of(call: usize) -> Shape {
         26 => shaped(2, 1, 0, 2, 0, 1),
         27 => shaped(2, 0, NO_CODE, 2, 0, 1),
         28 => shaped(1, 0, NO_CODE, 1, 0, 1),
-        _ => shaped(4, 0, NO_CODE, 3, 0, 2),
+        29 => shaped(2, 0, NO_CODE, 0, 0, 1),
+        30 => shaped(2, 2, 0, 0, 0, 4),
+        42 => shaped(4, 0, NO_CODE, 3, 0, 2),
+        _ => shaped(4, 2, 0, 2, 0, 1),
     }
 }
 
