@@ -31,6 +31,12 @@ pub rising : (es : List ℤ) → endsValid es ≡ none → RisingEnds 0 es
 unfolding endsValid
 rising es h = from-check 0 0 es h
 
+-- and back: ends that rise are answered "yes"
+pub rising-yes : (i p : ℕ) (es : List ℤ) → RisingEnds p es → endsFrom i (pos p) es ≡ none
+unfolding endsFrom
+rising-yes i p [] r = refl
+rising-yes i p (e ∷ es) r = rw (r .0, lt-ltb p (magnitude e) (r .1), rising-yes (suc i) (magnitude e) es (r .2))
+
 natural-from : (p : ℕ) (es : List ℤ) (i : ℕ) → RisingEnds p es → i < length es → getD es i (pos 0) ≡ pos (magnitude (getD es i (pos 0)))
 natural-from p [] i r h = let z : ⊥ = omega arith in absurd z
 natural-from p (e ∷ es) zero r h = r .0
@@ -40,7 +46,7 @@ natural-from p (e ∷ es) (suc i) r h = natural-from (magnitude e) es i (r .2) (
 pub natural-end : (es : List ℤ) (i : ℕ) → endsValid es ≡ none → i < length es → getD es i (pos 0) ≡ pos (magnitude (getD es i (pos 0)))
 natural-end es i h l = natural-from 0 es i (rising es h) l
 
--- and back: the ends of runs that rise are valid
+-- the ends of runs that rise are valid
 ends-yes : (i p : ℕ) (rs : Runs) → Rising p rs → endsFrom i (pos p) (endsOf rs) ≡ none
 unfolding endsFrom endsOf
 ends-yes i p [] v = refl

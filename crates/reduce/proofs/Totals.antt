@@ -16,11 +16,11 @@ use Rattle.column.specs.Asking.{Question, refusal}
 use Rattle.column.specs.Questions.{endsFrom}
 use Rattle.column.specs.Runs.{magnitude, runsOf, lastFrom}
 use Rattle.column.specs.Writing.{RisingEnds}
-use Rattle.column.proofs.Ends.{from-check}
+use Rattle.column.proofs.Ends.{from-check, rising-yes}
 use Rattle.slice.specs.declared.search.TouchedRuns.{TouchedRuns}
 use Rattle.reduce.specs.Reduce.{foldRuns}
 use Rattle.reduce.specs.Workers.{Walked, Window, bodyOf, windowEnds, windowValues, Totalled}
-use Rattle.reduce.proofs.Walking.{rising-front, rising-yes, rising-no}
+use Rattle.reduce.proofs.Walking.{rising-front, rising-no}
 
 -- as the code takes it out of the sequence
 pub body-is : (t : TouchedRuns) (xs : List ℤ) → take (t .first + (t .count - 1) - t .first) (drop (t .first) xs) ≡ bodyOf t xs

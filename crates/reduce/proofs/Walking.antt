@@ -2,7 +2,6 @@
 -- Assumes nothing.
 use Prim.Native.Nat.{ℕ, zero, suc, _+_, _-_, _≤_, _<_, _^_}
 use mathlib.Core.Bool.{true, false}
-use mathlib.Core.Option.{none}
 use mathlib.Core.List.{List, [], _∷_, _++_}
 use mathlib.Core.Path.{_≡_, refl, ap, ap₂, sym, _∙_}
 use native.Mathlib.Numerals.{add-one}
@@ -89,12 +88,6 @@ module _ {end : ℤ} (n : end ≡ pos (magnitude end)) (e : ℤ) (g : ltZ end e 
   run-small f = rw (← run-held f, toZ-ofZ (run-fits f)) (run-fits f)
 
 -- ---- question 4 of them
-
-pub rising-yes : (i p : ℕ) (es : List ℤ) → RisingEnds p es → endsFrom i (pos p) es ≡ none
-unfolding endsFrom
-rising-yes i p [] r = refl
-rising-yes i p (pos e ∷ es) r = rw (lt-ltb p e (r .1), rising-yes (suc i) e es (r .2))
-rising-yes i p (negsuc e ∷ es) r = absurd (let z : _≡_ {A = ℕ} 0 1 = cc in omega arith)
 
 -- the first k rise, and the next does not
 pub rising-no : (i p : ℕ) (es : List ℤ) (k : ℕ) → RisingEnds p (take k es) → k < length es → ltZ (lastFrom (pos p) (take k es)) (getD es k (pos 0)) ≡ false

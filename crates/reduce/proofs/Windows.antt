@@ -19,7 +19,7 @@ use Rattle.num.proofs.Tests.{by-test}
 use Rattle.column.specs.Questions.{endsFrom, endsValid}
 use Rattle.column.specs.Runs.{Runs, magnitude, runsOf, lastEnd, lengthOf, lastFrom, lengthOfEnds}
 use Rattle.column.specs.Writing.{RisingEnds}
-use Rattle.column.proofs.Ends.{rising, length-of-ends}
+use Rattle.column.proofs.Ends.{rising, rising-yes, length-of-ends}
 use Rattle.column.proofs.Rising.{Rising}
 use Rattle.column.proofs.Sequences.{length-none}
 use Rattle.slice.specs.declared.search.TouchedRuns.{TouchedRuns}
@@ -29,7 +29,6 @@ use Rattle.slice.proofs.Difference.{difference-fits}
 use Rattle.slice.proofs.Touching.{count-inside, rising-lower}
 use Rattle.reduce.specs.Reduce.{foldRuns}
 use Rattle.reduce.specs.Workers.{Window, wholeOf, windowEnds, windowValues, windowRuns, countedFrom}
-use Rattle.reduce.proofs.Walking.{rising-yes}
 
 -- ---- the touched runs are a window
 

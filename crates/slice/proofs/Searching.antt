@@ -11,13 +11,13 @@ use lib.Signed.{leZ, ltZ}
 use lib.ListN.{length, getD, take}
 use lib.Seq.{length-take-le}
 use lib.Dec.{eqb, ltb}
-use borrow.Author.Tests.{leb-true, leb-false, le-leb, le-ltb, lt-ltb, ltb-true, ltb-false}
+use borrow.Author.Tests.{leb-true, leb-false, le-leb, le-ltb, ltb-true, ltb-false}
 use Rattle.num.proofs.Tests.{by-test}
-use Rattle.column.specs.Questions.{endsFrom, endsValid}
+use Rattle.column.specs.Questions.{endsValid}
 use Rattle.column.specs.Runs.{magnitude}
 use Rattle.column.specs.Writing.{RisingEnds}
 use Rattle.column.proofs.Appending.{rising-at}
-use Rattle.column.proofs.Ends.{rising}
+use Rattle.column.proofs.Ends.{rising, rising-yes}
 use Rattle.column.proofs.Naturals.{lt-le, le-lt}
 use mir.Syntax.{w64}
 use mir.Val.{toZ, ofZ, SFits}
@@ -68,11 +68,6 @@ module _ (p : ℤ) (es : List ℤ) (i : ℕ) (h : i < length es) where
   least-least k = where-least (λ e. leZ p e) es i h (lt-le (getD es i (pos 0)) p k)
 
 -- ---- valid ends
-
-rising-yes : (i p : ℕ) (es : List ℤ) → RisingEnds p es → endsFrom i (pos p) es ≡ none
-unfolding endsFrom
-rising-yes i p [] r = refl
-rising-yes i p (e ∷ es) r = rw (r .0, lt-ltb p (magnitude e) (r .1), rising-yes (suc i) (magnitude e) es (r .2))
 
 pub rising-valid : (es : List ℤ) → RisingEnds 0 es → endsValid es ≡ none
 unfolding endsValid
