@@ -3,15 +3,15 @@
 -- Assumes nothing.
 use mathlib.Core.Path.{_≡_, sym, ap, _∙_, subst}
 use mathlib.Core.Logic.{inl, inr}
-use mathlib.Core.Bool.{Bool, not}
+use mathlib.Core.Bool.{Bool}
 use Prim.Native.Nat.{ℕ, suc, _+_, _-_, _*_, _/_, _%_, _^_, _≤_, _<_, zero-le, compare}
 use native.Mathlib.Nat.{le-add-left, le-of-lt, zero-mul, add-mul, mul-one, mul-le-mul-left, mul-lt-mul-of-pos-right, le-trans, le-of-eq, lt-of-le-of-lt, eq-or-lt-of-le, mul-comm, mul-assoc, mul-right-comm, mul-le-mul-right, mul-pos, le-of-mul-le-mul-right, lt-of-mul-lt-mul-right, div-le-of-le-mul, div-div-eq-div-mul, pow-succ', le-div-iff-mul-le, one-mul, add-zero, sub-add-cancel, lt-of-not-le}
 use native.Mathlib.Omega.{arith}
 use native.Mathlib.Decide.{decLe}
 use lib.Arith.{digits-div, digits-mod}
 use lib.Pow.{pow-add, pow-pos, pow-mono, pow-lt}
-use lib.Dec.{T, lit≤}
-use lib.Ieee.{Float, nan, inf, fin, isNan, Format, binary32, binary64, prec, emax, low, up, down, size, nearest, units, round}
+use lib.Dec.{lit≤}
+use lib.Ieee.{Float, nan, inf, fin, Format, binary32, binary64, prec, emax, low, up, down, size, nearest, units, round}
 use lib.Ieee.Digits.{size-le, size-reaches}
 use lib.Ieee.Fits.{kept-lt, nearest-le, round-is, two, two-le-pos}
 use lib.Ieee.Exact.{HasValue, units-val}
@@ -109,13 +109,6 @@ within-of-value (fin t m e) s a l j L h v =
     le-of-mul-le-mul-right
     (le-trans (le-of-eq (v .1)) (le-trans (mul-le-mul-right (down e) h) (le-of-eq (mul-right-comm (2 ^ j) l (down e)))))
     L
-
-pub within-no-nan : (j : ℕ) (x : Float) → Within j x → T (not (isNan x))
-unfolding isNan
-within-no-nan j (fin s m e) h = tt
-
-pub within-mono : (i j : ℕ) (x : Float) → i ≤ j → Within i x → Within j x
-within-mono i j (fin s m e) l h = le-trans h (mul-le-mul-right (down e) (pow-mono l))
 
 digits-fit : (f : Format) (j : ℕ) → prec f ≤ j + low f
 digits-fit binary32 j = le-trans (lit≤ tt) (le-add-left 149 j)

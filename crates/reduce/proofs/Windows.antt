@@ -21,7 +21,6 @@ use Rattle.column.specs.Runs.{Runs, magnitude, runsOf, lastEnd, lengthOf, lastF
 use Rattle.column.specs.Writing.{RisingEnds}
 use Rattle.column.proofs.Ends.{rising, rising-yes, length-of-ends}
 use Rattle.column.proofs.Rising.{Rising}
-use Rattle.column.proofs.Sequences.{length-none}
 use Rattle.slice.specs.declared.search.TouchedRuns.{TouchedRuns}
 use Rattle.slice.specs.Search.{firstWhere, firstEndAbove, firstEndAtLeast, touchedBy}
 use Rattle.slice.specs.Slice.{cut, sliceRuns}
@@ -43,10 +42,9 @@ window-of start end es vs v l f =
       paired = l;
       inside = count-inside es v x y h (omega arith);
       natural = refl;
-      empty = λ e. let z : ⊥ = omega arith in absurd z;
       fitting = difference-fits {a = y} {b = x} refl refl (omega arith) (rw t at f);
     }))
-    (λ t. rw t (record { paired = l; inside = omega arith; natural = refl; empty = λ e. refl; fitting = record { sfits = omega arith } }))
+    (λ t. rw t (record { paired = l; inside = omega arith; natural = refl; fitting = record { sfits = omega arith } }))
 
 -- ---- its ends rise
 
@@ -150,7 +148,6 @@ whole-window es vs l f = record {
   paired = l;
   inside = omega arith;
   natural = refl;
-  empty = length-none es;
   fitting = rw (+ℤ-idr (lengthOfEnds es)) f;
 }
 

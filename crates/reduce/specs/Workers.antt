@@ -115,7 +115,6 @@ pub record Window (t : TouchedRuns) (es vs : List ℤ) : Type 0 where
   pub paired : length es ≡ length vs
   pub inside : t .first + t .count ≤ length es
   pub natural : t .start ≡ pos (magnitude (t .start))
-  pub empty : t .count ≡ 0 → t .end ≡ t .start
   pub fitting : SFits w64 (t .end -ℤ t .start)
 
 -- what the steps over the runs of a window come to, where their ends rise

@@ -237,7 +237,7 @@ fn products(ends: &[i64], values: &[i64], start: i64) -> ProductSum
 }
 
 // The products of the runs of a window.
-pub fn product_window(ends: &[i64], values: &[i64], window: TouchedRuns) -> ProductSum
+fn product_window(ends: &[i64], values: &[i64], window: TouchedRuns) -> ProductSum
     requires { ⌜ Window window (now ends) (now values) ⌝ }
     ensures { λ r. ⌜ ProductsOf window (now (ends .entry)) (now (values .entry)) (r .runs) (r .total) (r .exact) ⌝ }
 {
@@ -332,13 +332,7 @@ fn squares(ends: &[i64], values: &[i64], start: i64, mean: f64, exact: usize) ->
 }
 
 // The squares of the runs of a window.
-pub fn square_window(
-    ends: &[i64],
-    values: &[i64],
-    window: TouchedRuns,
-    mean: f64,
-    exact: usize,
-) -> f64
+fn square_window(ends: &[i64], values: &[i64], window: TouchedRuns, mean: f64, exact: usize) -> f64
     requires { ⌜ Squarable window (now ends) (now values) mean exact ⌝ }
     ensures { λ r. ⌜ SquaresOf mean window (now (ends .entry)) (now (values .entry)) r ⌝ }
 {
