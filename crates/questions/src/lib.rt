@@ -1,4 +1,4 @@
-// The questions of document 01, each answered for any arguments, and the first "no" of two.
+// The questions of document 01, each answered for any arguments, and the first "no" of two. Question 8, of keys, is in crate keys.
 use column::answer::Asked;
 use column::answer::Fill;
 use column::error::Error;
@@ -10,14 +10,12 @@ ghost use Prim.Native.Nat.{_+_};
 ghost use mathlib.Core.Bool.{true, _&&_};
 ghost use mathlib.Core.List.{[], _∷_};
 ghost use mathlib.Core.Path.{_≡_};
-ghost use lib.Dec.{eqb};
 ghost use lib.ListN.{drop};
 ghost use lib.Signed.{ltZ};
 ghost use Rattle.column.specs.Asking.{shownAsked, refusal, firstNo, inKey};
 ghost use Rattle.column.specs.Flat.{flat, flatAsked};
-ghost use Rattle.column.specs.Lists.{any};
 ghost use Rattle.column.specs.Paper.{numberOf, shownBy};
-ghost use Rattle.column.specs.Questions.{listed, maskListed, agree, paired, usedWithin, startAndRise, lastOffset, offsetsRise, offsetsValid, endsFrom, endsValid, sequencesValid, atMost, notNegative, fits, runByRun, distinctKeys, intervals, side, isMissing, filled, longEnough, roomAt, room, both, sequenceAsked};
+ghost use Rattle.column.specs.Questions.{listed, maskListed, agree, paired, usedWithin, startAndRise, lastOffset, offsetsRise, offsetsValid, endsFrom, endsValid, sequencesValid, atMost, notNegative, fits, runByRun, intervals, side, isMissing, filled, longEnough, roomAt, room, both, sequenceAsked};
 ghost use Rattle.column.specs.Runs.{sequence, magnitude};
 ghost use Rattle.questions.specs.Quarters.{endsFromQuarters};
 
@@ -222,7 +220,7 @@ pub fn ask_sequence(ends: &[i64], values: &[i64]) -> Asked
 }
 
 // The same answer, for the key or sequence at a position.
-fn in_key(asked: Asked, position: usize) -> Asked
+pub fn in_key(asked: Asked, position: usize) -> Asked
     ensures { λ r. ⌜ shownAsked r ≡ inKey position (shownAsked asked) ⌝ }
 {
     match asked {
@@ -322,34 +320,6 @@ pub fn ask_runs(runs: &[i64]) -> Asked
             return no(Error::Overflow);
         }
         total = next;
-        i += 1;
-    }
-    Asked::Yes
-}
-
-// 8
-fn is_among(keys: &[u32], key: u32) -> bool
-    ensures { λ r. ⌜ r ≡ any (eqb key) (now (keys .entry)) ⌝ }
-{
-    let mut i = 0;
-    while i < keys.len() {
-        if keys[i] == key {
-            return true;
-        }
-        i += 1;
-    }
-    false
-}
-
-pub fn ask_keys(keys: &[u32]) -> Asked
-    ensures { λ r. ⌜ shownAsked r ≡ distinctKeys (now (keys .entry)) ⌝ }
-{
-    let mut i = 0;
-    while i < keys.len() {
-        let key = keys[i];
-        if is_among(&keys[..i], key) {
-            return no(Error::DuplicateKey { position: i });
-        }
         i += 1;
     }
     Asked::Yes

@@ -6,8 +6,8 @@ use borrow.Author.Tests.{eq-eqb, ne-eqb}
 use Rattle.column.specs.Lists.{any}
 use Rattle.column.proofs.Lists.{any-next, any-found, any-end}
 use borrow.Author.Needs.{needs}
-use Rattle.questions.proofs.is_among.Statement.{statement}
-use Rattle.questions.proofs.is_among.Tie as tie
+use Rattle.keys.proofs.table.is_among.Statement.{statement}
+use Rattle.keys.proofs.table.is_among.Tie as tie
 
 abbrev Inv-loop : tie.InvT-loop
 Inv-loop keys key i₀ i = (i ≤ length keys) × (any (eqb key) keys ≡ any (eqb key) (drop i keys))

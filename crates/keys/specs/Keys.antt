@@ -1,0 +1,26 @@
+-- batch.rs: where a key stands, and each key once.
+use Prim.Native.Nat.{ℕ, suc}
+use mathlib.Core.Bool.{cond}
+use mathlib.Core.Option.{Option, none, some}
+use mathlib.Core.List.{List, [], _∷_}
+use lib.Dec.{eqb, ltb}
+use lib.ListN.{length}
+use Rattle.column.specs.Lists.{any}
+use Rattle.column.specs.Paper.{Outcome, answers}
+
+-- the lowest position of a key, or how many keys there are
+unfoldable pub lowest : ℕ → List ℕ → ℕ
+lowest key [] = 0
+lowest key (k ∷ ks) = cond (eqb key k) 0 (suc (lowest key ks))
+
+-- "`position` (lowest; takes keys alone)"
+unfoldable pub position : List ℕ → ℕ → Outcome (Option ℕ)
+position keys key = let at = lowest key keys in answers (cond (ltb at (length keys)) (some at) none)
+
+-- each key once, where it first appears: those that do not stand before
+unfoldable pub onceFrom : List ℕ → List ℕ → List ℕ
+onceFrom before [] = []
+onceFrom before (k ∷ ks) = cond (any (eqb k) before) (onceFrom before ks) (k ∷ onceFrom (k ∷ before) ks)
+
+unfoldable pub once : List ℕ → List ℕ
+once ks = onceFrom [] ks

@@ -1,0 +1,3 @@
+-- The keys of a batch; to be read after column's definitions.
+pub mod Keys
+pub mod Workers

@@ -1,0 +1,84 @@
+// Searches for a key. Each finds its lowest position, or how many keys there are.
+use crate::Order;
+ghost use Prim.Native.Nat.{_+_, _<_, _^_};
+ghost use mathlib.Core.Bool.{true, _&&_, cond};
+ghost use mathlib.Core.Path.{_≡_};
+ghost use lib.Dec.{eqb, ltb};
+ghost use lib.ListN.{length, getD};
+ghost use Rattle.keys.specs.Keys.{lowest};
+ghost use Rattle.keys.specs.Workers.{ascends, Known};
+
+// One key after another.
+pub fn scan(keys: &[u32], key: u32) -> usize
+    ensures { λ r. ⌜ r ≡ lowest key (now (keys .entry)) ⌝ }
+{
+    let mut i: usize = 0;
+    while i < keys.len() {
+        if keys[i] == key {
+            return i;
+        }
+        i += 1;
+    }
+    i
+}
+
+// Whether the key stands at a position.
+fn stands_at(keys: &[u32], position: usize, key: u32) -> bool
+    ensures { λ r. ⌜ r ≡ ltb position (length (now (keys .entry))) && eqb (getD (now (keys .entry)) position 0) key ⌝ }
+{
+    if position < keys.len() {
+        keys[position] == key
+    } else {
+        false
+    }
+}
+
+// Where the search goes on: `step` further if the key there is below the one looked for.
+fn low_after(low: usize, step: usize, below: bool) -> usize
+    requires { ⌜ low + step < 2 ^ 63 ⌝ }
+    ensures { λ r. ⌜ r ≡ cond below (low + step) low ⌝ }
+{
+    if below { low + step } else { low }
+}
+
+// By halving, among keys that ascend. Of `size` keys the half is left either way.
+fn halve(keys: &[u32], key: u32) -> usize
+    requires { ⌜ ascends (now keys) ≡ true ⌝ }
+    ensures { λ r. ⌜ r ≡ lowest key (now (keys .entry)) ⌝ }
+{
+    let mut low: usize = 0;
+    let mut size = keys.len();
+    while 0 < size {
+        let step = size - size / 2;
+        let below = keys[low + step - 1] < key;
+        low = low_after(low, step, below);
+        size /= 2;
+    }
+    if stands_at(keys, low, key) {
+        low
+    } else {
+        keys.len()
+    }
+}
+
+// As what is known of the keys allows. Where none is given twice, the key is looked for at `near` first.
+pub fn find(keys: &[u32], order: Order, near: usize, key: u32) -> usize
+    requires { ⌜ Known order (now keys) ⌝ }
+    ensures { λ r. ⌜ r ≡ lowest key (now (keys .entry)) ⌝ }
+{
+    match order {
+        Order::Ascending => {
+            if stands_at(keys, near, key) {
+                return near;
+            }
+            halve(keys, key)
+        }
+        Order::Distinct => {
+            if stands_at(keys, near, key) {
+                return near;
+            }
+            scan(keys, key)
+        }
+        Order::Unknown => scan(keys, key),
+    }
+}
