@@ -25,7 +25,7 @@ use Rattle.column.proofs.FirstNo.{all-yes, asked-next, asked-last}
 use Rattle.column.proofs.Told.{agree-told, both-told}
 use Rattle.slice.specs.declared.search.TouchedRuns.{TouchedRuns}
 use Rattle.slice.specs.Search.{touchedBy}
-use Rattle.slice.specs.Slice.{intervalRuns}
+use Rattle.slice.specs.Slice.{sliceRuns, intervalRuns}
 use Rattle.slice.proofs.Items.{item-at, length-items}
 use Rattle.reduce.specs.declared.Reduction.{Reduction}
 use Rattle.reduce.specs.declared.inner.WindowReduction.{WindowReduction}
@@ -40,32 +40,35 @@ finite-no-nan nan h = absurd h
 finite-no-nan (inf s) h = tt
 finite-no-nan (fin s m e) h = tt
 
+-- ---- of a slice, by the runs that the code found
+
+module _ (es vs : List ℤ) (valid : endsValid es ≡ none) (l : length es ≡ length vs) (x y : ℤ) {t : TouchedRuns} (et : endsValid es ≡ none → t ≡ touchedBy x y es) where
+  pub slice-window : mag (t .end) < 2 ^ 63 → Window t es vs
+  slice-window f = rw (et valid) (window-of x y es vs valid l (rw (et valid) at f))
+
+  module _ {code : ℕ} {ddof : ℤ} {r : WindowReduction} (w : ReducesWindow code ddof t es vs r) where
+    reduces : ReducesWindow code ddof (touchedBy x y es) es vs r
+    reduces = rw (et valid) at w
+
+    pub slice-finite : FiniteReduction (r .reduction)
+    slice-finite = reduces .finite (window-rises x y es valid)
+
+    pub slice-reduced : r .reduction ≡ reduction code ddof (sliceRuns x y (runsOf es vs))
+    slice-reduced = reduces .answer (window-rises x y es valid) ∙ ap (reduction code ddof) (window-slice x y es vs valid l)
+
 -- ---- of each interval
 
 abbrev pub reductions : ℕ → ℤ → List ℤ → List ℤ → Runs → List Reduction
 reductions code ddof starts stops rs = map (reduction code ddof) (intervalRuns starts stops rs)
 
--- the interval at i, by the runs that the code found
-module _ (es vs starts stops : List ℤ) (valid : endsValid es ≡ none) (l : length es ≡ length vs) (m : length starts ≡ length stops) (i : ℕ) (h : i < length starts)
-    {x y : ℤ} {t : TouchedRuns} (ex : x ≡ getD starts i (pos 0)) (ey : y ≡ getD stops i (pos 0)) (et : endsValid es ≡ none → t ≡ touchedBy x y es) where
-  found : t ≡ touchedBy (getD starts i (pos 0)) (getD stops i (pos 0)) es
-  found = et valid ∙ ap₂ (λ (a b : ℤ). touchedBy a b es) ex ey
-
-  pub interval-window : mag (t .end) < 2 ^ 63 → Window t es vs
-  interval-window f = rw found (window-of (getD starts i (pos 0)) (getD stops i (pos 0)) es vs valid l (rw found at f))
-
-  module _ {code : ℕ} {ddof : ℤ} {r : WindowReduction} (w : ReducesWindow code ddof t es vs r) where
-    reduces : ReducesWindow code ddof (touchedBy (getD starts i (pos 0)) (getD stops i (pos 0)) es) es vs r
-    reduces = rw found at w
-
-    pub interval-finite : FiniteReduction (r .reduction)
-    interval-finite = reduces .finite (window-rises (getD starts i (pos 0)) (getD stops i (pos 0)) es valid)
-
-    pub interval-reduced : r .reduction ≡ getD (reductions code ddof starts stops (runsOf es vs)) i (reduction code ddof [])
-    interval-reduced =
-        reduces .answer (window-rises (getD starts i (pos 0)) (getD stops i (pos 0)) es valid)
-        ∙ ap (reduction code ddof) (window-slice (getD starts i (pos 0)) (getD stops i (pos 0)) es vs valid l ∙ sym (item-at starts stops (runsOf es vs) i m h))
-        ∙ sym (List·getD-map (reduction code ddof) (intervalRuns starts stops (runsOf es vs)) i [])
+-- the interval at i
+pub interval-reduced : (starts stops : List ℤ) (rs : Runs) (code : ℕ) (ddof : ℤ) (m : length starts ≡ length stops) (i : ℕ) (h : i < length starts) {x y : ℤ} {r : Reduction}
+    → x ≡ getD starts i (pos 0) → y ≡ getD stops i (pos 0) → r ≡ reduction code ddof (sliceRuns x y rs) → r ≡ getD (reductions code ddof starts stops rs) i (reduction code ddof [])
+interval-reduced starts stops rs code ddof m i h ex ey er =
+    er
+    ∙ ap₂ (λ (a b : ℤ). reduction code ddof (sliceRuns a b rs)) ex ey
+    ∙ ap (reduction code ddof) (sym (item-at starts stops rs i m h))
+    ∙ sym (List·getD-map (reduction code ddof) (intervalRuns starts stops rs) i [])
 
 -- the first i of them are written
 pub record Filling (rs : List Reduction) (k₀ k b₀ b : List ℕ) (i : ℕ) : Type 0 where

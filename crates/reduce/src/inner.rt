@@ -6,13 +6,15 @@ use slice::search::TouchedRuns;
 ghost use Prim.Native.Nat.{_≤_, _^_};
 ghost use mathlib.Core.Bool.{true, _&&_};
 ghost use mathlib.Core.List.{map};
+ghost use mathlib.Core.Option.{none};
 ghost use mathlib.Core.Path.{_≡_};
 ghost use lib.IntN.{pos, natAbs};
 ghost use lib.ListN.{length};
 ghost use lib.Signed.{ltZ};
 ghost use Rattle.float.specs.Float.{Within};
+ghost use Rattle.column.specs.Questions.{endsValid};
 ghost use Rattle.column.specs.Runs.{magnitude, sequence, runsOf};
-ghost use Rattle.slice.specs.Slice.{intervalRuns};
+ghost use Rattle.slice.specs.Slice.{sliceRuns, intervalRuns};
 ghost use Rattle.reduce.specs.Reduce.{addProduct, addSquare, reduction, FiniteReduction, kindOf, bitsOf};
 ghost use Rattle.reduce.specs.Workers.{addWrapped, WalkedSum, StoppedSum, SumOf, ProductsOf, ExactProducts, AllProducts, AroundMean, WalkedSquares, Squarable, SquaresOf, ExactRun, Window, divisorOf, VarianceBy, ReducesWindow, Reducible, FilledReductions};
 
@@ -429,8 +431,25 @@ pub fn reduce_window(
     }
 }
 
+// The reduction of a slice.
+pub fn reduce_slice(
+    ends: &[i64],
+    values: &[i64],
+    start: i64,
+    stop: i64,
+    code: u8,
+    ddof: i64,
+) -> Reduction
+    requires { ⌜ (endsValid (now ends) ≡ none) × (length (now ends) ≡ length (now values)) ⌝ }
+    ensures { λ r. ⌜ (r ≡ reduction code ddof (sliceRuns start stop (runsOf (now (ends .entry)) (now (values .entry))))) × FiniteReduction r ⌝ }
+{
+    let window = search::touched(ends, start, stop);
+    let reduced = reduce_window(ends, values, window, code, ddof);
+    reduced.reduction
+}
+
 // The kind byte of document 01.
-fn kind(reduction: Reduction) -> u8
+pub fn kind(reduction: Reduction) -> u8
     ensures { λ r. ⌜ r ≡ kindOf reduction ⌝ }
 {
     match reduction {
@@ -441,7 +460,7 @@ fn kind(reduction: Reduction) -> u8
 }
 
 // The 64 bits of document 01.
-fn bits(reduction: Reduction) -> u64
+pub fn bits(reduction: Reduction) -> u64
     requires { ⌜ FiniteReduction reduction ⌝ }
     ensures { λ r. ⌜ r ≡ bitsOf reduction ⌝ }
 {
@@ -471,9 +490,7 @@ pub fn slice_reduce(
     while i < starts.len() {
         let start = starts[i];
         let stop = stops[i];
-        let window = search::touched(ends, start, stop);
-        let reduced = reduce_window(ends, values, window, code, ddof);
-        let reduction = reduced.reduction;
+        let reduction = reduce_slice(ends, values, start, stop, code, ddof);
         out_kinds[i] = kind(reduction);
         out_bits[i] = bits(reduction);
         i += 1;

@@ -5,10 +5,10 @@ use denote.Ref.{now}
 use lib.ListN.{length}
 use mir.Facts.{toZ-ofZ}
 use mir.Syntax.{w64}
-use mir.Val.{SFits, toZ, ofZ}
+use mir.Val.{toZ, ofZ}
 use Rattle.num.proofs.Bits.{back}
 use Rattle.column.specs.Runs.{runsOf}
-use Rattle.reduce.proofs.Intervals.{reductions, Filling, filling-start, filling-next, filling-end, length-reductions, interval-window, interval-finite, interval-reduced}
+use Rattle.reduce.proofs.Intervals.{reductions, Filling, filling-start, filling-next, filling-end, length-reductions, interval-reduced}
 use borrow.Author.Needs.{needs}
 use Rattle.reduce.proofs.inner.slice_reduce.Statement.{statement}
 use Rattle.reduce.proofs.inner.slice_reduce.Tie as tie
@@ -19,10 +19,6 @@ Inv-loop ends values starts stops code ddof out-kinds₀ out-bits₀ i₀ out-ki
 
 abbrev μ-loop : tie.MeasureT-loop
 μ-loop ends values starts stops code ddof out-kinds₀ out-bits₀ i₀ out-kinds out-bits i = length starts - i
-
--- the end of the window fits
-end-fits : (c : tie.After-touched Inv-loop μ-loop) → SFits w64 (c .touched .result .end)
-end-fits c = search needs
 
 -- as many reductions as intervals
 many : (s : tie.Start Inv-loop μ-loop) → let a = s .args in
@@ -44,40 +40,27 @@ mul-stop c = search needs
 shared-slice-copy-out-stop : tie.Need-shared-slice-copy-out-stop Inv-loop μ-loop
 shared-slice-copy-out-stop c = omega (arith, c .before .before .before .before .before .pre .intervals)
 
-touched-requires : tie.Need-touched-requires Inv-loop μ-loop
-touched-requires c κs = search needs
-
-reduce-window-requires : tie.Need-reduce-window-requires Inv-loop μ-loop
-reduce-window-requires c κs = let n = c .before .before .before in
-    let l = n .before in
-    let s = l .before .before .before in
-    let p = s .pre in
-    interval-window (now (s .args .ends)) (now (s .args .values)) (now (s .args .starts)) (now (s .args .stops)) (p .valid) (p .paired) (p .intervals) (l .loop .i) (n .loop-test .taken)
-    (back _ (c .before .before .start .given)) (back _ (c .before .stop .given)) (c .touched .ensures) (end-fits c .sfits)
+reduce-slice-requires : tie.Need-reduce-slice-requires Inv-loop μ-loop
+reduce-slice-requires c κs = let s = c .before .before .before .before .before .before in (s .pre .valid, s .pre .paired)
 
 kind-requires : tie.Need-kind-requires Inv-loop μ-loop
 kind-requires c κs = search needs
 
 slice-write-out-kinds : tie.Need-slice-write-out-kinds Inv-loop μ-loop
-slice-write-out-kinds c = let l = c .before .before .before .before .before .before in
-    omega (arith, l .loop .inv .kinds .long, l .before .before .before .pre .room-kinds, c .before .before .before .before .before .loop-test .taken)
+slice-write-out-kinds c = let n = c .before .before .before .before in
+    let l = n .before in
+    omega (arith, l .loop .inv .kinds .long, l .before .before .before .pre .room-kinds, n .loop-test .taken)
 
 bits-requires : tie.Need-bits-requires Inv-loop μ-loop
-bits-requires c κs = let w = c .before in
-    let t = w .before in
-    let n = t .before .before .before in
-    let l = n .before in
-    let s = l .before .before .before in
-    let p = s .pre in
-    interval-finite (now (s .args .ends)) (now (s .args .values)) (now (s .args .starts)) (now (s .args .stops)) (p .valid) (p .paired) (p .intervals) (l .loop .i) (n .loop-test .taken)
-    (back _ (t .before .before .start .given)) (back _ (t .before .stop .given)) (t .touched .ensures) (w .reduce-window .ensures)
+bits-requires c κs = c .before .reduce-slice .ensures .1
 
 mul-out-bits : tie.Need-mul-out-bits Inv-loop μ-loop
 mul-out-bits c = search needs
 
 slice-write-out-bits : tie.Need-slice-write-out-bits Inv-loop μ-loop
-slice-write-out-bits c = let l = c .before .before .before .before .before .before .before in
-    omega (arith, l .loop .inv .bits .long, l .before .before .before .pre .room-bits, c .before .before .before .before .before .before .loop-test .taken)
+slice-write-out-bits c = let n = c .before .before .before .before .before in
+    let l = n .before in
+    omega (arith, l .loop .inv .bits .long, l .before .before .before .pre .room-bits, n .loop-test .taken)
 
 add-i : tie.Need-add-i Inv-loop μ-loop
 add-i c = search needs
@@ -88,14 +71,14 @@ loop-less c = search needs
 loop-again : tie.Need-loop-again Inv-loop μ-loop
 loop-again c = let w = c .before .before in
     let t = w .before in
-    let n = t .before .before .before in
+    let n = t .before .before in
     let l = n .before in
     let s = l .before .before .before in
     let p = s .pre in
     let m = many s in
     filling-next (l .loop .inv) (rw m (n .loop-test .taken)) (rw m (p .room-kinds)) (rw m (p .room-bits)) _
-    (interval-reduced (now (s .args .ends)) (now (s .args .values)) (now (s .args .starts)) (now (s .args .stops)) (p .valid) (p .paired) (p .intervals) (l .loop .i) (n .loop-test .taken)
-    (back _ (t .before .before .start .given)) (back _ (t .before .stop .given)) (t .touched .ensures) (w .reduce-window .ensures))
+    (interval-reduced (now (s .args .starts)) (now (s .args .stops)) (runsOf (now (s .args .ends)) (now (s .args .values))) (s .args .code) _ (p .intervals) (l .loop .i) (n .loop-test .taken)
+    (back _ (t .before .start .given)) (back _ (t .stop .given)) (w .reduce-slice .ensures .0))
     (c .before .kind .ensures) (c .bits .ensures)
 
 same-length : tie.Need-same-length Inv-loop μ-loop
@@ -119,8 +102,7 @@ slice-reduce-spec =
     shared-slice-copy-out-start
     mul-stop
     shared-slice-copy-out-stop
-    touched-requires
-    reduce-window-requires
+    reduce-slice-requires
     kind-requires
     slice-write-out-kinds
     bits-requires
