@@ -1,0 +1,43 @@
+-- What the workers leave and require.
+use Prim.Native.Nat.{ℕ, _+_, _≤_, _<_}
+use mathlib.Core.Bool.{true, false}
+use mathlib.Core.Option.{none}
+use mathlib.Core.List.{List, map}
+use mathlib.Core.Path.{_≡_}
+use lib.IntN.{ℤ}
+use lib.ListN.{length}
+use Rattle.column.specs.declared.answer.RleBatch.{RleBatch}
+use Rattle.column.specs.Flat.{offsetsFlat, endsFlat, flatOffsets, flatEnds, flatValues}
+use Rattle.column.specs.Lists.{total}
+use Rattle.column.specs.Runs.{over}
+use Rattle.batch.specs.Batch.{Batch, Entry, keysOf, columnsOf}
+use Rattle.batch.specs.declared.two.Joined.{Joined}
+
+-- every question of a batch answered "yes"
+pub record ValidBatch (b : Batch) : Type 0 where
+  pub keyed : length (b .flat .offsets) ≡ length (b .keys) + 1
+  pub paired : length (b .flat .ends) ≡ length (b .flat .values)
+  pub offsets : offsetsFlat (b .flat) ≡ none
+  pub valid : endsFlat (b .flat) ≡ none
+
+-- entries laid flat, written into the front of four buffers, each before and after, and how many runs they have
+pub record FilledBatch (es : List Entry) (k k′ x x′ : List ℕ) (e e′ v v′ : List ℤ) (n : ℕ) : Type 0 where
+  pub count : n ≡ total (map length (columnsOf es))
+  pub keys : k′ ≡ over (keysOf es) k
+  pub offsets : x′ ≡ over (flatOffsets (columnsOf es)) x
+  pub ends : e′ ≡ over (flatEnds (columnsOf es)) e
+  pub values : v′ ≡ over (flatValues (columnsOf es)) v
+
+-- entries laid flat, written into the front of four buffers, each before and after, and both counts
+pub record FilledCounts (es : List Entry) (k k′ x x′ : List ℕ) (e e′ v v′ : List ℤ) (r : RleBatch) : Type 0 where
+  pub filled : FilledBatch es k k′ x x′ e e′ v v′ (r .runs)
+  pub many : r .keys ≡ length es
+
+-- ---- the keys of two batches, one after the other: f tells what is at each place
+
+-- r is the lowest place from n on, below the number of places, that is kept; or that number
+pub record NextKept (f : ℕ → Joined) (places n : ℕ) (r : Joined) : Type 0 where
+  pub after : n ≤ r .at
+  pub within : r .at ≤ places
+  pub before : (i : ℕ) → n ≤ i → i < r .at → f i .kept ≡ false
+  pub here : r .at < places → (r ≡ f (r .at)) × (f (r .at) .kept ≡ true)

@@ -1,0 +1,119 @@
+// A batch is handed in as its keys, its offsets, and its ends and values laid flat.
+pub mod inner;
+pub mod two;
+
+use column::answer::Asked;
+use column::answer::Checked;
+use column::error::Refusal;
+ghost use Prim.Native.Nat.{_+_};
+ghost use mathlib.Core.List.{[], _∷_};
+ghost use mathlib.Core.Path.{_≡_};
+ghost use lib.ListN.{length};
+ghost use Rattle.column.specs.Asking.{shownAsked, firstNo};
+ghost use Rattle.column.specs.Paper.{shownChecked};
+ghost use Rattle.column.specs.Questions.{room};
+ghost use Rattle.batch.specs.Batch.{batch, lengthsAsked, contentAsked, batchValid, batchNeeds};
+ghost use Rattle.batch.specs.Calls.{WritesGot};
+ghost use Rattle.batch.specs.Calls as calls;
+
+// The answer of `get`.
+pub enum Got {
+    Count(usize),
+    Nothing,
+    Refused(Refusal),
+}
+
+// What 2 and what 3 of 2.
+pub fn ask_lengths(keys: &[u32], offsets: &[usize], ends: &[i64], values: &[i64]) -> Asked
+    ensures { λ r. ⌜ shownAsked r ≡ firstNo (lengthsAsked (batch (now (keys .entry)) (now (offsets .entry)) (now (ends .entry)) (now (values .entry)))) ⌝ }
+{
+    questions::first_no(
+        questions::ask_lengths(2, offsets.len(), keys.len() + 1),
+        questions::ask_lengths(3, ends.len(), values.len()),
+    )
+}
+
+// 3 and 4.
+pub fn ask_content(keys: &[u32], offsets: &[usize], ends: &[i64], values: &[i64]) -> Asked
+    ensures { λ r. ⌜ shownAsked r ≡ firstNo (contentAsked (batch (now (keys .entry)) (now (offsets .entry)) (now (ends .entry)) (now (values .entry)))) ⌝ }
+{
+    questions::first_no(
+        questions::ask_offsets(offsets, ends.len()),
+        questions::ask_sequences(offsets, ends),
+    )
+}
+
+// 2, 3 and 4.
+pub fn ask_batch(keys: &[u32], offsets: &[usize], ends: &[i64], values: &[i64]) -> Asked
+    ensures { λ r. ⌜ shownAsked r ≡ batchValid (batch (now (keys .entry)) (now (offsets .entry)) (now (ends .entry)) (now (values .entry))) ⌝ }
+{
+    questions::first_no(
+        ask_lengths(keys, offsets, ends, values),
+        ask_content(keys, offsets, ends, values),
+    )
+}
+
+// 12, of buffers for keys, offsets, ends and values.
+pub fn ask_room(
+    keys: usize,
+    offsets: usize,
+    runs: usize,
+    out_keys: usize,
+    out_offsets: usize,
+    out_ends: usize,
+    out_values: usize,
+) -> Asked
+    ensures { λ r. ⌜ (offsets ≡ keys + 1 → shownAsked r ≡ room (batchNeeds keys runs) («out_keys» ∷ «out_offsets» ∷ «out_ends» ∷ «out_values» ∷ [])) ⌝ }
+{
+    let runs_fit = questions::first_no(
+        questions::ask_room(2, runs, out_ends),
+        questions::ask_room(3, runs, out_values),
+    );
+    let offsets_fit = questions::first_no(questions::ask_room(1, offsets, out_offsets), runs_fit);
+    questions::first_no(questions::ask_room(0, keys, out_keys), offsets_fit)
+}
+
+// A batch that may come from anywhere: only checked.
+pub fn from_parts(keys: &[u32], offsets: &[usize], ends: &[i64], values: &[i64]) -> Checked
+    ensures { λ r. ⌜ shownChecked r ≡ calls.fromParts (batch (now (keys .entry)) (now (offsets .entry)) (now (ends .entry)) (now (values .entry))) ⌝ }
+{
+    let asked = questions::first_no(ask_batch(keys, offsets, ends, values), keys::ask_keys(keys));
+    match asked {
+        Asked::Yes => Checked::Valid,
+        Asked::No(r) => Checked::Refused(r),
+    }
+}
+
+// A copy of the sequence of a key.
+pub fn get(
+    keys: &[u32],
+    offsets: &[usize],
+    ends: &[i64],
+    values: &[i64],
+    key: u32,
+    out_ends: &mut [i64],
+    out_values: &mut [i64],
+) -> Got
+    ensures { λ r. ⌜ WritesGot
+        (calls.get (batch (now (keys .entry)) (now (offsets .entry)) (now (ends .entry)) (now (values .entry))) key (length (now («out_ends» .entry)) ∷ length (now («out_values» .entry)) ∷ [])) r
+        (now («out_ends» .entry)) (now («out_ends» .exit)) (now («out_values» .entry)) (now («out_values» .exit)) ⌝ }
+{
+    let at = keys::inner::scan(keys, key);
+    let found_ends = inner::part_at(offsets, ends, at);
+    let found_values = inner::part_at(offsets, values, at);
+    let asked = questions::first_no(
+        ask_batch(keys, offsets, ends, values),
+        questions::ask_both(found_ends.len(), out_ends.len(), out_values.len()),
+    );
+    match asked {
+        Asked::Yes => {
+            if at == keys.len() {
+                return Got::Nothing;
+            }
+            inner::copy(found_ends, out_ends);
+            inner::copy(found_values, out_values);
+            Got::Count(found_ends.len())
+        }
+        Asked::No(r) => Got::Refused(r),
+    }
+}

@@ -1,0 +1,101 @@
+// Two batches, each of which is handed in as its keys, its offsets, and its ends and values laid flat. Their keys stand one after the other:
+// place n is position n of the first, or, behind its keys, position n less their number of the second.
+use column::answer::Asked;
+ghost use mathlib.Core.Path.{_≡_};
+ghost use Rattle.column.specs.Asking.{shownAsked, firstNo};
+ghost use Rattle.batch.specs.Batch.{batch};
+ghost use Rattle.batch.specs.Two.{bothLengths, bothContent, bothValid};
+
+// What is at a place: whether it gives a key of the result, the key, and its position in each batch, past the last where it has none.
+pub struct Joined {
+    pub at: usize,
+    pub kept: bool,
+    pub key: u32,
+    pub a: usize,
+    pub b: usize,
+}
+
+// What 2 and what 3 of 2, of both batches.
+fn ask_lengths(
+    a_keys: &[u32],
+    a_offsets: &[usize],
+    a_ends: &[i64],
+    a_values: &[i64],
+    b_keys: &[u32],
+    b_offsets: &[usize],
+    b_ends: &[i64],
+    b_values: &[i64],
+) -> Asked
+    ensures { λ r. ⌜ shownAsked r ≡ firstNo (bothLengths (batch (now («a_keys» .entry)) (now («a_offsets» .entry)) (now («a_ends» .entry)) (now («a_values» .entry))) (batch (now («b_keys» .entry)) (now («b_offsets» .entry)) (now («b_ends» .entry)) (now («b_values» .entry)))) ⌝ }
+{
+    let paired = questions::first_no(
+        questions::ask_lengths(3, a_ends.len(), a_values.len()),
+        questions::ask_lengths(3, b_ends.len(), b_values.len()),
+    );
+    let keyed_b = questions::first_no(
+        questions::ask_lengths(2, b_offsets.len(), b_keys.len() + 1),
+        paired,
+    );
+    questions::first_no(
+        questions::ask_lengths(2, a_offsets.len(), a_keys.len() + 1),
+        keyed_b,
+    )
+}
+
+// 3 and 4, of both batches.
+fn ask_content(
+    a_keys: &[u32],
+    a_offsets: &[usize],
+    a_ends: &[i64],
+    a_values: &[i64],
+    b_keys: &[u32],
+    b_offsets: &[usize],
+    b_ends: &[i64],
+    b_values: &[i64],
+) -> Asked
+    ensures { λ r. ⌜ shownAsked r ≡ firstNo (bothContent (batch (now («a_keys» .entry)) (now («a_offsets» .entry)) (now («a_ends» .entry)) (now («a_values» .entry))) (batch (now («b_keys» .entry)) (now («b_offsets» .entry)) (now («b_ends» .entry)) (now («b_values» .entry)))) ⌝ }
+{
+    let valid = questions::first_no(
+        questions::ask_sequences(a_offsets, a_ends),
+        questions::ask_sequences(b_offsets, b_ends),
+    );
+    let offsets_b = questions::first_no(questions::ask_offsets(b_offsets, b_ends.len()), valid);
+    questions::first_no(questions::ask_offsets(a_offsets, a_ends.len()), offsets_b)
+}
+
+// 2, 3 and 4, of both batches.
+pub fn ask_batches(
+    a_keys: &[u32],
+    a_offsets: &[usize],
+    a_ends: &[i64],
+    a_values: &[i64],
+    b_keys: &[u32],
+    b_offsets: &[usize],
+    b_ends: &[i64],
+    b_values: &[i64],
+) -> Asked
+    ensures { λ r. ⌜ shownAsked r ≡ bothValid (batch (now («a_keys» .entry)) (now («a_offsets» .entry)) (now («a_ends» .entry)) (now («a_values» .entry))) (batch (now («b_keys» .entry)) (now («b_offsets» .entry)) (now («b_ends» .entry)) (now («b_values» .entry))) ⌝ }
+{
+    questions::first_no(
+        ask_lengths(
+            a_keys,
+            a_offsets,
+            a_ends,
+            a_values,
+            b_keys,
+            b_offsets,
+            b_ends,
+            b_values,
+        ),
+        ask_content(
+            a_keys,
+            a_offsets,
+            a_ends,
+            a_values,
+            b_keys,
+            b_offsets,
+            b_ends,
+            b_values,
+        ),
+    )
+}
