@@ -63,7 +63,7 @@ runs-above : (p : ℕ) (rs : Runs) → Rising p rs → p + length rs ≤ lastEnd
 runs-above p [] h = omega arith
 runs-above p (r ∷ rs) h = omega (arith, h .0, runs-above (r .end) rs (h .1))
 
-runs-short : (rs : Runs) → Valid rs → length rs ≤ lengthOf rs
+pub runs-short : (rs : Runs) → Valid rs → length rs ≤ lengthOf rs
 unfolding lengthOf
 runs-short rs v = omega (arith, runs-above 0 rs v)
 

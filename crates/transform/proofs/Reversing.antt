@@ -45,6 +45,16 @@ unfolding turnedFrom
 length-turned n p [] = refl
 length-turned n p (e ∷ es) = simp length-append (omega (arith, length-turned n (magnitude e) es))
 
+-- as many runs
+from-count : (n p : ℕ) (rs : Runs) → length (reverseFrom n p rs) ≡ length rs
+unfolding reverseFrom
+from-count n p [] = refl
+from-count n p (r ∷ rs) = simp length-append (omega (arith, from-count n (r .end) rs))
+
+pub reverse-count : (rs : Runs) → length (reverseRuns rs) ≡ length rs
+unfolding reverseRuns
+reverse-count rs = from-count (lengthOf rs) 0 rs
+
 -- no runs: nothing is written
 pub reversed-none : (es vs e₀ v₀ : List ℤ) → length es ≡ 0 → Filled (reverseRuns (runsOf es vs)) e₀ e₀ v₀ v₀ 0
 unfolding reverseRuns reverseFrom runsOf

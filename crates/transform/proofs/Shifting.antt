@@ -6,12 +6,12 @@ use mathlib.Core.List.{List, [], _∷_, _++_, append-assoc, append-nil}
 use mathlib.Core.Option.{none}
 use mathlib.Core.Path.{_≡_, refl, ap, sym, _∙_}
 use native.Mathlib.Omega.{arith}
-use lib.Dec.{ltb}
+use lib.Dec.{leb, ltb}
 use lib.IntN.{ℤ, pos, negsuc, natAbs}
 use lib.ListN.{length, getD, take, drop, replicate, length-append, length-replicate, length-drop, length-set, drop-of-length-le}
 use lib.Seq.{take-all, length-take-le, getD-drop}
 use lib.Signed.{mag, ltZ}
-use borrow.Author.Tests.{ltb-true, ltb-false}
+use borrow.Author.Tests.{leb-true, leb-false, ltb-true, ltb-false}
 use mir.Syntax.{w64}
 use mir.Val.{SFits, toZ, ofZ}
 use mir.Facts.{toZ-ofZ}
@@ -24,7 +24,8 @@ use Rattle.column.specs.Runs.{Runs, magnitude, runsOf, lastEnd, lengthOf, lastF
 use Rattle.column.specs.Writing.{nextPlace, PushedMerged, Merging, RisingEnds, pushAll, moved, Behind, Appendable, Appended}
 use Rattle.column.proofs.Appending.{push-few, push-shown, length-moved}
 use Rattle.column.proofs.Dense.{length-dense}
-use Rattle.column.proofs.Encode.{encode-up, encode-pos, length-push}
+use Rattle.column.proofs.Encode.{encode-up, encode-pos, encode-more, length-push}
+use Rattle.column.proofs.Encoded.{dense-encode, valid-encode}
 use Rattle.column.proofs.Ends.{rising, runs-rise, length-runs, length-of-ends}
 use Rattle.column.proofs.Naturals.{magnitude-below}
 use Rattle.column.proofs.Pushed.{place}
@@ -465,6 +466,50 @@ module _ (es vs : List ℤ) (valid : endsValid es ≡ none) (distance fill : ℤ
 
   pub shift-down : ltZ (pos 0) distance ≡ false → natAbs distance < lengthOf (runsOf es vs) → shiftedDown (natAbs distance) fill (dense (runsOf es vs)) ≡ shiftValues distance fill (dense (runsOf es vs))
   shift-down t h = values-down fill (dense (runsOf es vs)) distance t (rw shown-length h)
+
+-- ---- one run more at most is left
+
+-- what runs show behind values takes no more than those runs
+behind-few : (s : ℕ) (xs : List ℤ) (rs : Runs) → Rising s rs → length (encode (xs ++ denseFrom s rs)) ≤ length (encode xs) + length rs
+behind-few s xs rs h = rw (sym (push-shown s xs rs h)) (omega (arith, push-few (encode xs) (moved s (length xs) rs), length-moved s (length xs) rs))
+
+append-few : (xs ys : List ℤ) → length (encode (xs ++ ys)) ≤ length (encode xs) + length (encode ys)
+unfolding dense
+append-few xs ys = rw (dense-encode ys) at (behind-few 0 xs (encode ys) (valid-encode ys))
+
+constant-few : (k : ℕ) (v : ℤ) → length (encode (replicate k v)) ≤ 1
+unfolding encode encodeFrom
+constant-few zero v = omega arith
+constant-few (suc k) v = omega (arith, encode-constant (suc k) v (omega arith))
+
+take-few : (k : ℕ) (xs : List ℤ) → k ≤ length xs → length (encode (take k xs)) ≤ length (encode xs)
+take-few k xs h =
+    let e : k + (length xs - k) ≡ length xs = omega arith in
+    rw (e, take-all (length xs) xs (omega arith)) at (encode-more xs k (length xs - k) (omega arith))
+
+drop-few : (k p : ℕ) (rs : Runs) → Rising p rs → length (encode (drop k (denseFrom p rs))) ≤ length rs
+unfolding denseFrom encode encodeFrom
+drop-few k p [] h = rw (drop-of-length-le {A = ℤ} [] {i = k} (omega arith)) (omega arith)
+drop-few k p (r ∷ rs) h =
+    let n = r .end - p in
+    by-test (leb k n)
+    (λ t. rw (drop-front k n (r .value) (denseFrom (r .end) rs) (leb-true k n t))
+    (omega (arith, behind-few (r .end) (replicate (n - k) (r .value)) rs (h .1), constant-few (n - k) (r .value))))
+    (λ t. let e : k ≡ n + (k - n) = omega (arith, leb-false k n t) in
+    let q : drop k (replicate n (r .value) ++ denseFrom (r .end) rs) ≡ drop (k - n) (denseFrom (r .end) rs) =
+    ap (λ (i : ℕ). drop i (replicate n (r .value) ++ denseFrom (r .end) rs)) e ∙ drop-behind (k - n) n (r .value) (denseFrom (r .end) rs) in
+    rw q (omega (arith, drop-few (k - n) (r .end) rs (h .1))))
+
+pub shift-few : (distance fill : ℤ) (rs : Runs) → Rising 0 rs → length (encode (shiftValues distance fill (dense rs))) ≤ length rs + 1
+unfolding shiftValues dense
+shift-few (pos n) fill rs h =
+    let ys = take (length (denseFrom 0 rs) - n) (denseFrom 0 rs) in
+    let m = min n (length (denseFrom 0 rs)) in
+    omega (arith, append-few (replicate m fill) ys, constant-few m fill, take-few (length (denseFrom 0 rs) - n) (denseFrom 0 rs) (omega arith), drop-few 0 0 rs h)
+shift-few (negsuc n) fill rs h =
+    let ys = drop (suc n) (denseFrom 0 rs) in
+    let m = min (suc n) (length (denseFrom 0 rs)) in
+    omega (arith, append-few ys (replicate m fill), constant-few m fill, drop-few (suc n) 0 rs h)
 
 -- a distance above 0, by the test of the code
 pub above-zero : {d : ℤ} {b : Bool} → SFits w64 d → ltZ (pos 0) (toZ w64 (ofZ w64 d)) ≡ b → ltZ (pos 0) d ≡ b
