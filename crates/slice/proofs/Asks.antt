@@ -54,7 +54,7 @@ pub flat-room-asked : (o n x e v : ℕ) {r a b c d : Question} → r ≡ firstNo
 flat-room-asked o n x e v hr ha hb hc hd =
     asked-next (roomAt 0 o x) (roomAt 1 n e ∷ roomAt 2 n v ∷ []) hr ha (λ y. asked-last (roomAt 1 n e) hb hc (λ z. hd)) ∙ sym (room-each (o ∷ both n) (x ∷ e ∷ v ∷ []))
 
-flat-room-saturated : (o n x e v : ℕ) → e < 2 ^ 63 → v < 2 ^ 63 → room (o ∷ both (saturated n)) (x ∷ e ∷ v ∷ []) ≡ room (o ∷ both n) (x ∷ e ∷ v ∷ [])
+pub flat-room-saturated : (o n x e v : ℕ) → e < 2 ^ 63 → v < 2 ^ 63 → room (o ∷ both (saturated n)) (x ∷ e ∷ v ∷ []) ≡ room (o ∷ both n) (x ∷ e ∷ v ∷ [])
 flat-room-saturated o n x e v h k =
     room-each (o ∷ both (saturated n)) (x ∷ e ∷ v ∷ [])
     ∙ rw (room-saturated 1 n e (omega arith), room-saturated 2 n v (omega arith)) (sym (room-each (o ∷ both n) (x ∷ e ∷ v ∷ [])))

@@ -113,7 +113,7 @@ abbrev pub allRuns : List Runs → Runs
 allRuns [] = []
 allRuns (c ∷ cs) = c ++ allRuns cs
 
-length-all : (cs : List Runs) → length (allRuns cs) ≡ total (map length cs)
+pub length-all : (cs : List Runs) → length (allRuns cs) ≡ total (map length cs)
 length-all [] = refl
 length-all (c ∷ cs) = rw (length-append, length-all cs)
 

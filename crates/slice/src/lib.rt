@@ -161,7 +161,7 @@ fn count_runs(ends: &[i64], starts: &[i64], stops: &[i64]) -> usize
 }
 
 // 12, of buffers for offsets, ends and values.
-fn ask_flat_room(
+pub fn ask_flat_room(
     offsets: usize,
     runs: usize,
     out_offsets: usize,
