@@ -28,6 +28,15 @@ unfolding segmentsFrom
 segments-end zero ps h = refl
 segments-end (suc n) ps h = rw (h, segmentsFrom)
 
+few-step : (n : ℕ) (ps : List Place) (o : Option ℕ) → leastEnd (rests ps) ≡ o → ((e : ℕ) → length (segmentsFrom n (stepped e ps)) ≤ n) → length (segmentsFrom (suc n) ps) ≤ suc n
+few-step n ps none h k = rw (segments-end (suc n) ps h) (omega arith)
+few-step n ps (some e) h k = rw (segments-step n ps e h) (omega (arith, k e))
+
+pub segments-few : (n : ℕ) (ps : List Place) → length (segmentsFrom n ps) ≤ n
+unfolding segmentsFrom
+segments-few zero ps = omega arith
+segments-few (suc n) ps = few-step n ps (leastEnd (rests ps)) refl (λ e. segments-few n (stepped e ps))
+
 -- ---- each step leaves fewer runs
 
 length-step : (e i : ℕ) (es : List ℕ) → length (steppedOn e i es .rest) ≤ length es

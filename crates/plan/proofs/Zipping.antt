@@ -19,7 +19,7 @@ use Rattle.plan.specs.Plan.{Place, Segment, leastEnd, rests, indexes, fi
 use Rattle.plan.specs.Walk.{Steps}
 use Rattle.plan.proofs.Listing.{Listing, segmentAt, step-less, list-end, segments-first}
 use Rattle.plan.proofs.Raw.{raw-merges}
-use Rattle.plan.proofs.Segments.{left, none-left, some-left, segments-end}
+use Rattle.plan.proofs.Segments.{left, none-left, some-left, segments-end, segments-few}
 
 -- ---- runs pushed one after another
 
@@ -82,6 +82,10 @@ module _ (op : ℤ → ℤ → ℤ) (cs : List Column) where
     merged-all : {done : List Segment} → segmentsFrom (left starts) starts ≡ done → mergedRuns done ≡ combined op cs
     unfolding mergedRuns
     merged-all e = rw (← e, ← raw-listed) (raw-merges op cs valid)
+
+    -- no more runs than the columns have
+    pub combined-few : length (combined op cs) ≤ left starts
+    combined-few = rw (← merged-all refl) (omega (arith, merged-few (segmentsFrom (left starts) starts), segments-few (left starts) starts))
 
     -- no column has a run
     pub zip-none : left starts ≡ 0 → (e₀ v₀ : List ℤ) → Filled (combined op cs) e₀ e₀ v₀ v₀ 0

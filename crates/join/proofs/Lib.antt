@@ -1,0 +1,5 @@
+pub mod Places
+pub mod Pairs
+pub mod Asks
+pub mod Asking
+pub mod Zipping
