@@ -1,0 +1,11 @@
+pub mod Together
+pub mod Next
+pub mod Asks
+pub mod Members
+pub mod Few
+pub mod Filling
+pub mod Columns
+pub mod Groups
+pub mod Collapsing
+pub mod Folding
+pub mod Restoring
