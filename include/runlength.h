@@ -65,12 +65,19 @@ typedef struct {
     size_t indexes;  /* the entries of out_idx; 0 with a refusal */
 } rl_planned_many;
 
-/* What rl_run_index finds. */
+/* What rl_run_index and rl_batch_position find. */
 typedef struct {
     rl_refusal refusal;
     uint64_t found; /* 1 or 0; 0 with a refusal */
     size_t index;   /* 0 where nothing is found */
 } rl_found;
+
+/* What rl_batch_get finds. A key that is there may have no runs. */
+typedef struct {
+    rl_refusal refusal;
+    uint64_t found; /* 1 or 0; 0 with a refusal */
+    size_t count;   /* the entries of each output; 0 where nothing is found and with a refusal */
+} rl_got;
 
 /* A view of a slice; all 0 for the view of nothing and with a refusal. */
 typedef struct {
@@ -89,7 +96,7 @@ typedef struct {
 /* The counts of sequences laid flat. */
 typedef struct {
     rl_refusal refusal;
-    size_t keys; /* the sequences, one fewer than the entries of out_offsets; 0 with a refusal */
+    size_t keys; /* the sequences, one fewer than the entries of out_offsets, and the entries of out_keys; 0 with a refusal */
     size_t runs; /* the entries of out_ends and of out_values; 0 with a refusal */
 } rl_batched;
 
@@ -354,6 +361,111 @@ rl_reduced rl_reduce(const int64_t *ends, size_t ends_len, const int64_t *values
 rl_counted rl_slice_reduce(const int64_t *ends, size_t ends_len, const int64_t *values, size_t values_len, const int64_t *starts,
                            size_t starts_len, const int64_t *stops, size_t stops_len, uint8_t code, int64_t ddof,
                            uint8_t *out_kinds, size_t out_kinds_len, uint64_t *out_bits, size_t out_bits_len);
+
+/* batch.rs. A batch is a list of keys and a sequence for each: key k has the entries of ends and values from offsets[k] up to
+ * offsets[k + 1], not included. What a key's sequence is, is looked up at the lowest position of the key. Only rl_batch_from_parts
+ * refuses a key that is given twice.
+ *
+ * "The batch" below stands for these questions, asked of all keys: 2 (what 2, then 3); 3 where the offsets do not start at 0, fall,
+ * or do not finish at ends_len; 4 of the first key with such ends, with its position. Of two batches each of these, and each what,
+ * is asked of a and then of b.
+ *
+ * A batch that is answered has as many entries in out_keys as it has keys, one more in out_offsets, the first of which is 0, and as
+ * many in out_ends and in out_values as it has runs. */
+
+/* Whether four lists are a batch of different keys. Writes nothing.
+ * Refuses: the batch; 8: the lowest position of a key that stands before as well. */
+rl_refusal rl_batch_from_parts(const uint32_t *keys, size_t keys_len, const size_t *offsets, size_t offsets_len,
+                               const int64_t *ends, size_t ends_len, const int64_t *values, size_t values_len);
+
+/* The lowest position of a key. Writes nothing, and refuses nothing. */
+rl_found rl_batch_position(const uint32_t *keys, size_t keys_len, uint32_t key);
+
+/* The sequence of a key, as it stands; nothing is found where the key is absent. The count is the number of its runs.
+ * Refuses: the batch; 12: each output needs as many entries as the sequence has runs, none for an absent key. */
+rl_got rl_batch_get(const uint32_t *keys, size_t keys_len, const size_t *offsets, size_t offsets_len, const int64_t *ends,
+                    size_t ends_len, const int64_t *values, size_t values_len, uint32_t key, int64_t *out_ends,
+                    size_t out_ends_len, int64_t *out_values, size_t out_values_len);
+
+/* The slices from starts[k] up to stops[k] of the sequence of get_keys[k], of an absent key those of no runs; laid flat as by
+ * rl_getitems.
+ * Refuses: the batch; 2 (what 8); 9: the lowest index of an interval that is not 0 <= start <= end; 2 (what 7); 12: out_offsets
+ * needs starts_len + 1 entries, out_ends and out_values as many as all slices have runs (at most 2^64 - 1 is shown). */
+rl_batched rl_batch_getitems(const uint32_t *keys, size_t keys_len, const size_t *offsets, size_t offsets_len, const int64_t *ends,
+                             size_t ends_len, const int64_t *values, size_t values_len, const uint32_t *get_keys,
+                             size_t get_keys_len, const int64_t *starts, size_t starts_len, const int64_t *stops, size_t stops_len,
+                             size_t *out_offsets, size_t out_offsets_len, int64_t *out_ends, size_t out_ends_len,
+                             int64_t *out_values, size_t out_values_len);
+
+/* The reductions of the slices of rl_batch_getitems, by code and ddof, each as rl_slice_reduce gives it. The count is the number of
+ * intervals.
+ * Refuses: 1 as rl_reduce; the batch, what 7 and then 8 being asked behind its what 3; 9 as rl_batch_getitems; 12: each output
+ * needs starts_len entries. */
+rl_counted rl_batch_slice_reduce(const uint32_t *keys, size_t keys_len, const size_t *offsets, size_t offsets_len,
+                                 const int64_t *ends, size_t ends_len, const int64_t *values, size_t values_len,
+                                 const uint32_t *get_keys, size_t get_keys_len, const int64_t *starts, size_t starts_len,
+                                 const int64_t *stops, size_t stops_len, uint8_t code, int64_t ddof, uint8_t *out_kinds,
+                                 size_t out_kinds_len, uint64_t *out_bits, size_t out_bits_len);
+
+/* The same keys, each with what rl_shift makes of its sequence.
+ * Refuses: the batch; 12: out_keys needs keys_len entries, out_offsets keys_len + 1, out_ends and out_values ends_len +
+ * keys_len. */
+rl_batched rl_batch_shift(const uint32_t *keys, size_t keys_len, const size_t *offsets, size_t offsets_len, const int64_t *ends,
+                          size_t ends_len, const int64_t *values, size_t values_len, int64_t distance, int64_t fill,
+                          uint32_t *out_keys, size_t out_keys_len, size_t *out_offsets, size_t out_offsets_len, int64_t *out_ends,
+                          size_t out_ends_len, int64_t *out_values, size_t out_values_len);
+
+/* The same keys, each with what rl_reversed makes of its sequence.
+ * Refuses: the batch; 12: out_keys needs keys_len entries, out_offsets keys_len + 1, out_ends and out_values ends_len. */
+rl_batched rl_batch_reversed(const uint32_t *keys, size_t keys_len, const size_t *offsets, size_t offsets_len, const int64_t *ends,
+                             size_t ends_len, const int64_t *values, size_t values_len, uint32_t *out_keys, size_t out_keys_len,
+                             size_t *out_offsets, size_t out_offsets_len, int64_t *out_ends, size_t out_ends_len,
+                             int64_t *out_values, size_t out_values_len);
+
+/* The sequences gathered under new keys, one for each key; these may repeat, and the keys themselves are not looked at. A new key
+ * stands where it first appears. Its sequence starts as that of its first key, merged, and takes each further one in order by
+ * rl_zip_with, the fill serving both sides.
+ * With an answer the first 2 * ends_len entries of each scratch buffer may hold anything; later ones keep what they held.
+ * Refuses: 1; the batch, what 4 being asked behind its what 3; 10 (the length so far, and that of the sequence to be taken) where
+ * they differ and there is no fill, of the first such new key, with its position in the result; 12: out_keys needs keys_len
+ * entries, out_offsets keys_len + 1, out_ends and out_values ends_len, scratch_ends and scratch_values 2 * ends_len. */
+rl_batched rl_batch_collapse(const uint32_t *keys, size_t keys_len, const size_t *offsets, size_t offsets_len, const int64_t *ends,
+                             size_t ends_len, const int64_t *values, size_t values_len, const uint32_t *new_keys,
+                             size_t new_keys_len, rl_fill fill, uint8_t code, uint32_t *out_keys, size_t out_keys_len,
+                             size_t *out_offsets, size_t out_offsets_len, int64_t *out_ends, size_t out_ends_len,
+                             int64_t *out_values, size_t out_values_len, int64_t *scratch_ends, size_t scratch_ends_len,
+                             int64_t *scratch_values, size_t scratch_values_len);
+
+/* The keys of a, then those of b that are not among them, each once, with the merged sequence that shows what a's sequence of the
+ * key shows, and behind it what b's does; a batch without the key shows nothing.
+ * Refuses: the batches; 7 where the length of a result leaves int64_t; 12: out_keys needs a_keys_len + b_keys_len entries,
+ * out_offsets one more, out_ends and out_values a_ends_len + b_ends_len. */
+rl_batched rl_batch_concat(const uint32_t *a_keys, size_t a_keys_len, const size_t *a_offsets, size_t a_offsets_len,
+                           const int64_t *a_ends, size_t a_ends_len, const int64_t *a_values, size_t a_values_len,
+                           const uint32_t *b_keys, size_t b_keys_len, const size_t *b_offsets, size_t b_offsets_len,
+                           const int64_t *b_ends, size_t b_ends_len, const int64_t *b_values, size_t b_values_len,
+                           uint32_t *out_keys, size_t out_keys_len, size_t *out_offsets, size_t out_offsets_len, int64_t *out_ends,
+                           size_t out_ends_len, int64_t *out_values, size_t out_values_len);
+
+/* Joins two batches, by `how`:
+ *
+ *   how
+ *   0  outer   the keys of a, then those of b that a has not
+ *   1  inner   the keys of a that b has as well
+ *   2  left    the keys of a
+ *   3  right   the keys of a that b has as well, then those of b that a has not
+ *
+ * Each has what rl_zip_with makes of a's sequence of the key and b's; that of a batch without the key is empty.
+ * Refuses: 1 of `how`, then of the code; the batches; 10 as rl_zip_with, of the first such key, with its position in the result;
+ * 12: out_keys needs a_keys_len + b_keys_len entries, out_offsets one more, both for every `how`; out_ends and out_values need as
+ * many as the sequences of both sides have runs, summed over the keys of the result (at most 2^64 - 1 is shown). */
+rl_batched rl_batch_zip_with(const uint32_t *a_keys, size_t a_keys_len, const size_t *a_offsets, size_t a_offsets_len,
+                             const int64_t *a_ends, size_t a_ends_len, const int64_t *a_values, size_t a_values_len,
+                             const uint32_t *b_keys, size_t b_keys_len, const size_t *b_offsets, size_t b_offsets_len,
+                             const int64_t *b_ends, size_t b_ends_len, const int64_t *b_values, size_t b_values_len, uint8_t how,
+                             rl_fill fill_a, rl_fill fill_b, uint8_t code, uint32_t *out_keys, size_t out_keys_len,
+                             size_t *out_offsets, size_t out_offsets_len, int64_t *out_ends, size_t out_ends_len,
+                             int64_t *out_values, size_t out_values_len);
 
 #ifdef __cplusplus
 }

@@ -11,6 +11,7 @@ use mir.Val.{toZ, ofZ}
 use Rattle.num.specs.Numbers.{residue, signed, wrap}
 use Rattle.num.proofs.Bits.{back}
 use Rattle.num.proofs.Wrap.{wrap-same}
+use Rattle.batch.specs.declared.Got.{Got}
 use Rattle.column.specs.declared.answer.Batched.{Batched}
 use Rattle.column.specs.declared.answer.Checked.{Checked}
 use Rattle.column.specs.declared.answer.Counted.{Counted}
@@ -34,12 +35,13 @@ use Rattle.ffi.specs.declared.RlBatched.{RlBatched}
 use Rattle.ffi.specs.declared.RlCounted.{RlCounted}
 use Rattle.ffi.specs.declared.RlEquality.{RlEquality}
 use Rattle.ffi.specs.declared.RlFound.{RlFound}
+use Rattle.ffi.specs.declared.RlGot.{RlGot}
 use Rattle.ffi.specs.declared.RlPlannedMany.{RlPlannedMany}
 use Rattle.ffi.specs.declared.RlReduced.{RlReduced}
 use Rattle.ffi.specs.declared.RlRefusal.{RlRefusal}
 use Rattle.ffi.specs.declared.RlSummed.{RlSummed}
 use Rattle.ffi.specs.declared.RlViewed.{RlViewed}
-use Rattle.ffi.specs.Reading.{readError, readInKey, readRefusal, readChecked, readCounted, readEquality, readFound, readViewed, readBatched, readSummed, readReduction, readReduced, readPlannedMany, bitsAt, carried, placeOf, fields, laidRefusal, laidChecked, laidCounted, laidEquality, laidFound, laidViewed, laidBatched, laidSummed, laidReduction, laidReduced, laidPlannedMany}
+use Rattle.ffi.specs.Reading.{readError, readInKey, readRefusal, readChecked, readCounted, readEquality, readFound, readGot, readViewed, readBatched, readSummed, readReduction, readReduced, readPlannedMany, bitsAt, carried, placeOf, fields, laidRefusal, laidChecked, laidCounted, laidEquality, laidFound, laidGot, laidViewed, laidBatched, laidSummed, laidReduction, laidReduced, laidPlannedMany}
 
 -- the bits of an i64, as `as_unsigned` tells them, out of which it is read
 pub signed-told : (z : ℤ) {u : ℕ} → mag z < 2 ^ 63 → u ≡ residue (toZ w64 (ofZ w64 z)) → (u ≡ residue z) × (signed u ≡ z)
@@ -86,6 +88,9 @@ equality x n = record { refusal = x; equal = n }
 abbrev found : RlRefusal → ℕ → ℕ → RlFound
 found x n i = record { refusal = x; found = n; index = i }
 
+abbrev got : RlRefusal → ℕ → ℕ → RlGot
+got x n i = record { refusal = x; found = n; count = i }
+
 abbrev viewed : RlRefusal → ℕ → ℤ → ℤ → RlViewed
 viewed x n s l = record { refusal = x; first = n; start = s; length = l }
 
@@ -125,6 +130,9 @@ module _ {r : Refusal} {x : RlRefusal} (again : readRefusal x ≡ r) (laid : x �
   pub found-refused : {c : Found} → c ≡ Found.Refused r → (readFound (found x 0 0) ≡ c) × (found x 0 0 ≡ laidFound c)
   found-refused e = rw (e, refused) (ap Found.Refused again, ap (λ (y : RlRefusal). found y 0 0) laid)
 
+  pub got-refused : {c : Got} → c ≡ Got.Refused r → (readGot (got x 0 0) ≡ c) × (got x 0 0 ≡ laidGot c)
+  got-refused e = rw (e, refused) (ap Got.Refused again, ap (λ (y : RlRefusal). got y 0 0) laid)
+
   pub viewed-refused : {c : Viewed} → c ≡ Viewed.Refused r → (readViewed (viewed x 0 (pos 0) (pos 0)) ≡ c) × (viewed x 0 (pos 0) (pos 0) ≡ laidViewed c)
   viewed-refused e = rw (e, refused) (ap Viewed.Refused again, ap (λ (y : RlRefusal). viewed y 0 (pos 0) (pos 0)) laid)
 
@@ -158,6 +166,12 @@ module _ {x : RlRefusal} (laid : x ≡ laidChecked Checked.Valid) where
 
   pub found-nothing : {c : Found} → c ≡ Found.Nothing → (readFound (found x 0 0) ≡ c) × (found x 0 0 ≡ laidFound c)
   found-nothing e = rw (e, laid) (refl, refl)
+
+  pub got-count : {c : Got} {i : ℕ} → c ≡ Got.Count i → (readGot (got x 1 i) ≡ c) × (got x 1 i ≡ laidGot c)
+  got-count e = rw (e, laid) (refl, refl)
+
+  pub got-nothing : {c : Got} → c ≡ Got.Nothing → (readGot (got x 0 0) ≡ c) × (got x 0 0 ≡ laidGot c)
+  got-nothing e = rw (e, laid) (refl, refl)
 
   pub viewed-view : {c : Viewed} {v : View} {s l : ℤ} → s ≡ v .start → l ≡ v .length → c ≡ Viewed.View v
       → (readViewed (viewed x (v .first) s l) ≡ c) × (viewed x (v .first) s l ≡ laidViewed c)

@@ -8,6 +8,10 @@ use mathlib.Core.Path.{_≡_}
 use lib.IntN.{ℤ, pos}
 use lib.ListN.{getD}
 use Rattle.num.specs.Numbers.{residue, signed}
+use Rattle.batch.specs.declared.Got.{Got}
+use Rattle.batch.specs.Batch.{Entry, WritesBatch}
+use Rattle.batch.specs.Calls.{WritesGot}
+use Rattle.collapse.specs.Collapse.{WritesCollapse}
 use Rattle.column.specs.declared.answer.Batched.{Batched}
 use Rattle.column.specs.declared.answer.Checked.{Checked}
 use Rattle.column.specs.declared.answer.Counted.{Counted}
@@ -43,6 +47,7 @@ use Rattle.ffi.specs.declared.RlCounted.{RlCounted}
 use Rattle.ffi.specs.declared.RlEquality.{RlEquality}
 use Rattle.ffi.specs.declared.RlFill.{RlFill}
 use Rattle.ffi.specs.declared.RlFound.{RlFound}
+use Rattle.ffi.specs.declared.RlGot.{RlGot}
 use Rattle.ffi.specs.declared.RlPart.{RlPart}
 use Rattle.ffi.specs.declared.RlPlannedMany.{RlPlannedMany}
 use Rattle.ffi.specs.declared.RlReduced.{RlReduced}
@@ -94,6 +99,9 @@ readPlannedMany r = cond (eqb (r .refusal .number) 0) (PlannedMany.Counts (r .se
 
 abbrev pub readFound : RlFound → Found
 readFound r = cond (eqb (r .refusal .number) 0) (cond (eqb (r .found) 0) Found.Nothing (Found.At (r .index))) (Found.Refused (readRefusal (r .refusal)))
+
+abbrev pub readGot : RlGot → Got
+readGot r = cond (eqb (r .refusal .number) 0) (cond (eqb (r .found) 0) Got.Nothing (Got.Count (r .count))) (Got.Refused (readRefusal (r .refusal)))
 
 abbrev pub readViewed : RlViewed → Viewed
 readViewed r =
@@ -166,6 +174,11 @@ abbrev pub laidFound : Found → RlFound
 laidFound (Found.At i) = record { refusal = laidChecked Checked.Valid; found = 1; index = i }
 laidFound Found.Nothing = record { refusal = laidChecked Checked.Valid; found = 0; index = 0 }
 laidFound (Found.Refused r) = record { refusal = laidRefusal r; found = 0; index = 0 }
+
+abbrev pub laidGot : Got → RlGot
+laidGot (Got.Count n) = record { refusal = laidChecked Checked.Valid; found = 1; count = n }
+laidGot Got.Nothing = record { refusal = laidChecked Checked.Valid; found = 0; count = 0 }
+laidGot (Got.Refused r) = record { refusal = laidRefusal r; found = 0; count = 0 }
 
 abbrev pub laidViewed : Viewed → RlViewed
 laidViewed (Viewed.View v) = record { refusal = laidChecked Checked.Valid; first = v .first; start = v .start; length = v .length }
@@ -241,3 +254,12 @@ LaidPlanMany o r e e′ x x′ = Laid readPlannedMany laidPlannedMany (λ c. Wri
 
 abbrev pub LaidFlat : Outcome (List Runs) → RlBatched → List ℕ → List ℕ → List ℤ → List ℤ → List ℤ → List ℤ → Type 0
 LaidFlat o r x x′ e e′ v v′ = Laid readBatched laidBatched (λ c. WritesFlat o c x x′ e e′ v v′) r
+
+abbrev pub LaidGot : Outcome (Option Runs) → RlGot → List ℤ → List ℤ → List ℤ → List ℤ → Type 0
+LaidGot o r e e′ v v′ = Laid readGot laidGot (λ c. WritesGot o c e e′ v v′) r
+
+abbrev pub LaidBatch : Outcome (List Entry) → RlBatched → List ℕ → List ℕ → List ℕ → List ℕ → List ℤ → List ℤ → List ℤ → List ℤ → Type 0
+LaidBatch o r k k′ x x′ e e′ v v′ = Laid readBatched laidBatched (λ c. WritesBatch o c k k′ x x′ e e′ v v′) r
+
+abbrev pub LaidCollapse : Outcome (List Entry) → ℕ → RlBatched → List ℕ → List ℕ → List ℕ → List ℕ → List ℤ → List ℤ → List ℤ → List ℤ → List ℤ → List ℤ → List ℤ → List ℤ → Type 0
+LaidCollapse o n r k k′ x x′ e e′ v v′ s s′ t t′ = Laid readBatched laidBatched (λ c. WritesCollapse o n c k k′ x x′ e e′ v v′ s s′ t t′) r

@@ -1,4 +1,5 @@
 // The structs of the C interface, and the answers of the calls laid flat in them.
+use batch::Got;
 use column::answer::Batched;
 use column::answer::Checked;
 use column::answer::Counted;
@@ -16,7 +17,7 @@ use slice::Part;
 use slice::Viewed;
 ghost use mathlib.Core.Path.{_≡_};
 ghost use Rattle.ffi.specs.Reading as Reading;
-ghost use Rattle.ffi.specs.Reading.{readRefusal, readChecked, readCounted, readEquality, readFound, readViewed, readPart, readBatched, readSummed, readReduced, readPlannedMany, readFill, laidRefusal, laidChecked, laidCounted, laidEquality, laidFound, laidViewed, laidBatched, laidSummed, laidReduction, laidReduced, laidPlannedMany};
+ghost use Rattle.ffi.specs.Reading.{readRefusal, readChecked, readCounted, readEquality, readFound, readGot, readViewed, readPart, readBatched, readSummed, readReduced, readPlannedMany, readFill, laidRefusal, laidChecked, laidCounted, laidEquality, laidFound, laidGot, laidViewed, laidBatched, laidSummed, laidReduction, laidReduced, laidPlannedMany};
 
 // A refusal: document 01's number, its values in document 01's order as 64 bits each (0 where it has fewer), and the position that it
 // may carry, with 1 in `in_key`. All 0 with an answer.
@@ -58,6 +59,14 @@ pub struct RlFound {
     pub refusal: RlRefusal,
     pub found: u64,
     pub index: usize,
+}
+
+// `found` is 1 or 0, and 0 with a refusal; without a find the count is 0.
+#[repr(C)]
+pub struct RlGot {
+    pub refusal: RlRefusal,
+    pub found: u64,
+    pub count: usize,
 }
 
 // All are 0 with a refusal.
@@ -279,6 +288,37 @@ pub fn found(f: Found) -> RlFound
                 refusal,
                 found: 0,
                 index: 0,
+            }
+        }
+    }
+}
+
+pub fn got(g: Got) -> RlGot
+    ensures { λ x. ⌜ (readGot x ≡ g) × (x ≡ laidGot g) ⌝ }
+{
+    match g {
+        Got::Count(count) => {
+            let refusal = checked(Checked::Valid);
+            RlGot {
+                refusal,
+                found: 1,
+                count,
+            }
+        }
+        Got::Nothing => {
+            let refusal = checked(Checked::Valid);
+            RlGot {
+                refusal,
+                found: 0,
+                count: 0,
+            }
+        }
+        Got::Refused(r) => {
+            let refusal = refused(r);
+            RlGot {
+                refusal,
+                found: 0,
+                count: 0,
             }
         }
     }

@@ -4,6 +4,7 @@ use ffi::RlCounted;
 use ffi::RlEquality;
 use ffi::RlFill;
 use ffi::RlFound;
+use ffi::RlGot;
 use ffi::RlPart;
 use ffi::RlPlannedMany;
 use ffi::RlReduced;
@@ -12,12 +13,21 @@ use ffi::RlRle;
 use ffi::RlSummed;
 use ffi::RlViewed;
 use rle::Rle;
+ghost use Prim.Native.Nat.{_*_};
 ghost use mathlib.Core.List.{[], _∷_};
 ghost use mathlib.Core.Path.{_≡_};
 ghost use lib.ListN.{length};
+ghost use Rattle.batch.specs.Batch.{batch};
+ghost use Rattle.batch.specs.Calls as batches;
+ghost use Rattle.collapse.specs.Collapse as collapse;
 ghost use Rattle.column.specs.Flat.{flat};
 ghost use Rattle.column.specs.Runs.{sequence};
-ghost use Rattle.ffi.specs.Reading.{readFill, LaidCheck, LaidEquality, LaidFound, LaidViewed, LaidSum, LaidReduced, LaidPart, LaidRuns, LaidEntries, LaidRanges, LaidGroups, LaidReductions, LaidPlan, LaidPlanMany, LaidFlat};
+ghost use Rattle.concat.specs.Concat as concat;
+ghost use Rattle.each.specs.Each as each;
+ghost use Rattle.ffi.specs.Reading.{readFill, LaidCheck, LaidEquality, LaidFound, LaidViewed, LaidSum, LaidReduced, LaidPart, LaidRuns, LaidEntries, LaidRanges, LaidGroups, LaidReductions, LaidPlan, LaidPlanMany, LaidFlat, LaidGot, LaidBatch, LaidCollapse};
+ghost use Rattle.items.specs.Items as items;
+ghost use Rattle.join.specs.Zip as join;
+ghost use Rattle.keys.specs.Keys as lookup;
 ghost use Rattle.many.specs.Many as many;
 ghost use Rattle.merge.specs.Merge as merge;
 ghost use Rattle.ops.specs.Ops as ops;
@@ -483,4 +493,278 @@ pub extern "C" fn rl_slice_reduce(
         (now («out_kinds» .entry)) (now («out_kinds» .exit)) (now («out_bits» .entry)) (now («out_bits» .exit)) ⌝ }
 {
     ffi::counted(reduce::slice_reduce(ends, values, starts, stops, code, ddof, out_kinds, out_bits))
+}
+
+#[no_mangle]
+pub extern "C" fn rl_batch_from_parts(
+    keys: &[u32],
+    offsets: &[usize],
+    ends: &[i64],
+    values: &[i64],
+) -> RlRefusal
+    ensures { λ r. ⌜ LaidCheck (batches.fromParts (batch (now (keys .entry)) (now (offsets .entry)) (now (ends .entry)) (now (values .entry)))) r ⌝ }
+{
+    ffi::checked(batch::from_parts(keys, offsets, ends, values))
+}
+
+#[no_mangle]
+pub extern "C" fn rl_batch_position(keys: &[u32], key: u32) -> RlFound
+    ensures { λ r. ⌜ LaidFound (lookup.position (now (keys .entry)) key) r ⌝ }
+{
+    ffi::found(keys::position(keys, key))
+}
+
+#[no_mangle]
+pub extern "C" fn rl_batch_get(
+    keys: &[u32],
+    offsets: &[usize],
+    ends: &[i64],
+    values: &[i64],
+    key: u32,
+    out_ends: &mut [i64],
+    out_values: &mut [i64],
+) -> RlGot
+    ensures { λ r. ⌜ LaidGot
+        (batches.get (batch (now (keys .entry)) (now (offsets .entry)) (now (ends .entry)) (now (values .entry))) key (length (now («out_ends» .entry)) ∷ length (now («out_values» .entry)) ∷ [])) r
+        (now («out_ends» .entry)) (now («out_ends» .exit)) (now («out_values» .entry)) (now («out_values» .exit)) ⌝ }
+{
+    ffi::got(batch::get(keys, offsets, ends, values, key, out_ends, out_values))
+}
+
+#[no_mangle]
+pub extern "C" fn rl_batch_getitems(
+    keys: &[u32],
+    offsets: &[usize],
+    ends: &[i64],
+    values: &[i64],
+    get_keys: &[u32],
+    starts: &[i64],
+    stops: &[i64],
+    out_offsets: &mut [usize],
+    out_ends: &mut [i64],
+    out_values: &mut [i64],
+) -> RlBatched
+    ensures { λ r. ⌜ LaidFlat
+        (items.getitems (batch (now (keys .entry)) (now (offsets .entry)) (now (ends .entry)) (now (values .entry))) (now («get_keys» .entry)) (now (starts .entry)) (now (stops .entry)) (length (now («out_offsets» .entry)) ∷ length (now («out_ends» .entry)) ∷ length (now («out_values» .entry)) ∷ [])) r
+        (now («out_offsets» .entry)) (now («out_offsets» .exit)) (now («out_ends» .entry)) (now («out_ends» .exit)) (now («out_values» .entry)) (now («out_values» .exit)) ⌝ }
+{
+    ffi::batched(items::getitems(
+        keys,
+        offsets,
+        ends,
+        values,
+        get_keys,
+        starts,
+        stops,
+        out_offsets,
+        out_ends,
+        out_values,
+    ))
+}
+
+#[no_mangle]
+pub extern "C" fn rl_batch_slice_reduce(
+    keys: &[u32],
+    offsets: &[usize],
+    ends: &[i64],
+    values: &[i64],
+    get_keys: &[u32],
+    starts: &[i64],
+    stops: &[i64],
+    code: u8,
+    ddof: i64,
+    out_kinds: &mut [u8],
+    out_bits: &mut [u64],
+) -> RlCounted
+    ensures { λ r. ⌜ LaidReductions
+        (items.sliceReduce (batch (now (keys .entry)) (now (offsets .entry)) (now (ends .entry)) (now (values .entry))) (now («get_keys» .entry)) (now (starts .entry)) (now (stops .entry)) code ddof (length (now («out_kinds» .entry)) ∷ length (now («out_bits» .entry)) ∷ [])) r
+        (now («out_kinds» .entry)) (now («out_kinds» .exit)) (now («out_bits» .entry)) (now («out_bits» .exit)) ⌝ }
+{
+    ffi::counted(items::slice_reduce(
+        keys,
+        offsets,
+        ends,
+        values,
+        get_keys,
+        starts,
+        stops,
+        code,
+        ddof,
+        out_kinds,
+        out_bits,
+    ))
+}
+
+#[no_mangle]
+pub extern "C" fn rl_batch_shift(
+    keys: &[u32],
+    offsets: &[usize],
+    ends: &[i64],
+    values: &[i64],
+    distance: i64,
+    fill: i64,
+    out_keys: &mut [u32],
+    out_offsets: &mut [usize],
+    out_ends: &mut [i64],
+    out_values: &mut [i64],
+) -> RlBatched
+    ensures { λ r. ⌜ LaidBatch
+        (each.shift (batch (now (keys .entry)) (now (offsets .entry)) (now (ends .entry)) (now (values .entry))) distance fill (length (now («out_keys» .entry)) ∷ length (now («out_offsets» .entry)) ∷ length (now («out_ends» .entry)) ∷ length (now («out_values» .entry)) ∷ [])) r
+        (now («out_keys» .entry)) (now («out_keys» .exit)) (now («out_offsets» .entry)) (now («out_offsets» .exit)) (now («out_ends» .entry)) (now («out_ends» .exit)) (now («out_values» .entry)) (now («out_values» .exit)) ⌝ }
+{
+    ffi::batched(each::shift(
+        keys,
+        offsets,
+        ends,
+        values,
+        distance,
+        fill,
+        out_keys,
+        out_offsets,
+        out_ends,
+        out_values,
+    ))
+}
+
+#[no_mangle]
+pub extern "C" fn rl_batch_reversed(
+    keys: &[u32],
+    offsets: &[usize],
+    ends: &[i64],
+    values: &[i64],
+    out_keys: &mut [u32],
+    out_offsets: &mut [usize],
+    out_ends: &mut [i64],
+    out_values: &mut [i64],
+) -> RlBatched
+    ensures { λ r. ⌜ LaidBatch
+        (each.reversed (batch (now (keys .entry)) (now (offsets .entry)) (now (ends .entry)) (now (values .entry))) (length (now («out_keys» .entry)) ∷ length (now («out_offsets» .entry)) ∷ length (now («out_ends» .entry)) ∷ length (now («out_values» .entry)) ∷ [])) r
+        (now («out_keys» .entry)) (now («out_keys» .exit)) (now («out_offsets» .entry)) (now («out_offsets» .exit)) (now («out_ends» .entry)) (now («out_ends» .exit)) (now («out_values» .entry)) (now («out_values» .exit)) ⌝ }
+{
+    ffi::batched(each::reversed(
+        keys,
+        offsets,
+        ends,
+        values,
+        out_keys,
+        out_offsets,
+        out_ends,
+        out_values,
+    ))
+}
+
+#[no_mangle]
+pub extern "C" fn rl_batch_collapse(
+    keys: &[u32],
+    offsets: &[usize],
+    ends: &[i64],
+    values: &[i64],
+    new_keys: &[u32],
+    fill: RlFill,
+    code: u8,
+    out_keys: &mut [u32],
+    out_offsets: &mut [usize],
+    out_ends: &mut [i64],
+    out_values: &mut [i64],
+    scratch_ends: &mut [i64],
+    scratch_values: &mut [i64],
+) -> RlBatched
+    ensures { λ r. ⌜ LaidCollapse
+        (collapse.collapse (batch (now (keys .entry)) (now (offsets .entry)) (now (ends .entry)) (now (values .entry))) (now («new_keys» .entry)) (readFill fill) code
+        (length (now («out_keys» .entry)) ∷ length (now («out_offsets» .entry)) ∷ length (now («out_ends» .entry)) ∷ length (now («out_values» .entry)) ∷ length (now («scratch_ends» .entry)) ∷ length (now («scratch_values» .entry)) ∷ [])) (2 * length (now (ends .entry))) r
+        (now («out_keys» .entry)) (now («out_keys» .exit)) (now («out_offsets» .entry)) (now («out_offsets» .exit)) (now («out_ends» .entry)) (now («out_ends» .exit)) (now («out_values» .entry)) (now («out_values» .exit)) (now («scratch_ends» .entry)) (now («scratch_ends» .exit)) (now («scratch_values» .entry)) (now («scratch_values» .exit)) ⌝ }
+{
+    ffi::batched(collapse::collapse(
+        keys,
+        offsets,
+        ends,
+        values,
+        new_keys,
+        ffi::fill(fill),
+        code,
+        out_keys,
+        out_offsets,
+        out_ends,
+        out_values,
+        scratch_ends,
+        scratch_values,
+    ))
+}
+
+#[no_mangle]
+pub extern "C" fn rl_batch_concat(
+    a_keys: &[u32],
+    a_offsets: &[usize],
+    a_ends: &[i64],
+    a_values: &[i64],
+    b_keys: &[u32],
+    b_offsets: &[usize],
+    b_ends: &[i64],
+    b_values: &[i64],
+    out_keys: &mut [u32],
+    out_offsets: &mut [usize],
+    out_ends: &mut [i64],
+    out_values: &mut [i64],
+) -> RlBatched
+    ensures { λ r. ⌜ LaidBatch
+        (concat.concat (batch (now («a_keys» .entry)) (now («a_offsets» .entry)) (now («a_ends» .entry)) (now («a_values» .entry))) (batch (now («b_keys» .entry)) (now («b_offsets» .entry)) (now («b_ends» .entry)) (now («b_values» .entry))) (length (now («out_keys» .entry)) ∷ length (now («out_offsets» .entry)) ∷ length (now («out_ends» .entry)) ∷ length (now («out_values» .entry)) ∷ [])) r
+        (now («out_keys» .entry)) (now («out_keys» .exit)) (now («out_offsets» .entry)) (now («out_offsets» .exit)) (now («out_ends» .entry)) (now («out_ends» .exit)) (now («out_values» .entry)) (now («out_values» .exit)) ⌝ }
+{
+    ffi::batched(concat::concat(
+        a_keys,
+        a_offsets,
+        a_ends,
+        a_values,
+        b_keys,
+        b_offsets,
+        b_ends,
+        b_values,
+        out_keys,
+        out_offsets,
+        out_ends,
+        out_values,
+    ))
+}
+
+#[no_mangle]
+pub extern "C" fn rl_batch_zip_with(
+    a_keys: &[u32],
+    a_offsets: &[usize],
+    a_ends: &[i64],
+    a_values: &[i64],
+    b_keys: &[u32],
+    b_offsets: &[usize],
+    b_ends: &[i64],
+    b_values: &[i64],
+    how: u8,
+    fill_a: RlFill,
+    fill_b: RlFill,
+    code: u8,
+    out_keys: &mut [u32],
+    out_offsets: &mut [usize],
+    out_ends: &mut [i64],
+    out_values: &mut [i64],
+) -> RlBatched
+    ensures { λ r. ⌜ LaidBatch
+        (join.zipWith (batch (now («a_keys» .entry)) (now («a_offsets» .entry)) (now («a_ends» .entry)) (now («a_values» .entry))) (batch (now («b_keys» .entry)) (now («b_offsets» .entry)) (now («b_ends» .entry)) (now («b_values» .entry))) how (readFill «fill_a») (readFill «fill_b») code (length (now («out_keys» .entry)) ∷ length (now («out_offsets» .entry)) ∷ length (now («out_ends» .entry)) ∷ length (now («out_values» .entry)) ∷ [])) r
+        (now («out_keys» .entry)) (now («out_keys» .exit)) (now («out_offsets» .entry)) (now («out_offsets» .exit)) (now («out_ends» .entry)) (now («out_ends» .exit)) (now («out_values» .entry)) (now («out_values» .exit)) ⌝ }
+{
+    ffi::batched(join::zip_with(
+        a_keys,
+        a_offsets,
+        a_ends,
+        a_values,
+        b_keys,
+        b_offsets,
+        b_ends,
+        b_values,
+        how,
+        ffi::fill(fill_a),
+        ffi::fill(fill_b),
+        code,
+        out_keys,
+        out_offsets,
+        out_ends,
+        out_values,
+    ))
 }

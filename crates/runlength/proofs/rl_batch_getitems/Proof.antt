@@ -1,0 +1,31 @@
+use Rattle.ffi.proofs.Handed.{handed}
+use borrow.Author.Needs.{needs}
+use Rattle.runlength.proofs.rl_batch_getitems.Statement.{statement}
+use Rattle.runlength.proofs.rl_batch_getitems.Tie as tie
+use Rattle.runlength.proofs.rl_batch_getitems.Reads as reads
+use Rattle.runlength.proofs.rl_batch_getitems.Lts as lts
+use Rattle.ffi.proofs.batched.Reads as batched-reads
+use Rattle.items.proofs.getitems.Reads as getitems-reads
+
+getitems-requires : tie.Need-getitems-requires
+getitems-requires c κs = search needs
+
+batched-requires : tie.Need-batched-requires
+batched-requires c κs = search needs
+
+same-length : tie.Need-same-length
+same-length c = search needs
+
+same-length-2 : tie.Need-same-length-2
+same-length-2 c = search needs
+
+same-length-3 : tie.Need-same-length-3
+same-length-3 c = search needs
+
+returns : tie.Need-returns
+returns c = handed (c .batched .ensures) (c .before .before .before .before .before .getitems .ensures)
+
+pub rl-batch-getitems-spec : {M : Type 1} → statement M
+rl-batch-getitems-spec =
+    tie.close
+    (tie.spec getitems-requires batched-requires same-length same-length-2 same-length-3 returns)

@@ -1,0 +1,20 @@
+use Rattle.ffi.proofs.Handed.{handed}
+use borrow.Author.Needs.{needs}
+use Rattle.runlength.proofs.rl_batch_position.Statement.{statement}
+use Rattle.runlength.proofs.rl_batch_position.Tie as tie
+use Rattle.runlength.proofs.rl_batch_position.Reads as reads
+use Rattle.runlength.proofs.rl_batch_position.Lts as lts
+use Rattle.ffi.proofs.found.Reads as found-reads
+use Rattle.keys.proofs.position.Reads as position-reads
+
+position-requires : tie.Need-position-requires
+position-requires c κs = search needs
+
+found-requires : tie.Need-found-requires
+found-requires c κs = search needs
+
+returns : tie.Need-returns
+returns c = handed (c .found .ensures) (c .before .position .ensures)
+
+pub rl-batch-position-spec : {M : Type 1} → statement M
+rl-batch-position-spec = tie.close (tie.spec position-requires found-requires returns)

@@ -1,0 +1,41 @@
+use Rattle.ffi.proofs.Handed.{handed}
+use borrow.Author.Needs.{needs}
+use Rattle.runlength.proofs.rl_batch_reversed.Statement.{statement}
+use Rattle.runlength.proofs.rl_batch_reversed.Tie as tie
+use Rattle.runlength.proofs.rl_batch_reversed.Reads as reads
+use Rattle.runlength.proofs.rl_batch_reversed.Lts as lts
+use Rattle.each.proofs.reversed.Reads as reversed-reads
+use Rattle.ffi.proofs.batched.Reads as batched-reads
+
+reversed-requires : tie.Need-reversed-requires
+reversed-requires c κs = search needs
+
+batched-requires : tie.Need-batched-requires
+batched-requires c κs = search needs
+
+same-length : tie.Need-same-length
+same-length c = search needs
+
+same-length-2 : tie.Need-same-length-2
+same-length-2 c = search needs
+
+same-length-3 : tie.Need-same-length-3
+same-length-3 c = search needs
+
+same-length-4 : tie.Need-same-length-4
+same-length-4 c = search needs
+
+returns : tie.Need-returns
+returns c = handed (c .batched .ensures) (c .before .before .before .before .before .before .before .reversed .ensures)
+
+pub rl-batch-reversed-spec : {M : Type 1} → statement M
+rl-batch-reversed-spec =
+    tie.close
+    (tie.spec
+    reversed-requires
+    batched-requires
+    same-length
+    same-length-2
+    same-length-3
+    same-length-4
+    returns)
