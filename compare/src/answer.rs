@@ -46,6 +46,15 @@ impl Refusal {
         self.number == error as u64
     }
 
+    /// The refusal with the position of a key or a sequence.
+    pub fn at(self, position: usize) -> Self {
+        Refusal {
+            in_key: 1,
+            position: position as u64,
+            ..self
+        }
+    }
+
     /// Every field as the number that it stands for: some values are signed.
     pub fn numbers(&self) -> [i128; 6] {
         let lengths = self.is(Error::UnequalLength) || self.is(Error::LengthTooShort);

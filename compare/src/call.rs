@@ -19,16 +19,18 @@ impl Fill {
     }
 }
 
-/// An argument: a list or lent buffer, also of offsets or indexes, of mask or kind bytes, or of 64
-/// bits each, an i64, a used count, a fill, or a code.
+/// An argument: a list or lent buffer, also of offsets or indexes, of keys, of mask or kind bytes, or
+/// of 64 bits each, an i64, a used count, a key, a fill, or a code.
 #[derive(Clone, PartialEq, Eq)]
 pub enum Arg {
     List(Vec<i64>),
     Places(Vec<usize>),
+    Keys(Vec<u32>),
     Bytes(Vec<u8>),
     Bits(Vec<u64>),
     Number(i64),
     Count(usize),
+    Key(u32),
     Fill(Fill),
     Code(u8),
 }
@@ -39,6 +41,7 @@ impl Arg {
         match (self, buffer) {
             (Arg::List(list), Arg::List(held)) => Arg::List(in_front(list, held)),
             (Arg::Places(list), Arg::Places(held)) => Arg::Places(in_front(list, held)),
+            (Arg::Keys(list), Arg::Keys(held)) => Arg::Keys(in_front(list, held)),
             (Arg::Bytes(list), Arg::Bytes(held)) => Arg::Bytes(in_front(list, held)),
             (Arg::Bits(list), Arg::Bits(held)) => Arg::Bits(in_front(list, held)),
             (list, _) => panic!("not what the buffer holds: {list}"),
@@ -69,12 +72,15 @@ taken_from! {
     &'a mut Arg: List(list) => &'a mut [i64]: list;
     &'a Arg: Places(list) => &'a [usize]: list;
     &'a mut Arg: Places(list) => &'a mut [usize]: list;
+    &'a Arg: Keys(list) => &'a [u32]: list;
+    &'a mut Arg: Keys(list) => &'a mut [u32]: list;
     &'a Arg: Bytes(list) => &'a [u8]: list;
     &'a mut Arg: Bytes(list) => &'a mut [u8]: list;
     &'a Arg: Bits(list) => &'a [u64]: list;
     &'a mut Arg: Bits(list) => &'a mut [u64]: list;
     &'a Arg: Number(number) => i64: *number;
     &'a Arg: Count(count) => usize: *count;
+    &'a Arg: Key(key) => u32: *key;
     &'a Arg: Fill(fill) => Fill: *fill;
     &'a Arg: Code(code) => u8: *code;
 }
@@ -85,6 +91,7 @@ impl fmt::Display for Arg {
         match self {
             Arg::List(list) => write_list(f, list),
             Arg::Places(list) => write_list(f, list),
+            Arg::Keys(list) => write_list(f, list),
             Arg::Bytes(list) => write_list(f, list),
             Arg::Bits(list) => {
                 let signed: Vec<i64> = list.iter().map(|&bits| bits as i64).collect();
@@ -92,6 +99,7 @@ impl fmt::Display for Arg {
             }
             Arg::Number(number) => write!(f, "{number}"),
             Arg::Count(count) => write!(f, "{count}"),
+            Arg::Key(key) => write!(f, "{key}"),
             Arg::Fill(Fill { given, value }) => write!(f, "{given} {value}"),
             Arg::Code(code) => write!(f, "{code}"),
         }
@@ -109,6 +117,9 @@ pub struct Parameter {
     /// Whether it is a buffer that the call may write.
     pub lent: bool,
 }
+
+/// The ends and values of a sequence.
+pub type Runs = (Vec<i64>, Vec<i64>);
 
 /// What an answer counts, and puts in place of the first entries of each lent buffer.
 pub struct Written {
@@ -138,7 +149,7 @@ impl Written {
         }
     }
 
-    pub fn runs(ends: Vec<i64>, values: Vec<i64>) -> Self {
+    pub fn runs((ends, values): Runs) -> Self {
         Written {
             counts: vec![ends.len()],
             lists: vec![Arg::List(ends), Arg::List(values)],
@@ -191,11 +202,26 @@ impl Written {
             lists: vec![Arg::Places(offsets), Arg::List(ends), Arg::List(values)],
         }
     }
+
+    pub fn batch(keys: Vec<u32>, offsets: Vec<usize>, ends: Vec<i64>, values: Vec<i64>) -> Self {
+        let mut flat = Written::flat(offsets, ends, values);
+        flat.lists.insert(0, Arg::Keys(keys));
+        flat
+    }
+
+    /// The sequence of a key, if there is one.
+    pub fn got(sequence: Option<Runs>) -> Self {
+        let found = sequence.is_some().into();
+        let mut runs = Written::runs(sequence.unwrap_or_default());
+        runs.counts.insert(0, found);
+        runs
+    }
 }
 
 pub type Reading = Result<Written, Refusal>;
 
-/// All that a caller sees: the answer, and each lent buffer after the call.
+/// All that a caller sees: the answer, and each lent buffer after the call, but for the entries of
+/// scratch that an answer leaves free; these stand as they were.
 #[derive(PartialEq, Eq)]
 pub struct Outcome {
     pub answer: Answer,
@@ -227,11 +253,41 @@ impl Call {
         !self.parameters.is_empty()
     }
 
+    /// Whether one of its parameters stands for that.
+    pub fn takes(&self, role: Role) -> bool {
+        self.parameters.iter().any(|p| p.role == role)
+    }
+
+    /// Where the buffers that it may write stand among its arguments.
+    pub fn lent_at(&self) -> Vec<usize> {
+        let lent = (0..self.parameters.len()).filter(|&i| self.parameters[i].lent);
+        lent.collect()
+    }
+
     #[cfg(feature = "library")]
-    pub fn library(&self, mut args: Vec<Arg>) -> Outcome {
-        let answer = (self.library)(&mut args);
-        let lent = self.lent(&args).cloned().collect();
+    pub fn library(&self, args: &[Arg]) -> Outcome {
+        let mut after = args.to_vec();
+        let answer = (self.library)(&mut after);
+        if answer.refusal == Refusal::default() {
+            self.restore_free(args, &mut after);
+        }
+        let lent = self.lent(&after).cloned().collect();
         Outcome { answer, lent }
+    }
+
+    /// Puts back what the free entries of scratch held: an answer may leave anything there, in two
+    /// for each run handed in.
+    #[cfg(feature = "library")]
+    fn restore_free(&self, before: &[Arg], after: &mut [Arg]) {
+        let of = |role| (0..before.len()).filter(move |&i| self.parameters[i].role == role);
+        let runs = of(Role::FlatEnds).map(|i| <&[i64]>::from(&before[i]).len());
+        let free = 2 * runs.sum::<usize>();
+        for i in of(Role::Scratch) {
+            let (held, scratch): (&[i64], &mut [i64]) =
+                ((&before[i]).into(), (&mut after[i]).into());
+            let free = free.min(held.len());
+            scratch[..free].copy_from_slice(&held[..free]);
+        }
     }
 
     /// `None` outside the original's domain, which depends on document 01's answer, `naive`.
@@ -386,4 +442,48 @@ calls! {
         ends: EndsA, values: ValuesA, starts: Starts, stops: Stops, code: Reduction, ddof: Ddof;
         out_kinds: KindRoom, out_bits: BitRoom
     ) -> 1;
+    31 batch_from_parts(
+        keys: Keys, offsets: Offsets, ends: FlatEnds, values: FlatValues;
+    ) -> 1;
+    32 batch_position(keys: Keys, key: Key;) -> 2;
+    33 batch_get(
+        keys: Keys, offsets: Offsets, ends: FlatEnds, values: FlatValues, key: Key;
+        out_ends: Room, out_values: Room
+    ) -> 2;
+    34 batch_getitems(
+        keys: Keys, offsets: Offsets, ends: FlatEnds, values: FlatValues,
+        get_keys: GetKeys, starts: Starts, stops: Stops;
+        out_offsets: IndexRoom, out_ends: Room, out_values: Room
+    ) -> 2;
+    35 batch_slice_reduce(
+        keys: Keys, offsets: Offsets, ends: FlatEnds, values: FlatValues,
+        get_keys: GetKeys, starts: Starts, stops: Stops, code: Reduction, ddof: Ddof;
+        out_kinds: KindRoom, out_bits: BitRoom
+    ) -> 1;
+    36 batch_shift(
+        keys: Keys, offsets: Offsets, ends: FlatEnds, values: FlatValues,
+        distance: Distance, fill: Value;
+        out_keys: KeyRoom, out_offsets: IndexRoom, out_ends: Room, out_values: Room
+    ) -> 2;
+    37 batch_reversed(
+        keys: Keys, offsets: Offsets, ends: FlatEnds, values: FlatValues;
+        out_keys: KeyRoom, out_offsets: IndexRoom, out_ends: Room, out_values: Room
+    ) -> 2;
+    39 batch_collapse(
+        keys: Keys, offsets: Offsets, ends: FlatEnds, values: FlatValues,
+        new_keys: NewKeys, fill: Fill, code: Code;
+        out_keys: KeyRoom, out_offsets: IndexRoom, out_ends: Room, out_values: Room,
+        scratch_ends: Scratch, scratch_values: Scratch
+    ) -> 2;
+    40 batch_concat(
+        a_keys: Keys, a_offsets: Offsets, a_ends: FlatEnds, a_values: FlatValues,
+        b_keys: KeysB, b_offsets: OffsetsB, b_ends: FlatEndsB, b_values: FlatValuesB;
+        out_keys: KeyRoom, out_offsets: IndexRoom, out_ends: Room, out_values: Room
+    ) -> 2;
+    41 batch_zip_with(
+        a_keys: Keys, a_offsets: Offsets, a_ends: FlatEnds, a_values: FlatValues,
+        b_keys: KeysB, b_offsets: OffsetsB, b_ends: FlatEndsB, b_values: FlatValuesB,
+        how: How, fill_a: Fill, fill_b: Fill, code: Code;
+        out_keys: KeyRoom, out_offsets: IndexRoom, out_ends: Room, out_values: Room
+    ) -> 2;
 }

@@ -25,10 +25,23 @@ pub enum Role {
     /// Of the second.
     EndsB,
     ValuesB,
-    /// Of any number of sequences laid flat.
+    /// Of any number of sequences laid flat, also of those of a batch, behind its keys.
+    Keys,
     Offsets,
     FlatEnds,
     FlatValues,
+    /// Of the second batch.
+    KeysB,
+    OffsetsB,
+    FlatEndsB,
+    FlatValuesB,
+    /// A key that is looked up, and one for each interval.
+    Key,
+    GetKeys,
+    /// One for each sequence of a batch, which puts it into a group.
+    NewKeys,
+    /// Which keys of two batches are kept.
+    How,
     /// Of intervals.
     Starts,
     Stops,
@@ -49,17 +62,26 @@ pub enum Role {
     Ddof,
     /// A buffer of which the call reads nothing.
     Room,
-    /// Such a buffer for indexes, for kinds of reductions, and for their bits.
+    /// Such a buffer for indexes, for keys, for kinds of reductions, and for their bits.
     IndexRoom,
+    KeyRoom,
     KindRoom,
     BitRoom,
+    /// A buffer whose first entries an answer leaves free.
+    Scratch,
 }
 
 impl Role {
-    /// Whether the parameter says more of the sequences or intervals of the one before it.
-    fn continues(self) -> bool {
+    /// Whether the parameter says more of the sequences or intervals of the one `before` it.
+    fn continues(self, before: Role) -> bool {
         use Role::*;
-        matches!(self, ValuesA | ValuesB | FlatEnds | FlatValues | Stops)
+        match self {
+            Offsets => before == Keys,
+            Starts => before == GetKeys,
+            ValuesA | ValuesB | FlatEnds | FlatValues | Stops | NewKeys => true,
+            OffsetsB | FlatEndsB | FlatValuesB => true,
+            _ => false,
+        }
     }
 }
 
@@ -78,6 +100,7 @@ fn held(parameter: usize, entry: usize) -> i64 {
 fn no_room(role: Role) -> Arg {
     match role {
         Role::IndexRoom => Arg::Places(Vec::new()),
+        Role::KeyRoom => Arg::Keys(Vec::new()),
         Role::KindRoom => Arg::Bytes(Vec::new()),
         Role::BitRoom => Arg::Bits(Vec::new()),
         _ => Arg::List(Vec::new()),
@@ -152,6 +175,11 @@ fn small_args(index: usize, parameter: &Parameter) -> Vec<Arg> {
             .collect(),
         Role::Reduction => [0, 1, 2, 3].map(Arg::Code).to_vec(),
         Role::Ddof => numbers(&[MIN, -1, 0, 1, 2, 3, MAX]),
+        Role::Keys => lists_up_to(&[0, 1, 2, u32::MAX], 5)
+            .map(Arg::Keys)
+            .collect(),
+        Role::Key => [0, 1, 2, 3, u32::MAX].map(Arg::Key).to_vec(),
+        Role::How => [0, 1, 2, 3, 4].map(Arg::Code).to_vec(),
         Role::Room | Role::IndexRoom => rooms(index, parameter.role, 6),
         Role::KindRoom | Role::BitRoom => rooms(index, parameter.role, 3),
         Role::ValuesA
@@ -159,8 +187,16 @@ fn small_args(index: usize, parameter: &Parameter) -> Vec<Arg> {
         | Role::Offsets
         | Role::FlatEnds
         | Role::FlatValues
+        | Role::KeysB
+        | Role::OffsetsB
+        | Role::FlatEndsB
+        | Role::FlatValuesB
+        | Role::GetKeys
+        | Role::NewKeys
         | Role::Starts
-        | Role::Stops => panic!("no argument by itself: {}", parameter.name),
+        | Role::Stops
+        | Role::KeyRoom
+        | Role::Scratch => panic!("no argument by itself: {}", parameter.name),
     }
 }
 
@@ -201,9 +237,14 @@ fn list(entries: &[i64]) -> Arg {
     Arg::List(entries.to_vec())
 }
 
+/// Sequences of at most two positions.
+fn smallest_columns() -> Vec<Column> {
+    const ENDS: &[&[i64]] = &[&[], &[1], &[2], &[1, 2]];
+    ENDS.iter().flat_map(|ends| with_values(ends)).collect()
+}
+
 /// Up to three small sequences and about 128 alike, laid flat, and damaged ones.
 fn small_flat() -> Vec<Vec<Arg>> {
-    const ENDS: &[&[i64]] = &[&[], &[1], &[2], &[1, 2]];
     // 129 sequences, of which the last alone has a run.
     const TOO_MANY: &[usize] = &{
         let mut offsets = [0; 130];
@@ -230,21 +271,157 @@ fn small_flat() -> Vec<Vec<Arg>> {
         (&[0, 1, 3], &[MAX, 1, 1], &[7, 7, 7]),
         (TOO_MANY, &[0], &[7]),
     ];
-    let small: Vec<Column> = ENDS.iter().flat_map(|ends| with_values(ends)).collect();
+    let small = smallest_columns();
     let few = (0..=3).flat_map(|number| combinations(vec![small.clone(); number]));
     let many = [127, 128, 129].into_iter().flat_map(|number| {
         let ends: [&[i64]; 3] = [&[], &[1], &[MAX]];
         ends.map(|ends| vec![Column::new(ends, vec![7; ends.len()]); number])
     });
-    let valid = few.chain(many).map(|columns| {
-        let lists = [flat_ends(&columns), flat_values(&columns)];
-        let [ends, values] = lists.map(Arg::List);
-        vec![Arg::Places(offsets(&columns)), ends, values]
-    });
+    let valid = few.chain(many).map(|columns| laid_flat(&columns).to_vec());
     let damaged = DAMAGED.iter().map(|(offsets, ends, values)| {
         vec![Arg::Places(offsets.to_vec()), list(ends), list(values)]
     });
     valid.chain(damaged).collect()
+}
+
+fn laid_flat(columns: &[Column]) -> [Arg; 3] {
+    let ends = Arg::List(flat_ends(columns));
+    let values = Arg::List(flat_values(columns));
+    [Arg::Places(offsets(columns)), ends, values]
+}
+
+fn batch(keys: &[u32], columns: &[Column]) -> Vec<Arg> {
+    [&[Arg::Keys(keys.to_vec())], &laid_flat(columns)[..]].concat()
+}
+
+/// The smallest sequences in turn, so many of them, from the first or a later one on.
+fn in_turn(first: usize, count: usize) -> Vec<Column> {
+    let columns = smallest_columns().into_iter().cycle();
+    columns.skip(first).take(count).collect()
+}
+
+/// Batches of these keys, their sequences in turn from so many different ones on, and damaged ones.
+fn batches(key_lists: impl Iterator<Item = Vec<u32>>, turns: usize) -> Vec<Vec<Arg>> {
+    let of_keys = |keys: Vec<u32>| {
+        let batch = move |first| batch(&keys, &in_turn(first, keys.len()));
+        (0..turns).map(batch)
+    };
+    key_lists
+        .flat_map(of_keys)
+        .chain(damaged_batches())
+        .collect()
+}
+
+fn damaged_batches() -> impl Iterator<Item = Vec<Arg>> {
+    type Parts = (
+        &'static [u32],
+        &'static [usize],
+        &'static [i64],
+        &'static [i64],
+    );
+    const DAMAGED: &[Parts] = &[
+        (&[], &[], &[], &[]),
+        (&[], &[0, 0], &[], &[]),
+        (&[1], &[], &[1], &[]),
+        (&[1], &[0], &[], &[]),
+        (&[1], &[0, 1, 1], &[1], &[7]),
+        (&[1], &[0, 1], &[1], &[]),
+        (&[1], &[1, 1], &[0], &[7]),
+        (&[1], &[0, 1], &[1, 2], &[7, 7]),
+        (&[1], &[0, usize::MAX], &[1], &[7]),
+        (&[2, 1], &[0, 2, 1], &[1], &[7]),
+        (&[2, 1], &[0, usize::MAX, 1], &[1], &[7]),
+        (&[1], &[0, 1], &[0], &[7]),
+        (&[2, 2], &[0, 1, 3], &[1, 2, 2], &[7, 7, -2]),
+        (&[2, 1], &[0, 2, 3], &[2, 2, 0], &[7, 7, 7]),
+    ];
+    DAMAGED.iter().map(|(keys, offsets, ends, values)| {
+        let keys = Arg::Keys(keys.to_vec());
+        let offsets = Arg::Places(offsets.to_vec());
+        vec![keys, offsets, list(ends), list(values)]
+    })
+}
+
+/// Lists of up to five keys, also of double ones.
+fn key_lists() -> impl Iterator<Item = Vec<u32>> {
+    const MORE: &[&[u32]] = &[
+        &[1, 2, 3],
+        &[3, 1, 2],
+        &[2, 1, 2],
+        &[1, 2, 3, 4],
+        &[4, 2, 3, 0],
+        &[1, 2, 3, 4, 5],
+        &[5, 3, 1, 2, 4],
+        &[1, 2, 1, 2, 1],
+    ];
+    let more = MORE.iter().map(|keys| keys.to_vec());
+    lists_up_to(&[1, 2, 3], 2).chain(more)
+}
+
+/// Batches for a call that takes one: fewer where there is much to combine them with, more where
+/// keys are all that matters.
+fn small_batches(call: &Call) -> Vec<Vec<Arg>> {
+    if call.takes(Role::Reduction) {
+        batches(key_lists(), 3)
+    } else if call.takes(Role::GetKeys) || call.takes(Role::KeyRoom) {
+        batches(key_lists(), 9)
+    } else {
+        let mut batches = batches(lists_up_to(&[0, 1, 2, 3, u32::MAX], 5), 9);
+        batches.extend(many_keys().map(|keys| batch(&keys, &in_turn(0, keys.len()))));
+        batches
+    }
+}
+
+/// More keys than are worth looking at one by one, descending or scattered, with none twice, and
+/// with one that is, near or far.
+fn many_keys() -> impl Iterator<Item = Vec<u32>> {
+    const COUNT: usize = 9000;
+    const STEPS: [u32; 3] = [1, 1 << 16, 0x9e37_79b9];
+    const DOUBLES: [[usize; 2]; 3] = [[0, 0], [0, COUNT - 1], [COUNT / 2, COUNT / 2 + 1]];
+    STEPS.into_iter().flat_map(|step| {
+        DOUBLES.into_iter().map(move |[first, second]| {
+            let descending = (0..COUNT as u32).rev();
+            let mut keys: Vec<u32> = descending.map(|k| k.wrapping_mul(step)).collect();
+            keys[second] = keys[first];
+            keys
+        })
+    })
+}
+
+/// Batches for a call that takes two.
+fn small_pairs() -> Vec<Vec<Arg>> {
+    let mut pairs = batches(key_lists(), 2);
+    // Together they are too long.
+    let longest = [&[1], &[MAX]].map(|ends| Column::new(ends, vec![7]));
+    pairs.push(batch(&[2, 1], &longest));
+    pairs
+}
+
+/// Batches of up to five keys with a new key for each, and damaged ones.
+fn small_groups() -> Vec<Vec<Arg>> {
+    let every = (0..=3).flat_map(|count| combinations(vec![smallest_columns(); count]));
+    let more = (4..=5).flat_map(|count| (0..9).map(move |first| in_turn(first, count)));
+    let groups = every.chain(more).flat_map(|columns| {
+        let keys: Vec<u32> = (1..).take(columns.len()).collect();
+        let batch = batch(&keys, &columns);
+        let new_keys = lists_of(&[2, 0, u32::MAX], columns.len());
+        new_keys.map(move |keys| [&batch[..], &[Arg::Keys(keys)]].concat())
+    });
+    let damaged = damaged_batches().flat_map(|batch| {
+        let new_keys = lists_up_to(&[1], 2);
+        new_keys.map(move |keys| [&batch[..], &[Arg::Keys(keys)]].concat())
+    });
+    groups.chain(damaged).collect()
+}
+
+/// Up to two small intervals with a key for each, valid, and damaged.
+fn small_lookups() -> Vec<Vec<Arg>> {
+    let lookups = small_intervals().into_iter().flat_map(|intervals| {
+        let count = <&[i64]>::from(&intervals[0]).len();
+        let keys = lists_of(&[1, 3], count).chain([vec![2; count], vec![2; count + 1]]);
+        keys.map(move |keys| [&[Arg::Keys(keys)], &intervals[..]].concat())
+    });
+    lookups.collect()
 }
 
 /// Up to two small intervals, valid, and damaged.
@@ -268,7 +445,42 @@ fn small_intervals() -> Vec<Vec<Arg>> {
     one.chain(pairs).collect()
 }
 
-/// Seams of document 01 whose numbers are floats.
+/// Batches that have keys in common and sequences of several lengths, for a call that joins two or
+/// gathers one's.
+fn meeting_batches(call: &Call) -> Vec<Vec<Arg>> {
+    let columns =
+        |runs: [(&[i64], &[i64]); 3]| runs.map(|(ends, values)| Column::new(ends, values.to_vec()));
+    let a = columns([(&[1], &[7]), (&[1], &[2]), (&[2, 3], &[7, 1])]);
+    let b = columns([(&[1, 2], &[1, 7]), (&[2], &[3]), (&[3], &[7])]);
+    let (a, b) = (batch(&[4, 1, 9], &a), batch(&[9, 2, 4], &b));
+    let fill = |value| Arg::Fill(Fill { given: 1, value });
+    let add = Arg::Code(0);
+    let inputs: Vec<Vec<Arg>> = match call.name {
+        "batch_collapse" => [[6, 6, 6], [6, 0, 6]]
+            .map(|new_keys| {
+                let more = [Arg::Keys(new_keys.to_vec()), fill(5), add.clone()];
+                [&a[..], &more].concat()
+            })
+            .to_vec(),
+        "batch_concat" => vec![[a, b].concat()],
+        "batch_zip_with" => [0, 1, 2, 3]
+            .map(|how| {
+                let more = [Arg::Code(how), fill(10), fill(20), add.clone()];
+                [&a[..], &b, &more].concat()
+            })
+            .to_vec(),
+        _ => Vec::new(),
+    };
+    let with_rooms = |mut args: Vec<Arg>| {
+        let rooms = call.parameters[args.len()..].iter();
+        args.extend(rooms.map(|room| no_room(room.role)));
+        lengthen_to_need(call, &call.lent_at(), &mut args);
+        args
+    };
+    inputs.into_iter().map(with_rooms).collect()
+}
+
+/// Seams of document 01 whose numbers are floats, and what short random cases seldom show.
 pub fn seams(call: &Call) -> Vec<Vec<Arg>> {
     const MEAN: u8 = 1;
     const VARIANCE: u8 = 2;
@@ -296,24 +508,58 @@ pub fn seams(call: &Call) -> Vec<Vec<Arg>> {
             &[list(&[0, 1]), list(&[MAX, MAX])],
             &[Arg::Bytes(vec![7; 2]), Arg::Bits(vec![7; 2])],
         ),
-        _ => Vec::new(),
+        _ => meeting_batches(call),
     }
 }
 
-/// Every combination of small arguments.
+/// Every combination of small arguments. Of buffers there are those of every small length; a call on
+/// batches, which has too many, gets such as fit, are longer, and are short of an entry.
 pub fn small(call: &Call) -> impl Iterator<Item = Vec<Arg>> {
+    let on_batches = call.takes(Role::Keys);
     let parameters: Vec<(usize, &Parameter)> = call.parameters.iter().enumerate().collect();
-    let groups = parameters.chunk_by(|_, (_, next)| next.role.continues());
+    let groups = parameters.chunk_by(|(_, one), (_, next)| next.role.continues(one.role));
     let choices = groups.map(|group| match group {
+        [(_, room)] if on_batches && room.lent => vec![vec![no_room(room.role)]],
         [(index, parameter)] => {
             let args = small_args(*index, parameter).into_iter();
             args.map(|arg| vec![arg]).collect()
         }
-        [(_, starts), _] if starts.role == Role::Starts => small_intervals(),
-        [_, _] => small_columns(),
-        _ => small_flat(),
+        [(_, first), .., (_, last)] => match (first.role, last.role) {
+            (Role::Starts, _) => small_intervals(),
+            (Role::GetKeys, _) => small_lookups(),
+            (Role::Keys, Role::NewKeys) => small_groups(),
+            (Role::Keys, _) if !call.takes(Role::KeysB) => small_batches(call),
+            (Role::Keys | Role::KeysB, _) => small_pairs(),
+            (Role::Offsets, _) => small_flat(),
+            _ => small_columns(),
+        },
+        [] => unreachable!("a group has a parameter"),
     });
-    combinations(choices.collect()).map(|groups| groups.concat())
+    let combinations = combinations(choices.collect()).map(|groups| groups.concat());
+    combinations.flat_map(move |args| match on_batches {
+        true => fitted(call, args),
+        false => vec![args],
+    })
+}
+
+/// These arguments with buffers as long as document 01 asks, with longer ones, and with one short.
+fn fitted(call: &Call, mut args: Vec<Arg>) -> Vec<Vec<Arg>> {
+    let lent = call.lent_at();
+    lengthen_to_need(call, &lent, &mut args);
+    let mut longer = args.clone();
+    lent.iter()
+        .for_each(|&index| lengthen(&mut longer[index], index, 1 + index % 3));
+    let short = lent.iter().map(|&index| {
+        let mut short = args.clone();
+        shorten(&mut short[index]);
+        short
+    });
+    let mut fitted: Vec<Vec<Arg>> = short.filter(|short| *short != args).collect();
+    if !lent.is_empty() {
+        fitted.push(longer);
+    }
+    fitted.push(args);
+    fitted
 }
 
 /// SplitMix64.
@@ -429,6 +675,18 @@ impl Column {
         Column::new(&ends, values)
     }
 
+    /// Sequences related to this one, under keys of which some are among the given ones.
+    fn related_batch(&self, given: &[u32], rng: &mut Rng) -> Keyed {
+        let keys = related_keys(given, rng);
+        let equal = rng.one_in(3);
+        let columns = keys.iter();
+        let columns = columns.map(|_| self.related(most_runs(keys.len()), equal, rng));
+        Keyed {
+            columns: columns.collect(),
+            keys,
+        }
+    }
+
     /// Values for runs with these ends: what this sequence shows there, but for one at times, or
     /// few different ones.
     fn related_values(&self, ends: &[i64], rng: &mut Rng) -> Vec<i64> {
@@ -519,24 +777,71 @@ impl Column {
         offsets
     }
 
-    /// An argument for a call that takes `columns` and `intervals`, this column standing for all.
-    fn arg(&self, columns: &[Column], intervals: &[[i64; 2]], role: Role, rng: &mut Rng) -> Arg {
-        let length = self.length();
+    /// Runs, some of them of 0 or any number.
+    fn careless_runs(&self, rng: &mut Rng) -> Vec<i64> {
+        let one_in = rng.pick(&[6, 20]);
+        let other = |&run: &i64| match rng.below(one_in) {
+            0 => 0,
+            1 => rng.number(),
+            _ => run,
+        };
+        self.runs.iter().map(other).collect()
+    }
+}
+
+/// Sequences under keys.
+#[derive(Default)]
+struct Keyed {
+    keys: Vec<u32>,
+    columns: Vec<Column>,
+}
+
+/// What the arguments of a call are taken from.
+struct Drawn {
+    /// A sequence that stands for all.
+    column: Column,
+    /// The sequences that the call takes, of a batch with their keys.
+    first: Keyed,
+    /// The second batch, for a call that takes one.
+    second: Keyed,
+    intervals: Vec<[i64; 2]>,
+}
+
+impl Drawn {
+    fn new(call: &Call, rng: &mut Rng) -> Self {
+        let column = Column::random(rng);
+        let columns = columns(call, &column, rng);
+        let keys = match call.takes(Role::Keys) {
+            true => keys(columns.len(), rng),
+            false => Vec::new(),
+        };
+        let second = match call.takes(Role::KeysB) {
+            true => column.related_batch(&keys, rng),
+            false => Keyed::default(),
+        };
+        Drawn {
+            intervals: column.intervals(rng),
+            column,
+            first: Keyed { keys, columns },
+            second,
+        }
+    }
+
+    fn arg(&self, role: Role, rng: &mut Rng) -> Arg {
+        let Drawn {
+            column,
+            first,
+            second,
+            intervals,
+        } = self;
+        let length = column.length();
         let near = rng.below(5) as i64 - 2;
         match role {
-            Role::Runs => {
-                let one_in = rng.pick(&[6, 20]);
-                let other = |&run: &i64| match rng.below(one_in) {
-                    0 => 0,
-                    1 => rng.number(),
-                    _ => run,
-                };
-                Arg::List(self.runs.iter().map(other).collect())
-            }
-            Role::Ends => Arg::List(self.ends()),
-            Role::Values => Arg::List(self.values.clone()),
-            Role::Dense => Arg::List(self.dense()),
-            Role::Used => Arg::Count(self.runs.len()),
+            Role::Runs => Arg::List(column.careless_runs(rng)),
+            Role::Ends => Arg::List(column.ends()),
+            Role::Values => Arg::List(column.values.clone()),
+            Role::Dense => Arg::List(column.dense()),
+            Role::Used => Arg::Count(column.runs.len()),
             Role::Run => Arg::Number(match rng.below(3) {
                 0 => (i64::MAX - length).wrapping_add(near),
                 1 => rng.number(),
@@ -547,28 +852,43 @@ impl Column {
                 1 => length,
                 _ => length.wrapping_add(near),
             }),
-            Role::Value => Arg::Number(self.value(rng)),
-            Role::Position => Arg::Number(self.position(rng)),
+            Role::Value => Arg::Number(column.value(rng)),
+            Role::Position => Arg::Number(column.position(rng)),
             Role::Distance => {
                 let distance = match rng.below(3) {
                     0 => near,
                     1 => length.wrapping_add(near),
-                    _ => self.position(rng),
+                    _ => column.position(rng),
                 };
                 Arg::Number(rng.pick(&[distance, distance.wrapping_neg()]))
             }
-            Role::EndsA => Arg::List(columns[0].ends()),
-            Role::ValuesA => Arg::List(columns[0].values.clone()),
-            Role::EndsB => Arg::List(columns[1].ends()),
-            Role::ValuesB => Arg::List(columns[1].values.clone()),
-            Role::Offsets => Arg::Places(offsets(columns)),
-            Role::FlatEnds => Arg::List(flat_ends(columns)),
-            Role::FlatValues => Arg::List(flat_values(columns)),
+            Role::EndsA => Arg::List(first.columns[0].ends()),
+            Role::ValuesA => Arg::List(first.columns[0].values.clone()),
+            Role::EndsB => Arg::List(first.columns[1].ends()),
+            Role::ValuesB => Arg::List(first.columns[1].values.clone()),
+            Role::Keys => Arg::Keys(first.keys.clone()),
+            Role::Offsets => Arg::Places(offsets(&first.columns)),
+            Role::FlatEnds => Arg::List(flat_ends(&first.columns)),
+            Role::FlatValues => Arg::List(flat_values(&first.columns)),
+            Role::KeysB => Arg::Keys(second.keys.clone()),
+            Role::OffsetsB => Arg::Places(offsets(&second.columns)),
+            Role::FlatEndsB => Arg::List(flat_ends(&second.columns)),
+            Role::FlatValuesB => Arg::List(flat_values(&second.columns)),
+            Role::Key => Arg::Key(key_near(&first.keys, rng)),
+            Role::GetKeys => {
+                let keys = intervals.iter().map(|_| key_near(&first.keys, rng));
+                Arg::Keys(keys.collect())
+            }
+            Role::NewKeys => Arg::Keys(new_keys(first.keys.len(), rng)),
+            Role::How => Arg::Code(match rng.below(16) {
+                0 => rng.pick(&[4, 5, 128, 255]),
+                _ => rng.below(4) as u8,
+            }),
             Role::Starts => Arg::List(intervals.iter().map(|[start, _]| *start).collect()),
             Role::Stops => Arg::List(intervals.iter().map(|[_, stop]| *stop).collect()),
-            Role::GroupOffsets => Arg::Places(self.group_offsets(rng)),
+            Role::GroupOffsets => Arg::Places(column.group_offsets(rng)),
             Role::Mask => {
-                let runs = self.runs.len();
+                let runs = column.runs.len();
                 let one_in = rng.pick(&[1, 2, 2, 4, 8]);
                 let byte = |_| match rng.below(200) {
                     0 => rng.next() as u8,
@@ -586,7 +906,7 @@ impl Column {
             }),
             Role::Fill => Arg::Fill(Fill {
                 given: rng.pick(&[0, 1, 1, 2, u64::MAX]),
-                value: self.value(rng),
+                value: column.value(rng),
             }),
             Role::Code => Arg::Code(match rng.below(16) {
                 0 => rng.pick(&[10, 11, 128, 255]),
@@ -601,9 +921,94 @@ impl Column {
                 1 => length.wrapping_add(near),
                 _ => near,
             }),
-            Role::Room | Role::IndexRoom | Role::KindRoom | Role::BitRoom => no_room(role),
+            Role::Room
+            | Role::IndexRoom
+            | Role::KeyRoom
+            | Role::KindRoom
+            | Role::BitRoom
+            | Role::Scratch => no_room(role),
         }
     }
+}
+
+/// Different keys, ascending, descending or in any order, and at times one of them twice.
+fn keys(count: usize, rng: &mut Rng) -> Vec<u32> {
+    let step = rng.pick(&[1, 1, 7, u32::MAX / 130]);
+    let first = rng.pick(&[0, 1, u32::MAX - 1]);
+    let mut keys: Vec<u32> = (0..count as u32)
+        .map(|k| first.wrapping_add(k * step))
+        .collect();
+    match rng.below(4) {
+        0 => keys.sort(),
+        1 => keys.reverse(),
+        _ => shuffle(&mut keys, rng),
+    }
+    if rng.one_in(8) {
+        repeat_one(&mut keys, rng);
+    }
+    keys
+}
+
+/// Keys of which all, some or none are among the given ones, in the same order or another.
+fn related_keys(given: &[u32], rng: &mut Rng) -> Vec<u32> {
+    let mut keys = given.to_vec();
+    match rng.below(6) {
+        0 | 1 => {}
+        2 => keys.retain(|_| rng.one_in(2)),
+        3 => keys = self::keys(rng.below(6), rng),
+        4 => keys
+            .iter_mut()
+            .for_each(|key| *key = key.wrapping_add(u32::from(rng.one_in(2)) * 100)),
+        _ => keys.extend((0..rng.below(4) as u32).map(|more| 1000 + more)),
+    }
+    match rng.below(3) {
+        0 => {}
+        1 => keys.sort(),
+        _ => shuffle(&mut keys, rng),
+    }
+    if rng.one_in(8) {
+        repeat_one(&mut keys, rng);
+    }
+    keys
+}
+
+pub fn shuffle(keys: &mut [u32], rng: &mut Rng) {
+    for last in (1..keys.len()).rev() {
+        keys.swap(last, rng.below(last + 1));
+    }
+}
+
+/// Puts a key of the list in the place of another, unless there is none.
+fn repeat_one(keys: &mut [u32], rng: &mut Rng) {
+    if !keys.is_empty() {
+        let key = rng.pick(keys);
+        keys[rng.below(keys.len())] = key;
+    }
+}
+
+/// One of the keys, or another.
+fn key_near(keys: &[u32], rng: &mut Rng) -> u32 {
+    match keys {
+        [] => rng.below(3) as u32,
+        _ if rng.one_in(6) => rng.pick(keys).wrapping_add(1),
+        _ => rng.pick(keys),
+    }
+}
+
+/// New keys for so many sequences: equal ones, neighbours, any of a few, or all different.
+fn new_keys(count: usize, rng: &mut Rng) -> Vec<u32> {
+    let groups = rng.pick(&[1, 2, 3, 5]);
+    let first = rng.pick(&[0, u32::MAX - 2]);
+    let order = rng.below(3);
+    let new_key = |k: usize| match order {
+        0 => k / groups,
+        1 => rng.below(groups),
+        _ => k,
+    };
+    (0..count)
+        .map(new_key)
+        .map(|key| first.wrapping_add(key as u32))
+        .collect()
 }
 
 fn offsets(columns: &[Column]) -> Vec<usize> {
@@ -624,17 +1029,22 @@ fn flat_values(columns: &[Column]) -> Vec<i64> {
     values.copied().collect()
 }
 
+/// The most runs of each of so many sequences: of many each is short, so that there is room for the
+/// plan's indexes.
+fn most_runs(sequences: usize) -> usize {
+    if sequences > 16 { 3 } else { usize::MAX }
+}
+
 /// As many sequences as the call takes, most of them related to the first given.
 fn columns(call: &Call, first: &Column, rng: &mut Rng) -> Vec<Column> {
-    let takes = |role| call.parameters.iter().any(|p| p.role == role);
-    let number = match (takes(Role::EndsB), takes(Role::Offsets)) {
+    let any_number = call.takes(Role::Offsets) || call.takes(Role::Keys);
+    let number = match (call.takes(Role::EndsB), any_number) {
         (false, false) => 1,
         (true, _) => 2,
         _ if rng.one_in(10) => rng.pick(&[127, 128, 129]),
         _ => rng.pick(&[0, 1, 2, 2, 3, 3, 4, 5, 8, 16]),
     };
-    // Of many sequences each is short, so that there is room for the plan's indexes.
-    let most = if number > 16 { 3 } else { usize::MAX };
+    let most = most_runs(number);
     let equal = number > 1 && rng.one_in(3);
     let mut columns = Vec::new();
     if number > 0 && first.runs.len() <= most {
@@ -656,15 +1066,10 @@ pub enum Fit {
 
 /// Arguments of a call that takes some, made from random sequences and half the time damaged.
 pub fn random(call: &Call, rng: &mut Rng) -> (Vec<Arg>, Fit) {
-    let column = Column::random(rng);
-    let columns = columns(call, &column, rng);
-    let intervals = column.intervals(rng);
+    let drawn = Drawn::new(call, rng);
     let parameters = call.parameters.iter();
-    let mut args: Vec<Arg> = parameters
-        .map(|p| column.arg(&columns, &intervals, p.role, rng))
-        .collect();
-    let lent = (0..args.len()).filter(|&i| call.parameters[i].lent);
-    let lent: Vec<usize> = lent.collect();
+    let mut args: Vec<Arg> = parameters.map(|p| drawn.arg(p.role, rng)).collect();
+    let lent = call.lent_at();
     lengthen_to_need(call, &lent, &mut args);
     let fit = match lent.len() {
         0 => Fit::Exact,
@@ -710,6 +1115,7 @@ fn lengthen(arg: &mut Arg, index: usize, more: usize) {
         Arg::Places(list) => extend(list, more, |entry| {
             held(index, entry).unsigned_abs() as usize
         }),
+        Arg::Keys(list) => extend(list, more, |entry| held(index, entry).unsigned_abs() as u32),
         Arg::Bytes(list) => extend(list, more, |entry| held(index, entry) as u8),
         Arg::Bits(list) => extend(list, more, |entry| held(index, entry) as u64),
         arg => panic!("no buffer: {arg}"),
@@ -721,6 +1127,7 @@ fn shorten(arg: &mut Arg) {
     match arg {
         Arg::List(list) => drop(list.pop()),
         Arg::Places(list) => drop(list.pop()),
+        Arg::Keys(list) => drop(list.pop()),
         Arg::Bytes(list) => drop(list.pop()),
         Arg::Bits(list) => drop(list.pop()),
         arg => panic!("no buffer: {arg}"),
@@ -734,6 +1141,12 @@ fn damage(arg: &mut Arg, rng: &mut Rng) {
             damage_as_signed(list, |place| place as i64, |number| number as usize, rng)
         }
         Arg::Bits(list) => damage_as_signed(list, |bits| bits as i64, |number| number as u64, rng),
+        Arg::Keys(list) => match rng.below(4) {
+            0 => drop(list.pop()),
+            1 => list.push(key_near(list, rng)),
+            2 => repeat_one(list, rng),
+            _ => shuffle(list, rng),
+        },
         Arg::Bytes(list) => match (rng.below(3), list.len()) {
             (0, _) => drop(list.pop()),
             (1, _) | (_, 0) => list.push(rng.pick(&[0, 1, 2])),
@@ -747,6 +1160,7 @@ fn damage(arg: &mut Arg, rng: &mut Rng) {
                 _ => rng.next() as usize,
             }
         }
+        Arg::Key(key) => *key = rng.next() as u32,
         Arg::Fill(fill) => fill.given = u64::from(fill.given == 0),
         Arg::Code(code) => *code = rng.next() as u8,
     }

@@ -13,3 +13,9 @@ pub mod inputs;
 pub mod library;
 pub mod naive;
 pub mod original;
+
+/// Runs this on a thread of rayon's pool. There the original does its work at once; from any other
+/// thread each of its calls on batches would hand it over and wait.
+pub fn in_pool<R: Send>(run: impl FnOnce() -> R + Send) -> R {
+    rayon::scope(|_| run())
+}

@@ -37,6 +37,13 @@ pub struct Found {
 }
 
 #[repr(C)]
+pub struct Got {
+    pub refusal: Refusal,
+    pub found: u64,
+    pub count: usize,
+}
+
+#[repr(C)]
 pub struct Viewed {
     pub refusal: Refusal,
     pub first: usize,
@@ -90,6 +97,7 @@ answers! {
     Equality: |equality| equality.refusal, [equality.equal as usize];
     PlannedMany: |planned| planned.refusal, [planned.segments, planned.indexes];
     Found: |found| found.refusal, [found.found as usize, found.index];
+    Got: |got| got.refusal, [got.found as usize, got.count];
     Viewed: |viewed| viewed.refusal, [viewed.first, viewed.start as usize, viewed.length as usize];
     Part: |part| Refusal::default(), [part.first, part.count];
     Batched: |batched| batched.refusal, [batched.keys, batched.runs];
@@ -228,4 +236,51 @@ calls! {
         ends: &[i64], values: &[i64], starts: &[i64], stops: &[i64], code: u8, ddof: i64,
         out_kinds: &mut [u8], out_bits: &mut [u64]
     ) -> Counted;
+    rl_batch_from_parts: batch_from_parts(
+        keys: &[u32], offsets: &[usize], ends: &[i64], values: &[i64]
+    ) -> Refusal;
+    rl_batch_position: batch_position(keys: &[u32], key: u32) -> Found;
+    rl_batch_get: batch_get(
+        keys: &[u32], offsets: &[usize], ends: &[i64], values: &[i64], key: u32,
+        out_ends: &mut [i64], out_values: &mut [i64]
+    ) -> Got;
+    rl_batch_getitems: batch_getitems(
+        keys: &[u32], offsets: &[usize], ends: &[i64], values: &[i64],
+        get_keys: &[u32], starts: &[i64], stops: &[i64],
+        out_offsets: &mut [usize], out_ends: &mut [i64], out_values: &mut [i64]
+    ) -> Batched;
+    rl_batch_slice_reduce: batch_slice_reduce(
+        keys: &[u32], offsets: &[usize], ends: &[i64], values: &[i64],
+        get_keys: &[u32], starts: &[i64], stops: &[i64], code: u8, ddof: i64,
+        out_kinds: &mut [u8], out_bits: &mut [u64]
+    ) -> Counted;
+    rl_batch_shift: batch_shift(
+        keys: &[u32], offsets: &[usize], ends: &[i64], values: &[i64], distance: i64, fill: i64,
+        out_keys: &mut [u32], out_offsets: &mut [usize], out_ends: &mut [i64],
+        out_values: &mut [i64]
+    ) -> Batched;
+    rl_batch_reversed: batch_reversed(
+        keys: &[u32], offsets: &[usize], ends: &[i64], values: &[i64],
+        out_keys: &mut [u32], out_offsets: &mut [usize], out_ends: &mut [i64],
+        out_values: &mut [i64]
+    ) -> Batched;
+    rl_batch_collapse: batch_collapse(
+        keys: &[u32], offsets: &[usize], ends: &[i64], values: &[i64],
+        new_keys: &[u32], fill: Fill, code: u8,
+        out_keys: &mut [u32], out_offsets: &mut [usize], out_ends: &mut [i64],
+        out_values: &mut [i64], scratch_ends: &mut [i64], scratch_values: &mut [i64]
+    ) -> Batched;
+    rl_batch_concat: batch_concat(
+        a_keys: &[u32], a_offsets: &[usize], a_ends: &[i64], a_values: &[i64],
+        b_keys: &[u32], b_offsets: &[usize], b_ends: &[i64], b_values: &[i64],
+        out_keys: &mut [u32], out_offsets: &mut [usize], out_ends: &mut [i64],
+        out_values: &mut [i64]
+    ) -> Batched;
+    rl_batch_zip_with: batch_zip_with(
+        a_keys: &[u32], a_offsets: &[usize], a_ends: &[i64], a_values: &[i64],
+        b_keys: &[u32], b_offsets: &[usize], b_ends: &[i64], b_values: &[i64],
+        how: u8, fill_a: Fill, fill_b: Fill, code: u8,
+        out_keys: &mut [u32], out_offsets: &mut [usize], out_ends: &mut [i64],
+        out_values: &mut [i64]
+    ) -> Batched;
 }

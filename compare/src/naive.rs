@@ -2,7 +2,7 @@
 //! and a result is read off that list; the questions stand in document 01's order.
 
 use crate::answer::{Error, Reduction, Refusal};
-use crate::call::{Fill, Reading, Written};
+use crate::call::{Fill, Reading, Runs, Written};
 use std::cmp::Ordering;
 use std::collections::BTreeSet;
 use std::ops::RangeInclusive;
@@ -36,8 +36,8 @@ fn show(ends: &[i64], values: &[i64]) -> Vec<Shown> {
         .collect()
 }
 
-/// The ends and values of listed positions.
-fn listed_runs(shown: &[Shown]) -> (Vec<i64>, Vec<i64>) {
+/// The runs of listed positions.
+fn runs(shown: &[Shown]) -> Runs {
     let (mut ends, mut values, mut position) = (Vec::new(), Vec::new(), 0);
     for entry in shown {
         position += entry.positions;
@@ -49,14 +49,8 @@ fn listed_runs(shown: &[Shown]) -> (Vec<i64>, Vec<i64>) {
     (ends, values)
 }
 
-/// The runs of listed positions.
-fn runs(shown: &[Shown]) -> Written {
-    let (ends, values) = listed_runs(shown);
-    Written::runs(ends, values)
-}
-
 /// The merged runs of listed entries, each some positions and their value.
-fn merged_runs(listed: &[(i64, i64)]) -> Written {
+fn merged_runs(listed: &[(i64, i64)]) -> Runs {
     let entry = |(i, &(positions, value)): (usize, &(i64, i64))| Shown {
         positions,
         value,
@@ -128,15 +122,20 @@ fn positions(sides: &[Side]) -> Vec<i64> {
     }
 }
 
-/// The operation of what all sides show, from the first on, at every position; merged.
-fn zipped(sides: &[Side], code: u8) -> Written {
-    let entry = |pair: &[i64]| {
-        let shown = sides.iter().map(|side| side.at(pair[0]));
-        let value = shown.reduce(|x, y| operation(code, x, y));
-        (pair[1] - pair[0], value.expect("a position is a side's"))
-    };
+/// The value of every position of the sides; merged.
+fn merged_at_each(sides: &[Side], value: impl Fn(i64) -> i64) -> Runs {
+    let entry = |pair: &[i64]| (pair[1] - pair[0], value(pair[0]));
     let listed: Vec<(i64, i64)> = positions(sides).windows(2).map(entry).collect();
     merged_runs(&listed)
+}
+
+/// The operation of what all sides show, from the first on, at every position; merged.
+fn zipped(sides: &[Side], code: u8) -> Runs {
+    merged_at_each(sides, |position| {
+        let shown = sides.iter().map(|side| side.at(position));
+        let value = shown.reduce(|x, y| operation(code, x, y));
+        value.expect("a position is a side's")
+    })
 }
 
 /// An operation by its code.
@@ -190,11 +189,12 @@ fn parts<'a>(offsets: &[usize], list: &'a [i64]) -> Vec<&'a [i64]> {
     offsets.windows(2).map(part).collect()
 }
 
-/// The codes of the operations, of the comparisons among them, of the reductions, and what a mask
-/// byte may be.
+/// The codes of the operations, of the comparisons among them, of the reductions and of the joins,
+/// and what a mask byte may be.
 const OPERATIONS: RangeInclusive<u8> = 0..=9;
 const COMPARISONS: RangeInclusive<u8> = 7..=8;
 const REDUCTIONS: RangeInclusive<u8> = 0..=2;
+const JOINS: RangeInclusive<u8> = 0..=3;
 const FLAGS: RangeInclusive<u8> = 0..=1;
 
 /// Is the code a listed one?
@@ -256,11 +256,7 @@ fn ask_offsets(offsets: &[usize], ends: usize) -> Result<(), Refusal> {
 /// Are the ends of each sequence valid?
 fn ask_each_ends(sequences: &[&[i64]]) -> Result<(), Refusal> {
     for (position, ends) in sequences.iter().enumerate() {
-        ask_ends(ends).map_err(|refusal| Refusal {
-            in_key: 1,
-            position: position as u64,
-            ..refusal
-        })?;
+        ask_ends(ends).map_err(|refusal| refusal.at(position))?;
     }
     Ok(())
 }
@@ -299,17 +295,19 @@ fn ask_intervals(starts: &[i64], stops: &[i64]) -> Result<(), Refusal> {
     Ok(())
 }
 
-/// Has the buffer that is the `which`th the entries needed?
-fn ask_buffer(which: usize, needed: usize, given: usize) -> Result<(), Refusal> {
-    if given < needed {
-        return Err(Error::ShortBuffer.with(&[which as u64, needed as u64, given as u64]));
+/// Has each buffer, in argument order, the entries that it needs?
+fn ask_buffers(needed: &[usize], given: &[usize]) -> Result<(), Refusal> {
+    for (which, (&needed, &given)) in needed.iter().zip(given).enumerate() {
+        if given < needed {
+            return Err(Error::ShortBuffer.with(&[which as u64, needed as u64, given as u64]));
+        }
     }
     Ok(())
 }
 
-/// Has each buffer, in argument order, the entries needed?
+/// Has each buffer the entries needed?
 fn ask_room<const BUFFERS: usize>(needed: usize, given: [usize; BUFFERS]) -> Result<(), Refusal> {
-    (0..BUFFERS).try_for_each(|which| ask_buffer(which, needed, given[which]))
+    ask_buffers(&[needed; BUFFERS], &given)
 }
 
 /// The questions of one sequence.
@@ -338,7 +336,7 @@ pub fn from_runs(
     ask_room(run_lengths.len(), [out_ends.len(), out_values.len()])?;
     let shown = run_lengths.iter().zip(values);
     let shown: Vec<Shown> = shown.flat_map(|(&r, &v)| show_run(r, v)).collect();
-    Ok(runs(&shown))
+    Ok(Written::runs(runs(&shown)))
 }
 
 pub fn from_ends(ends: &[i64], values: &[i64]) -> Reading {
@@ -350,7 +348,7 @@ pub fn repeat(value: i64, length: i64, out_ends: &[i64], out_values: &[i64]) -> 
     ask_run(0, length)?;
     ask_room(1, [out_ends.len(), out_values.len()])?;
     let shown: Vec<Shown> = show_run(length, value).collect();
-    Ok(runs(&shown))
+    Ok(Written::runs(runs(&shown)))
 }
 
 pub fn push_run(ends: &[i64], values: &[i64], used: usize, run: i64, value: i64) -> Reading {
@@ -361,7 +359,7 @@ pub fn push_run(ends: &[i64], values: &[i64], used: usize, run: i64, value: i64)
     ask_room(used + 1, [ends.len(), values.len()])?;
     let mut shown = show(&ends[..used], values);
     shown.extend(show_run(run, value));
-    Ok(runs(&shown))
+    Ok(Written::runs(runs(&shown)))
 }
 
 pub fn extend_to(ends: &[i64], values: &[i64], used: usize, length: i64, value: i64) -> Reading {
@@ -377,13 +375,13 @@ pub fn extend_to(ends: &[i64], values: &[i64], used: usize, length: i64, value: 
         last.seam = length == present || last.value != value;
     }
     shown.extend(show_run(length - present, value));
-    Ok(runs(&shown))
+    Ok(Written::runs(runs(&shown)))
 }
 
 pub fn from_dense(values: &[i64], out_ends: &[i64], out_values: &[i64]) -> Reading {
     ask_room(values.len(), [out_ends.len(), out_values.len()])?;
     let listed: Vec<(i64, i64)> = values.iter().map(|&value| (1, value)).collect();
-    Ok(merged_runs(&listed))
+    Ok(Written::runs(merged_runs(&listed)))
 }
 
 pub fn to_dense(ends: &[i64], values: &[i64], out: &[i64]) -> Reading {
@@ -432,11 +430,8 @@ pub fn plan(
     Ok(Written::plan(segment_ends(&segments), idx(0), idx(1)))
 }
 
-/// The questions of both zips of two sequences.
-fn ask_zip(sides: &[Side; 2], code: u8, given: [usize; 2]) -> Result<(), Refusal> {
-    ask_code(code, OPERATIONS)?;
-    ask_both(sides)?;
-    let [a, b] = sides;
+/// Is there a fill for the shorter side?
+fn ask_filled([a, b]: &[Side; 2]) -> Result<(), Refusal> {
     let (left, right) = (length(a.ends), length(b.ends));
     let shorter = match left.cmp(&right) {
         Ordering::Less => Some(a),
@@ -446,16 +441,28 @@ fn ask_zip(sides: &[Side; 2], code: u8, given: [usize; 2]) -> Result<(), Refusal
     if shorter.is_some_and(|side| side.fill.is_none()) {
         return Err(Error::UnequalLength.with(&[left as u64, right as u64]));
     }
-    ask_room(a.ends.len() + b.ends.len(), given)
+    Ok(())
+}
+
+/// The questions of both zips of two sequences.
+fn ask_zip(sides: &[Side; 2], code: u8, given: [usize; 2]) -> Result<(), Refusal> {
+    ask_code(code, OPERATIONS)?;
+    ask_both(sides)?;
+    ask_filled(sides)?;
+    ask_room(runs_of_both(sides), given)
+}
+
+fn runs_of_both([a, b]: &[Side; 2]) -> usize {
+    a.ends.len() + b.ends.len()
 }
 
 /// The operation of both sides' runs, for each segment.
-fn zipped_raw(sides: &[Side; 2], code: u8) -> Written {
+fn zipped_raw(sides: &[Side; 2], code: u8) -> Runs {
     let [a, b] = sides;
     let segments = segments(&[a.ends, b.ends]);
     let value = |s: &Segment| operation(code, a.of_run(s.places[0]), b.of_run(s.places[1]));
     let values = segments.iter().map(value).collect();
-    Written::runs(segment_ends(&segments), values)
+    (segment_ends(&segments), values)
 }
 
 macro_rules! zips {
@@ -469,7 +476,7 @@ macro_rules! zips {
                 Side::new(b_ends, b_values, fill_b.option()),
             ];
             ask_zip(&sides, code, [out_ends.len(), out_values.len()])?;
-            Ok($written(&sides, code))
+            Ok(Written::runs($written(&sides, code)))
         })*
     };
 }
@@ -502,8 +509,7 @@ pub fn plan_many(
     ask_many(offsets, ends, values)?;
     let columns = parts(offsets, ends);
     let indexes = ends.len().saturating_mul(columns.len());
-    ask_buffer(0, ends.len(), out_ends.len())?;
-    ask_buffer(1, indexes, out_idx.len())?;
+    ask_buffers(&[ends.len(), indexes], &[out_ends.len(), out_idx.len()])?;
     let segments = segments(&columns);
     let idx = segments.iter().flat_map(|segment| &segment.places);
     let idx = idx.copied().collect();
@@ -534,7 +540,7 @@ pub fn zip_many(
         return Err(Error::UnequalLength.with(&[least as u64, greatest as u64]));
     }
     ask_room(ends.len(), [out_ends.len(), out_values.len()])?;
-    Ok(zipped(&sides, code))
+    Ok(Written::runs(zipped(&sides, code)))
 }
 
 pub fn run_index(ends: &[i64], pos: i64) -> Reading {
@@ -586,7 +592,7 @@ pub fn slice(
     ask_sequence(ends, values)?;
     let shown = show_slice(ends, values, start, end);
     ask_room(seams(&shown), [out_ends.len(), out_values.len()])?;
-    Ok(runs(&shown))
+    Ok(Written::runs(runs(&shown)))
 }
 
 /// The first run of a slice, its start and its length.
@@ -616,6 +622,24 @@ pub fn slice_view_values(ends: &[i64], values: &[i64], start: i64, end: i64) -> 
     Ok(Written::nothing(part))
 }
 
+/// Sequences laid flat: where each starts and, at last, how many runs all have; their ends; their
+/// values.
+fn laid_flat(sequences: Vec<Runs>) -> (Vec<usize>, Vec<i64>, Vec<i64>) {
+    let before = |k: usize| sequences[..k].iter().map(|(ends, _)| ends.len()).sum();
+    let offsets = (0..=sequences.len()).map(before).collect();
+    let (ends, values): (Vec<_>, Vec<_>) = sequences.into_iter().unzip();
+    (offsets, ends.concat(), values.concat())
+}
+
+/// Slices laid flat, in buffers of so many entries.
+fn flat_slices(slices: &[Vec<Shown>], given: [usize; 3]) -> Reading {
+    let total = slices.iter().map(|shown| seams(shown)).sum();
+    ask_buffers(&[slices.len() + 1, total, total], &given)?;
+    let sequences = slices.iter().map(|shown| runs(shown)).collect();
+    let (offsets, ends, values) = laid_flat(sequences);
+    Ok(Written::flat(offsets, ends, values))
+}
+
 pub fn getitems(
     ends: &[i64],
     values: &[i64],
@@ -630,15 +654,8 @@ pub fn getitems(
     ask_ends(ends)?;
     ask_intervals(starts, stops)?;
     let slices = show_slices(ends, values, starts, stops);
-    let counts: Vec<usize> = slices.iter().map(|shown| seams(shown)).collect();
-    let total = counts.iter().sum();
-    ask_buffer(0, starts.len() + 1, out_offsets.len())?;
-    ask_buffer(1, total, out_ends.len())?;
-    ask_buffer(2, total, out_values.len())?;
-    let offset = |k: usize| counts[..k].iter().sum();
-    let offsets = (0..=counts.len()).map(offset).collect();
-    let (ends, values): (Vec<_>, Vec<_>) = slices.iter().map(|shown| listed_runs(shown)).unzip();
-    Ok(Written::flat(offsets, ends.concat(), values.concat()))
+    let given = [out_offsets.len(), out_ends.len(), out_values.len()];
+    flat_slices(&slices, given)
 }
 
 /// Listed positions without their seams.
@@ -659,19 +676,11 @@ pub fn concat(
     let shown: Vec<Shown> = sequences.flat_map(|(e, v)| show(e, v)).collect();
     ask_length(shown.iter().map(|entry| entry.positions as i128).sum())?;
     ask_room(ends.len(), [out_ends.len(), out_values.len()])?;
-    Ok(merged_runs(&without_seams(&shown)))
+    Ok(Written::runs(merged_runs(&without_seams(&shown))))
 }
 
-pub fn shift(
-    ends: &[i64],
-    values: &[i64],
-    distance: i64,
-    fill: i64,
-    out_ends: &[i64],
-    out_values: &[i64],
-) -> Reading {
-    ask_sequence(ends, values)?;
-    ask_room(ends.len() + 1, [out_ends.len(), out_values.len()])?;
+/// What the sequence shows, so many positions higher; merged.
+fn shifted(ends: &[i64], values: &[i64], distance: i64, fill: i64) -> Runs {
     let length = length(ends);
     let moved = |position: i64| position as i128 + distance as i128;
     // Every position, or of a longer column those where a run may have come to start.
@@ -694,20 +703,38 @@ pub fn shift(
         (pair[1] - pair[0], value)
     };
     let listed: Vec<(i64, i64)> = positions.windows(2).map(entry).collect();
-    Ok(merged_runs(&listed))
+    merged_runs(&listed)
 }
 
-pub fn reversed(ends: &[i64], values: &[i64], out_ends: &[i64], out_values: &[i64]) -> Reading {
+pub fn shift(
+    ends: &[i64],
+    values: &[i64],
+    distance: i64,
+    fill: i64,
+    out_ends: &[i64],
+    out_values: &[i64],
+) -> Reading {
     ask_sequence(ends, values)?;
-    ask_room(ends.len(), [out_ends.len(), out_values.len()])?;
+    ask_room(ends.len() + 1, [out_ends.len(), out_values.len()])?;
+    Ok(Written::runs(shifted(ends, values, distance, fill)))
+}
+
+/// The runs of the positions from the last to the first.
+fn turned(ends: &[i64], values: &[i64]) -> Runs {
     let shown = show(ends, values);
     // A run ends where its first position stands, that is one behind which another run ended.
     let entry = |i: usize| Shown {
         seam: i == 0 || shown[i - 1].seam,
         ..shown[i]
     };
-    let reversed: Vec<Shown> = (0..shown.len()).rev().map(entry).collect();
-    Ok(runs(&reversed))
+    let turned: Vec<Shown> = (0..shown.len()).rev().map(entry).collect();
+    runs(&turned)
+}
+
+pub fn reversed(ends: &[i64], values: &[i64], out_ends: &[i64], out_values: &[i64]) -> Reading {
+    ask_sequence(ends, values)?;
+    ask_room(ends.len(), [out_ends.len(), out_values.len()])?;
+    Ok(Written::runs(turned(ends, values)))
 }
 
 pub fn ranges_where(
@@ -743,7 +770,8 @@ pub fn ranges_where(
 pub fn merged(ends: &[i64], values: &[i64], out_ends: &[i64], out_values: &[i64]) -> Reading {
     ask_sequence(ends, values)?;
     ask_room(ends.len(), [out_ends.len(), out_values.len()])?;
-    Ok(merged_runs(&without_seams(&show(ends, values))))
+    let listed = without_seams(&show(ends, values));
+    Ok(Written::runs(merged_runs(&listed)))
 }
 
 pub use merged as merge;
@@ -765,7 +793,7 @@ fn grouped(ends: &[i64], values: &[i64], mask: &[u8], keep: u8) -> Written {
         _ => values[past - 1],
     };
     let kept = groups.iter().map(value).collect();
-    Written::runs(group_ends(ends, &groups), kept)
+    Written::runs((group_ends(ends, &groups), kept))
 }
 
 /// The last end of each group.
@@ -815,8 +843,8 @@ pub fn merge_plan(ends: &[i64], mask: &[u8], out_ends: &[i64], out_offsets: &[us
     ask_mask(mask)?;
     ask_mask_length(mask, ends.len())?;
     ask_ends(ends)?;
-    ask_buffer(0, ends.len(), out_ends.len())?;
-    ask_buffer(1, ends.len() + 1, out_offsets.len())?;
+    let given = [out_ends.len(), out_offsets.len()];
+    ask_buffers(&[ends.len(), ends.len() + 1], &given)?;
     let groups = groups(ends.len(), mask);
     let past = groups.iter().map(|&(_, past)| past);
     let offsets = [0].into_iter().chain(past).collect();
@@ -861,7 +889,7 @@ fn nearest(number: i64) -> f64 {
 
 /// The length of each run and its value, in run order.
 fn weighted(shown: &[Shown]) -> Vec<(i64, i64)> {
-    let (ends, values) = listed_runs(shown);
+    let (ends, values) = runs(shown);
     let run = |r: usize| (ends[r] - end_before(&ends, r), values[r]);
     (0..ends.len()).map(run).collect()
 }
@@ -923,6 +951,13 @@ pub fn reduce(ends: &[i64], values: &[i64], code: u8, ddof: i64) -> Reading {
     Ok(Written::nothing(reduction.counts()))
 }
 
+/// The reduction of each slice.
+fn reductions(slices: &[Vec<Shown>], code: u8, ddof: i64) -> Written {
+    let reductions = slices.iter().map(|shown| reduction(shown, code, ddof));
+    let reductions: Vec<Reduction> = reductions.collect();
+    Written::reductions(&reductions)
+}
+
 pub fn slice_reduce(
     ends: &[i64],
     values: &[i64],
@@ -940,9 +975,372 @@ pub fn slice_reduce(
     ask_intervals(starts, stops)?;
     ask_room(starts.len(), [out_kinds.len(), out_bits.len()])?;
     let slices = show_slices(ends, values, starts, stops);
-    let reductions: Vec<Reduction> = slices
-        .iter()
-        .map(|shown| reduction(shown, code, ddof))
-        .collect();
-    Ok(Written::reductions(&reductions))
+    Ok(reductions(&slices, code, ddof))
+}
+
+/// A batch as a call is handed it.
+struct Batch<'a> {
+    keys: &'a [u32],
+    offsets: &'a [usize],
+    ends: &'a [i64],
+    values: &'a [i64],
+}
+
+impl<'a> Batch<'a> {
+    fn new(keys: &'a [u32], offsets: &'a [usize], ends: &'a [i64], values: &'a [i64]) -> Self {
+        Batch {
+            keys,
+            offsets,
+            ends,
+            values,
+        }
+    }
+
+    /// The ends and values at a position of the keys; none, for no position.
+    fn sequence(&self, position: Option<usize>) -> (&'a [i64], &'a [i64]) {
+        let entries = position.map_or(0..0, |k| self.offsets[k]..self.offsets[k + 1]);
+        (&self.ends[entries.clone()], &self.values[entries])
+    }
+
+    /// The ends and values of a key; none, for an absent one.
+    fn of(&self, key: u32) -> (&'a [i64], &'a [i64]) {
+        self.sequence(lowest(self.keys, key))
+    }
+
+    /// What the slice of each interval shows, each of the sequence of its key.
+    fn show_slices(&self, keys: &[u32], starts: &[i64], stops: &[i64]) -> Vec<Vec<Shown>> {
+        let slice = |k: usize| {
+            let (ends, values) = self.of(keys[k]);
+            show_slice(ends, values, starts[k], stops[k])
+        };
+        (0..keys.len()).map(slice).collect()
+    }
+
+    /// The same keys, each with what is made of its sequence.
+    fn each(&self, made: impl Fn(&[i64], &[i64]) -> Runs) -> Written {
+        let sequences = (0..self.keys.len()).map(|position| {
+            let (ends, values) = self.sequence(Some(position));
+            made(ends, values)
+        });
+        batch(self.keys.to_vec(), sequences.collect())
+    }
+}
+
+/// The lowest position of a key.
+fn lowest(keys: &[u32], key: u32) -> Option<usize> {
+    (0..keys.len()).find(|&position| keys[position] == key)
+}
+
+/// Whether the key at the position stands before as well.
+fn repeats(keys: &[u32], position: usize) -> bool {
+    keys[..position].contains(&keys[position])
+}
+
+/// Each key once, where it first appears.
+fn once(keys: &[u32]) -> Vec<u32> {
+    let first = (0..keys.len()).filter(|&position| !repeats(keys, position));
+    first.map(|position| keys[position]).collect()
+}
+
+/// A batch of these keys, with a sequence for each.
+fn batch(keys: Vec<u32>, sequences: Vec<Runs>) -> Written {
+    let (offsets, ends, values) = laid_flat(sequences);
+    Written::batch(keys, offsets, ends, values)
+}
+
+/// The entries that a batch of so many keys and runs needs.
+fn batch_needs(keys: usize, runs: usize) -> [usize; 4] {
+    [keys, keys + 1, runs, runs]
+}
+
+/// The questions of batches, each put to one after the other; `lengths` is what a call asks about
+/// lengths besides.
+fn ask_batches(batches: &[&Batch], lengths: Result<(), Refusal>) -> Result<(), Refusal> {
+    let ask_each = |ask: fn(&Batch) -> Result<(), Refusal>| {
+        let mut batches = batches.iter();
+        batches.try_for_each(|batch| ask(batch))
+    };
+    ask_each(|batch| ask_lengths(2, batch.offsets.len(), batch.keys.len() + 1))?;
+    ask_each(|batch| ask_lengths(3, batch.ends.len(), batch.values.len()))?;
+    lengths?;
+    ask_each(|batch| ask_offsets(batch.offsets, batch.ends.len()))?;
+    ask_each(|batch| ask_each_ends(&parts(batch.offsets, batch.ends)))
+}
+
+pub fn batch_from_parts(keys: &[u32], offsets: &[usize], ends: &[i64], values: &[i64]) -> Reading {
+    ask_batches(&[&Batch::new(keys, offsets, ends, values)], Ok(()))?;
+    match (0..keys.len()).find(|&position| repeats(keys, position)) {
+        Some(position) => Err(Error::DuplicateKey.with(&[position as u64])),
+        None => Ok(Written::nothing([0])),
+    }
+}
+
+pub fn batch_position(keys: &[u32], key: u32) -> Reading {
+    let position = lowest(keys, key);
+    let counts = [position.is_some().into(), position.unwrap_or(0)];
+    Ok(Written::nothing(counts))
+}
+
+pub fn batch_get(
+    keys: &[u32],
+    offsets: &[usize],
+    ends: &[i64],
+    values: &[i64],
+    key: u32,
+    out_ends: &[i64],
+    out_values: &[i64],
+) -> Reading {
+    let batch = Batch::new(keys, offsets, ends, values);
+    ask_batches(&[&batch], Ok(()))?;
+    let (ends, values) = batch.of(key);
+    ask_room(ends.len(), [out_ends.len(), out_values.len()])?;
+    let found = lowest(keys, key);
+    Ok(Written::got(found.map(|_| runs(&show(ends, values)))))
+}
+
+pub fn batch_getitems(
+    keys: &[u32],
+    offsets: &[usize],
+    ends: &[i64],
+    values: &[i64],
+    get_keys: &[u32],
+    starts: &[i64],
+    stops: &[i64],
+    out_offsets: &[usize],
+    out_ends: &[i64],
+    out_values: &[i64],
+) -> Reading {
+    let batch = Batch::new(keys, offsets, ends, values);
+    ask_batches(&[&batch], Ok(()))?;
+    ask_lengths(8, starts.len(), stops.len())?;
+    ask_intervals(starts, stops)?;
+    ask_lengths(7, get_keys.len(), starts.len())?;
+    let slices = batch.show_slices(get_keys, starts, stops);
+    let given = [out_offsets.len(), out_ends.len(), out_values.len()];
+    flat_slices(&slices, given)
+}
+
+pub fn batch_slice_reduce(
+    keys: &[u32],
+    offsets: &[usize],
+    ends: &[i64],
+    values: &[i64],
+    get_keys: &[u32],
+    starts: &[i64],
+    stops: &[i64],
+    code: u8,
+    ddof: i64,
+    out_kinds: &[u8],
+    out_bits: &[u64],
+) -> Reading {
+    ask_code(code, REDUCTIONS)?;
+    let batch = Batch::new(keys, offsets, ends, values);
+    let lengths = ask_lengths(7, get_keys.len(), starts.len());
+    let lengths = lengths.and_then(|()| ask_lengths(8, starts.len(), stops.len()));
+    ask_batches(&[&batch], lengths)?;
+    ask_intervals(starts, stops)?;
+    ask_room(starts.len(), [out_kinds.len(), out_bits.len()])?;
+    let slices = batch.show_slices(get_keys, starts, stops);
+    Ok(reductions(&slices, code, ddof))
+}
+
+pub fn batch_shift(
+    keys: &[u32],
+    offsets: &[usize],
+    ends: &[i64],
+    values: &[i64],
+    distance: i64,
+    fill: i64,
+    out_keys: &[u32],
+    out_offsets: &[usize],
+    out_ends: &[i64],
+    out_values: &[i64],
+) -> Reading {
+    let batch = Batch::new(keys, offsets, ends, values);
+    ask_batches(&[&batch], Ok(()))?;
+    let given = given_batch(out_keys, out_offsets, out_ends, out_values);
+    ask_buffers(&batch_needs(keys.len(), ends.len() + keys.len()), &given)?;
+    Ok(batch.each(|ends, values| shifted(ends, values, distance, fill)))
+}
+
+pub fn batch_reversed(
+    keys: &[u32],
+    offsets: &[usize],
+    ends: &[i64],
+    values: &[i64],
+    out_keys: &[u32],
+    out_offsets: &[usize],
+    out_ends: &[i64],
+    out_values: &[i64],
+) -> Reading {
+    let batch = Batch::new(keys, offsets, ends, values);
+    ask_batches(&[&batch], Ok(()))?;
+    let given = given_batch(out_keys, out_offsets, out_ends, out_values);
+    ask_buffers(&batch_needs(keys.len(), ends.len()), &given)?;
+    Ok(batch.each(turned))
+}
+
+/// The entries of a batch's buffers.
+fn given_batch(keys: &[u32], offsets: &[usize], ends: &[i64], values: &[i64]) -> [usize; 4] {
+    [keys.len(), offsets.len(), ends.len(), values.len()]
+}
+
+/// Have all members of a group the first one's length, unless there is a fill?
+fn ask_group(members: &[Side]) -> Result<(), Refusal> {
+    let lengths: Vec<i64> = members.iter().map(|side| length(side.ends)).collect();
+    match lengths.iter().find(|&&length| length != lengths[0]) {
+        Some(&other) if members[0].fill.is_none() => {
+            Err(Error::UnequalLength.with(&[lengths[0] as u64, other as u64]))
+        }
+        _ => Ok(()),
+    }
+}
+
+/// What the members of a group come to at a position. Before one has reached it there is nothing,
+/// for which the fill stands; only the first member does without.
+fn gathered(members: &[Side], code: u8, position: i64) -> i64 {
+    let mut sofar = None;
+    for (number, member) in members.iter().enumerate() {
+        let reaches = position < length(member.ends);
+        sofar = match sofar {
+            Some(value) => Some(operation(code, value, member.at(position))),
+            None if !reaches => None,
+            None if number == 0 => Some(member.at(position)),
+            None => Some(operation(code, member.filled(), member.at(position))),
+        };
+    }
+    sofar.expect("a position is a member's")
+}
+
+pub fn batch_collapse(
+    keys: &[u32],
+    offsets: &[usize],
+    ends: &[i64],
+    values: &[i64],
+    new_keys: &[u32],
+    fill: Fill,
+    code: u8,
+    out_keys: &[u32],
+    out_offsets: &[usize],
+    out_ends: &[i64],
+    out_values: &[i64],
+    scratch_ends: &[i64],
+    scratch_values: &[i64],
+) -> Reading {
+    ask_code(code, OPERATIONS)?;
+    let collapsed = Batch::new(keys, offsets, ends, values);
+    let lengths = ask_lengths(4, new_keys.len(), keys.len());
+    ask_batches(&[&collapsed], lengths)?;
+    let of_new_key = |&new_key: &u32| -> Vec<Side> {
+        let members = (0..keys.len()).filter(|&position| new_keys[position] == new_key);
+        members
+            .map(|position| {
+                let (ends, values) = collapsed.sequence(Some(position));
+                Side::new(ends, values, fill.option())
+            })
+            .collect()
+    };
+    let unique = once(new_keys);
+    let groups: Vec<Vec<Side>> = unique.iter().map(of_new_key).collect();
+    for (position, members) in groups.iter().enumerate() {
+        ask_group(members).map_err(|refusal| refusal.at(position))?;
+    }
+    let given = given_batch(out_keys, out_offsets, out_ends, out_values);
+    let scratch = [scratch_ends.len(), scratch_values.len()];
+    let needed = batch_needs(keys.len(), ends.len());
+    ask_buffers(
+        &[&needed[..], &[2 * ends.len(); 2]].concat(),
+        &[&given[..], &scratch].concat(),
+    )?;
+    let sequence =
+        |members: &Vec<Side>| merged_at_each(members, |position| gathered(members, code, position));
+    let sequences = groups.iter().map(sequence).collect();
+    Ok(batch(unique, sequences))
+}
+
+pub fn batch_concat(
+    a_keys: &[u32],
+    a_offsets: &[usize],
+    a_ends: &[i64],
+    a_values: &[i64],
+    b_keys: &[u32],
+    b_offsets: &[usize],
+    b_ends: &[i64],
+    b_values: &[i64],
+    out_keys: &[u32],
+    out_offsets: &[usize],
+    out_ends: &[i64],
+    out_values: &[i64],
+) -> Reading {
+    let a = Batch::new(a_keys, a_offsets, a_ends, a_values);
+    let b = Batch::new(b_keys, b_offsets, b_ends, b_values);
+    ask_batches(&[&a, &b], Ok(()))?;
+    let keys = once(&[a_keys, b_keys].concat());
+    let shown = |&key: &u32| -> Vec<Shown> {
+        let sequences = [a.of(key), b.of(key)].into_iter();
+        sequences.flat_map(|(e, v)| show(e, v)).collect()
+    };
+    let joined: Vec<Vec<Shown>> = keys.iter().map(shown).collect();
+    for shown in &joined {
+        ask_length(shown.iter().map(|entry| entry.positions as i128).sum())?;
+    }
+    let given = given_batch(out_keys, out_offsets, out_ends, out_values);
+    let needed = batch_needs(a_keys.len() + b_keys.len(), a_ends.len() + b_ends.len());
+    ask_buffers(&needed, &given)?;
+    let sequence = |shown: &Vec<Shown>| merged_runs(&without_seams(shown));
+    let sequences = joined.iter().map(sequence).collect();
+    Ok(batch(keys, sequences))
+}
+
+/// The keys of a join, each with its positions on both sides.
+fn joined(a: &[u32], b: &[u32], how: u8) -> Vec<(u32, Option<usize>, Option<usize>)> {
+    let (keeps_left, keeps_right) = ([0, 2].contains(&how), [0, 3].contains(&how));
+    let left = (0..a.len()).map(|i| (a[i], Some(i), lowest(b, a[i])));
+    let left = left.filter(|(_, _, right)| keeps_left || right.is_some());
+    let own = (0..b.len()).filter(|&j| keeps_right && lowest(a, b[j]).is_none());
+    left.chain(own.map(|j| (b[j], None, Some(j)))).collect()
+}
+
+pub fn batch_zip_with(
+    a_keys: &[u32],
+    a_offsets: &[usize],
+    a_ends: &[i64],
+    a_values: &[i64],
+    b_keys: &[u32],
+    b_offsets: &[usize],
+    b_ends: &[i64],
+    b_values: &[i64],
+    how: u8,
+    fill_a: Fill,
+    fill_b: Fill,
+    code: u8,
+    out_keys: &[u32],
+    out_offsets: &[usize],
+    out_ends: &[i64],
+    out_values: &[i64],
+) -> Reading {
+    ask_code(how, JOINS)?;
+    ask_code(code, OPERATIONS)?;
+    let a = Batch::new(a_keys, a_offsets, a_ends, a_values);
+    let b = Batch::new(b_keys, b_offsets, b_ends, b_values);
+    ask_batches(&[&a, &b], Ok(()))?;
+    let joined = joined(a_keys, b_keys, how);
+    let sides = |&(_, left, right): &_| {
+        let ((left_ends, left_values), (right_ends, right_values)) =
+            (a.sequence(left), b.sequence(right));
+        [
+            Side::new(left_ends, left_values, fill_a.option()),
+            Side::new(right_ends, right_values, fill_b.option()),
+        ]
+    };
+    let pairs: Vec<[Side; 2]> = joined.iter().map(sides).collect();
+    for (position, pair) in pairs.iter().enumerate() {
+        ask_filled(pair).map_err(|refusal| refusal.at(position))?;
+    }
+    let given = given_batch(out_keys, out_offsets, out_ends, out_values);
+    let runs = pairs.iter().map(runs_of_both).sum();
+    ask_buffers(&batch_needs(a_keys.len() + b_keys.len(), runs), &given)?;
+    let keys = joined.iter().map(|(key, _, _)| *key).collect();
+    let sequences = pairs.iter().map(|pair| zipped(pair, code)).collect();
+    Ok(batch(keys, sequences))
 }

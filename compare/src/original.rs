@@ -1,9 +1,12 @@
 //! The Rust original on flat lists. Its domain has no buffers and, outside the calls that only
-//! check, valid sequences alone.
+//! check, valid sequences alone, and in a batch different keys. Of several keys that fail it names
+//! the lowest as long as it runs on one thread.
 
 use crate::answer::{self, Reduction, Refusal};
 use crate::call::{Fill, Reading, Written};
-use runlength::{Error, Keep, MergePlan, PlanMany, Result, Rle, RleLike, RleRef};
+use runlength::{
+    Error, How, Keep, MergePlan, PlanMany, Result, Rle, RleBatch, RleLike, RleRef, SliceView,
+};
 
 /// The most positions that the original is asked to list: it allocates them.
 const LISTED: i64 = 1 << 16;
@@ -41,11 +44,7 @@ impl From<Error> for Refusal {
                 requested,
                 required,
             } => Paper::LengthTooShort.with(&[requested as u64, required as u64]),
-            Error::InKey { position, source } => Refusal {
-                in_key: 1,
-                position: position as u64,
-                ..Refusal::from(*source)
-            },
+            Error::InKey { position, source } => Refusal::from(*source).at(position),
         }
     }
 }
@@ -53,13 +52,9 @@ impl From<Error> for Refusal {
 /// `None` outside the domain.
 type InDomain = Option<Reading>;
 
-fn written(rle: Rle<i64>) -> Written {
-    let (ends, values) = rle.into_parts();
-    Written::runs(ends, values)
-}
-
 fn made(result: Result<Rle<i64>>) -> InDomain {
-    Some(result.map(written).map_err(Refusal::from))
+    let written = result.map(|rle| Written::runs(rle.into_parts()));
+    Some(written.map_err(Refusal::from))
 }
 
 /// A valid sequence.
@@ -243,11 +238,16 @@ pub fn slice_view_values(ends: &[i64], values: &[i64], start: i64, end: i64) -> 
 }
 
 pub fn getitems(ends: &[i64], values: &[i64], starts: &[i64], stops: &[i64]) -> InDomain {
-    let items = view(ends, values)?.getitems(starts, stops).map(|items| {
+    made_flat(view(ends, values)?.getitems(starts, stops))
+}
+
+/// Without its keys, the interval numbers.
+fn made_flat(items: Result<RleBatch<usize, i64>>) -> InDomain {
+    let written = items.map(|items| {
         let (_, offsets, ends, values) = items.into_parts();
         Written::flat(offsets, ends, values)
     });
-    Some(items.map_err(Refusal::from))
+    Some(written.map_err(Refusal::from))
 }
 
 pub fn concat(offsets: &[usize], ends: &[i64], values: &[i64]) -> InDomain {
@@ -371,6 +371,170 @@ pub fn slice_reduce(
 ) -> InDomain {
     let rle = view(ends, values)?;
     let reduced = rle.slice_reduce(starts, stops, |part| reduction!(part, code, ddof));
+    (code < REDUCTIONS).then(|| made_reductions(reduced))
+}
+
+fn made_reductions(reduced: Result<Vec<Reduction>>) -> Reading {
     let written = reduced.map(|reductions| Written::reductions(&reductions));
-    (code < REDUCTIONS).then(|| written.map_err(Refusal::from))
+    written.map_err(Refusal::from)
+}
+
+type Batch = RleBatch<u32, i64>;
+
+fn from_parts(keys: &[u32], offsets: &[usize], ends: &[i64], values: &[i64]) -> Result<Batch> {
+    RleBatch::from_parts(
+        keys.to_vec(),
+        offsets.to_vec(),
+        ends.to_vec(),
+        values.to_vec(),
+    )
+}
+
+/// A batch of different keys.
+fn batch(keys: &[u32], offsets: &[usize], ends: &[i64], values: &[i64]) -> Option<Batch> {
+    from_parts(keys, offsets, ends, values).ok()
+}
+
+fn made_batch(result: Result<Batch>) -> InDomain {
+    let written = result.map(|batch| {
+        let (keys, offsets, ends, values) = batch.into_parts();
+        Written::batch(keys, offsets, ends, values)
+    });
+    Some(written.map_err(Refusal::from))
+}
+
+pub fn batch_from_parts(keys: &[u32], offsets: &[usize], ends: &[i64], values: &[i64]) -> InDomain {
+    let checked = from_parts(keys, offsets, ends, values);
+    Some(
+        checked
+            .map(|_| Written::nothing([0]))
+            .map_err(Refusal::from),
+    )
+}
+
+pub fn batch_position(keys: &[u32], key: u32) -> InDomain {
+    // Sequences of no runs.
+    let position = batch(keys, &vec![0; keys.len() + 1], &[], &[])?.position(&key);
+    let counts = [position.is_some().into(), position.unwrap_or(0)];
+    Some(Ok(Written::nothing(counts)))
+}
+
+pub fn batch_get(
+    keys: &[u32],
+    offsets: &[usize],
+    ends: &[i64],
+    values: &[i64],
+    key: u32,
+) -> InDomain {
+    let batch = batch(keys, offsets, ends, values)?;
+    let sequence = batch.get(&key);
+    let sequence = sequence.map(|rle| (rle.ends().to_vec(), rle.values().to_vec()));
+    Some(Ok(Written::got(sequence)))
+}
+
+pub fn batch_getitems(
+    keys: &[u32],
+    offsets: &[usize],
+    ends: &[i64],
+    values: &[i64],
+    get_keys: &[u32],
+    starts: &[i64],
+    stops: &[i64],
+) -> InDomain {
+    made_flat(batch(keys, offsets, ends, values)?.getitems(get_keys, starts, stops))
+}
+
+pub fn batch_slice_reduce(
+    keys: &[u32],
+    offsets: &[usize],
+    ends: &[i64],
+    values: &[i64],
+    get_keys: &[u32],
+    starts: &[i64],
+    stops: &[i64],
+    code: u8,
+    ddof: i64,
+) -> InDomain {
+    let batch = batch(keys, offsets, ends, values)?;
+    let reduce = |part: SliceView<i64>| reduction!(part, code, ddof);
+    let reduced = batch.slice_reduce(get_keys, starts, stops, reduce);
+    (code < REDUCTIONS).then(|| made_reductions(reduced))
+}
+
+pub fn batch_shift(
+    keys: &[u32],
+    offsets: &[usize],
+    ends: &[i64],
+    values: &[i64],
+    distance: i64,
+    fill: i64,
+) -> InDomain {
+    made_batch(Ok(batch(keys, offsets, ends, values)?.shift(distance, fill)))
+}
+
+pub fn batch_reversed(keys: &[u32], offsets: &[usize], ends: &[i64], values: &[i64]) -> InDomain {
+    made_batch(Ok(batch(keys, offsets, ends, values)?.reversed()))
+}
+
+pub fn batch_collapse(
+    keys: &[u32],
+    offsets: &[usize],
+    ends: &[i64],
+    values: &[i64],
+    new_keys: &[u32],
+    fill: Fill,
+    code: u8,
+) -> InDomain {
+    let batch = batch(keys, offsets, ends, values)?;
+    if new_keys.len() != keys.len() {
+        return None;
+    }
+    let new_key = |key: &u32| new_keys[batch.position(key).expect("the key is the batch's")];
+    made_batch(batch.collapse(new_key, fill.option().as_ref(), operation(code)?))
+}
+
+pub fn batch_concat(
+    a_keys: &[u32],
+    a_offsets: &[usize],
+    a_ends: &[i64],
+    a_values: &[i64],
+    b_keys: &[u32],
+    b_offsets: &[usize],
+    b_ends: &[i64],
+    b_values: &[i64],
+) -> InDomain {
+    let a = batch(a_keys, a_offsets, a_ends, a_values)?;
+    let b = batch(b_keys, b_offsets, b_ends, b_values)?;
+    made_batch(RleBatch::concat(&[&a, &b]))
+}
+
+fn how(code: u8) -> Option<How> {
+    match code {
+        0 => Some(How::Outer),
+        1 => Some(How::Inner),
+        2 => Some(How::Left),
+        3 => Some(How::Right),
+        _ => None,
+    }
+}
+
+pub fn batch_zip_with(
+    a_keys: &[u32],
+    a_offsets: &[usize],
+    a_ends: &[i64],
+    a_values: &[i64],
+    b_keys: &[u32],
+    b_offsets: &[usize],
+    b_ends: &[i64],
+    b_values: &[i64],
+    how_code: u8,
+    fill_a: Fill,
+    fill_b: Fill,
+    code: u8,
+) -> InDomain {
+    let a = batch(a_keys, a_offsets, a_ends, a_values)?;
+    let b = batch(b_keys, b_offsets, b_ends, b_values)?;
+    let (fill_a, fill_b) = (fill_a.option(), fill_b.option());
+    let (fill_a, fill_b) = (fill_a.as_ref(), fill_b.as_ref());
+    made_batch(a.zip_with(&b, how(how_code)?, fill_a, fill_b, operation(code)?))
 }

@@ -25,7 +25,7 @@ impl Comparison {
     fn compare(&mut self, call: &Call, args: Vec<Arg>) {
         let naive = call.naive(&args);
         let original = call.original(&args, &naive);
-        let library = call.library(args.clone());
+        let library = call.library(&args);
         self.cases += 1;
         *self
             .seen
@@ -77,13 +77,17 @@ fn main() -> ExitCode {
         eprintln!("usage: compare SECONDS SEED");
         return ExitCode::from(2);
     };
+    compare::in_pool(|| compare(*seconds, *seed))
+}
+
+fn compare(seconds: u64, seed: u64) -> ExitCode {
     let mut comparison = Comparison::default();
     for call in CALLS {
         let inputs = inputs::seams(call).into_iter().chain(inputs::small(call));
         inputs.for_each(|args| comparison.compare(call, args));
     }
-    let mut rng = Rng::new(*seed);
-    let end = Instant::now() + Duration::from_secs(*seconds);
+    let mut rng = Rng::new(seed);
+    let end = Instant::now() + Duration::from_secs(seconds);
     while Instant::now() < end {
         for call in CALLS.iter().filter(|call| call.takes_arguments()) {
             for _ in 0..BATCH {
