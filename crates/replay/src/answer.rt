@@ -1,44 +1,17 @@
 // The calls on a row's arguments. What they answer is in numbers: the refusal's six and four counts, 0 where there are fewer. A float
 // counts by its bits.
 use crate::row;
+use crate::row::batched;
+use crate::row::counted;
+use crate::row::fill_at;
+use crate::row::listed;
+use crate::row::numbers_of;
 use crate::shape::Places;
 use column::sequence;
 use ffi::RlBatched;
 use ffi::RlCounted;
 use ffi::RlFill;
 use ffi::RlPlannedMany;
-use ffi::RlRefusal;
-
-fn numbers_of(refusal: RlRefusal, first: u64, second: u64, third: u64, fourth: u64) -> [i64; 10] {
-    [
-        num::as_signed(refusal.number),
-        num::as_signed(refusal.first),
-        num::as_signed(refusal.second),
-        num::as_signed(refusal.third),
-        num::as_signed(refusal.in_key),
-        num::as_signed(refusal.position),
-        num::as_signed(first),
-        num::as_signed(second),
-        num::as_signed(third),
-        num::as_signed(fourth),
-    ]
-}
-
-fn counted(answer: RlCounted) -> [i64; 10] {
-    numbers_of(answer.refusal, answer.count as u64, 0, 0, 0)
-}
-
-// One of the lists among the arguments, of which no call has more than four.
-fn listed(row: &[i64], index: usize) -> &[i64] {
-    row::list(row, 1, 4, index)
-}
-
-fn fill_at(numbers: &[i64], at: usize) -> RlFill {
-    RlFill {
-        given: row::bits(numbers, at),
-        value: row::entry(numbers, num::saturating_add(at, 1)),
-    }
-}
 
 // plan, its indexes as numbers of a row.
 fn plan(
@@ -268,14 +241,7 @@ fn sliced(
         }
         _ => {
             let c = listed(row, 2);
-            let batched = getitems(a, b, c, listed(row, 3), first, second, third);
-            numbers_of(
-                batched.refusal,
-                batched.keys as u64,
-                batched.runs as u64,
-                0,
-                0,
-            )
+            batched(getitems(a, b, c, listed(row, 3), first, second, third))
         }
     }
 }

@@ -1,6 +1,7 @@
 // Replays stored answers. Each line of standard input, up to 64 KiB in all, is a call with its arguments and what must come of it, in
 // decimal numbers. For each call a line says how many cases there were and how many of them agreed.
 mod answer;
+mod batched;
 mod case;
 mod row;
 mod shape;
@@ -110,6 +111,20 @@ fn report_reduce(cases: &[u64; CALLS], agreed: &[u64; CALLS]) {
     report(b"slice_reduce ", cases[43], agreed[43]);
 }
 
+// The calls of batch.rs.
+fn report_batch(cases: &[u64; CALLS], agreed: &[u64; CALLS]) {
+    report(b"RleBatch from_parts ", cases[31], agreed[31]);
+    report(b"RleBatch position ", cases[32], agreed[32]);
+    report(b"RleBatch get ", cases[33], agreed[33]);
+    report(b"RleBatch getitems ", cases[34], agreed[34]);
+    report(b"RleBatch slice_reduce ", cases[35], agreed[35]);
+    report(b"RleBatch shift ", cases[36], agreed[36]);
+    report(b"RleBatch reversed ", cases[37], agreed[37]);
+    report(b"RleBatch collapse ", cases[39], agreed[39]);
+    report(b"RleBatch concat ", cases[40], agreed[40]);
+    report(b"RleBatch zip_with ", cases[41], agreed[41]);
+}
+
 fn main() {
     let mut buffer = io::large_buffer();
     let n = io::read_full(STDIN_FILENO, &mut buffer);
@@ -122,6 +137,7 @@ fn main() {
     report_transform(&cases, &agreed);
     report_merge(&cases, &agreed);
     report_reduce(&cases, &agreed);
+    report_batch(&cases, &agreed);
     if cases[0] > 0 {
         io::write_all(STDOUT_FILENO, b"unknown ");
         write_count(cases[0], b" cases\n");

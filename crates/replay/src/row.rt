@@ -1,5 +1,9 @@
-// The lists among a row's numbers.
+// The numbers of a row: the lists among them, and what a call answers.
 use column::sequence;
+use ffi::RlBatched;
+use ffi::RlCounted;
+use ffi::RlFill;
+use ffi::RlRefusal;
 ghost use Rattle.text.specs.Counts.{Counts};
 
 // The most entries of a list or a buffer.
@@ -24,6 +28,16 @@ pub fn size(row: &[i64], at: usize) -> usize {
 pub fn code(row: &[i64], at: usize) -> u8 {
     let n = bits(row, at);
     if n < 256 { n as u8 } else { 255 }
+}
+
+// A number as a key; the greatest key for any that is none.
+pub fn key(row: &[i64], at: usize) -> u32 {
+    let n = bits(row, at);
+    if n <= u32::MAX as u64 {
+        n as u32
+    } else {
+        u32::MAX
+    }
 }
 
 // The place behind numbers among which there is a code. It is past the row if the code is no byte.
@@ -92,6 +106,19 @@ pub fn fill_places(list: &[i64], buffer: &mut [usize]) -> usize
     n
 }
 
+// As `fill`, for a buffer of keys.
+pub fn fill_keys(list: &[i64], buffer: &mut [u32]) -> usize
+    ensures { λ r. ⌜ Counts r (now (buffer .exit)) ⌝ }
+{
+    let n = num::smaller_count(list.len(), buffer.len());
+    let mut i = 0;
+    while i < n {
+        buffer[i] = key(list, i);
+        i += 1;
+    }
+    n
+}
+
 // As `fill`, for bytes.
 pub fn fill_bytes(list: &[i64], buffer: &mut [u8]) -> usize
     ensures { λ r. ⌜ Counts r (now (buffer .exit)) ⌝ }
@@ -124,6 +151,20 @@ pub fn put_places(places: &[usize; LONGEST], list: &mut [i64]) {
     let mut i = 0;
     while i < n {
         list[i] = num::as_signed(places[i] as u64);
+        i += 1;
+    }
+}
+
+fn wide(key: u32) -> i64 {
+    key as i64
+}
+
+// As `put_places`, for a buffer of keys.
+pub fn put_keys(keys: &[u32; LONGEST], list: &mut [i64]) {
+    let n = num::smaller_count(list.len(), LONGEST);
+    let mut i = 0;
+    while i < n {
+        list[i] = wide(keys[i]);
         i += 1;
     }
 }
@@ -164,4 +205,46 @@ pub fn same(a: &[i64], b: &[i64]) -> bool {
         i += 1;
     }
     true
+}
+
+// What a call answers, in numbers: the refusal's six and four counts, 0 where there are fewer.
+pub fn numbers_of(
+    refusal: RlRefusal,
+    first: u64,
+    second: u64,
+    third: u64,
+    fourth: u64,
+) -> [i64; 10] {
+    [
+        num::as_signed(refusal.number),
+        num::as_signed(refusal.first),
+        num::as_signed(refusal.second),
+        num::as_signed(refusal.third),
+        num::as_signed(refusal.in_key),
+        num::as_signed(refusal.position),
+        num::as_signed(first),
+        num::as_signed(second),
+        num::as_signed(third),
+        num::as_signed(fourth),
+    ]
+}
+
+pub fn counted(answer: RlCounted) -> [i64; 10] {
+    numbers_of(answer.refusal, answer.count as u64, 0, 0, 0)
+}
+
+pub fn batched(answer: RlBatched) -> [i64; 10] {
+    numbers_of(answer.refusal, answer.keys as u64, answer.runs as u64, 0, 0)
+}
+
+// One of the lists among the arguments, of which no call has more than eight.
+pub fn listed(row: &[i64], index: usize) -> &[i64] {
+    list(row, 1, 8, index)
+}
+
+pub fn fill_at(numbers: &[i64], at: usize) -> RlFill {
+    RlFill {
+        given: bits(numbers, at),
+        value: entry(numbers, num::saturating_add(at, 1)),
+    }
 }

@@ -9,7 +9,7 @@ pub fn known(number: i64) -> usize
 {
     let call = num::as_unsigned(number);
     match call {
-        2..=30 | 42..=43 => call as usize,
+        2..=37 | 39..=43 => call as usize,
         _ => 0,
     }
 }
@@ -77,6 +77,16 @@ fn shape_of(call: usize) -> Shape {
         28 => shaped(1, 0, NO_CODE, 1, 0, 1),
         29 => shaped(2, 0, NO_CODE, 0, 0, 1),
         30 => shaped(2, 2, 0, 0, 0, 4),
+        31 => shaped(4, 0, NO_CODE, 0, 0, 1),
+        32 => shaped(1, 1, NO_CODE, 0, 0, 2),
+        33 => shaped(4, 1, NO_CODE, 2, 0, 2),
+        34 => shaped(7, 0, NO_CODE, 3, 0, 2),
+        35 => shaped(7, 2, 0, 2, 0, 1),
+        36 => shaped(4, 2, NO_CODE, 4, 0, 2),
+        37 => shaped(4, 0, NO_CODE, 4, 0, 2),
+        39 => shaped(5, 3, 2, 6, 0, 2),
+        40 => shaped(8, 0, NO_CODE, 4, 0, 2),
+        41 => shaped(8, 6, 5, 4, 0, 2),
         42 => shaped(4, 0, NO_CODE, 3, 0, 2),
         _ => shaped(4, 2, 0, 2, 0, 1),
     }
