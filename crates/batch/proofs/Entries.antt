@@ -15,7 +15,7 @@ use Rattle.column.specs.Lists.{any, total, part, partsFrom, parts}
 use Rattle.column.specs.Questions.{endsValid, endsFrom}
 use Rattle.column.specs.Runs.{Runs, runs, runsOf, lengthOf, lengthOfEnds}
 use Rattle.column.proofs.All.{All}
-use Rattle.column.proofs.Ends.{length-runs, length-of-ends}
+use Rattle.column.proofs.Ends.{rising, runs-rise, length-runs, length-of-ends}
 use Rattle.column.proofs.Flattened.{AllValid, length-parts, total-parts, sequences-told, columns-by-ends, columns-valid}
 use Rattle.column.proofs.Parts.{part-paired}
 use Rattle.column.proofs.Rising.{Valid}
@@ -154,6 +154,9 @@ module _ (ks os : List ℕ) (es vs : List ℤ) (v : ValidBatch (batch ks os es v
 
     pub part-valid : endsValid (getD (parts os es) k []) ≡ none
     part-valid = valid-at (parts os es) k parts-valid
+
+    pub column-valid : Valid (columnAt (batch ks os es vs) k)
+    column-valid = rw column-is (runs-rise 0 _ _ (rising _ part-valid))
 
     pub parts-paired : length (getD (parts os es) k []) ≡ length (getD (parts os vs) k [])
     parts-paired = paired-at os es vs k (v .paired)

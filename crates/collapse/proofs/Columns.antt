@@ -1,24 +1,19 @@
 -- The columns of a valid batch with a new key for each, by what the code reads.
 -- Assumes nothing.
-use Prim.Native.Nat.{ℕ, zero, suc}
+use Prim.Native.Nat.{ℕ}
 use mathlib.Core.Bool.{Bool}
-use mathlib.Core.List.{List, [], _∷_, map}
+use mathlib.Core.List.{List, [], map}
 use mathlib.Core.Path.{_≡_, ap, sym, _∙_}
 use lib.IntN.{ℤ, pos}
 use lib.ListN.{length, getD}
 use Rattle.column.specs.Flat.{flat, columns}
 use Rattle.column.specs.Lists.{total, parts}
-use Rattle.column.specs.Runs.{Runs, lengthOf, lengthOfEnds}
+use Rattle.column.specs.Runs.{lengthOf, lengthOfEnds}
 use Rattle.column.proofs.All.{All}
 use Rattle.column.proofs.Rising.{Valid}
 use Rattle.batch.specs.Batch.{batch}
 use Rattle.batch.proofs.Entries.{columns-many, columns-are, columns-total, column-count, column-length}
 use Rattle.collapse.specs.Workers.{Grouped}
-
-valid-in : (cs : List Runs) (k : ℕ) → All Valid cs → Valid (getD cs k [])
-valid-in [] k a = tt
-valid-in (c ∷ cs) zero a = a .0
-valid-in (c ∷ cs) (suc k) a = valid-in cs k (a .1)
 
 module _ (ks os : List ℕ) (es vs : List ℤ) (newKeys : List ℕ) {together : Bool} (g : Grouped (batch ks os es vs) newKeys together) where
   pub new-many : length newKeys ≡ length (columns (flat os es vs))
@@ -31,9 +26,6 @@ module _ (ks os : List ℕ) (es vs : List ℤ) (newKeys : List ℕ) {together : 
   all-runs = columns-total ks os es vs (g .valid)
 
   module _ (k : ℕ) where
-    pub column-valid : Valid (getD (columns (flat os es vs)) k [])
-    column-valid = valid-in (columns (flat os es vs)) k all-valid
-
     module _ {p : List ℤ} (e : p ≡ getD (parts os es) k []) where
       pub part-runs : length p ≡ length (getD (columns (flat os es vs)) k [])
       part-runs = ap length e ∙ sym (column-count ks os es vs (g .valid) k)

@@ -24,10 +24,10 @@ use Rattle.column.proofs.Sequences.{length-ends, length-values, runs-flat}
 use Rattle.ops.specs.Ops.{sides}
 use Rattle.plan.proofs.Columns.{two-few}
 use Rattle.batch.specs.Batch.{batch}
-use Rattle.batch.proofs.Entries.{columnAt, column-is, part-valid, parts-paired}
+use Rattle.batch.proofs.Entries.{columnAt, column-is, column-valid, part-valid, parts-paired}
 use Rattle.collapse.specs.Collapse.{collapseFrom, collapseRuns, members, renamed}
 use Rattle.collapse.specs.Workers.{NextMember, Grouped, memberRuns, Foldable, FoldedMember, FoldRoom, Folded, FilledGroup}
-use Rattle.collapse.proofs.Columns.{new-many, all-valid, all-runs, column-valid, part-runs}
+use Rattle.collapse.proofs.Columns.{new-many, all-valid, all-runs, part-runs}
 use Rattle.collapse.proofs.Few.{merged-few, combined-valid, collapse-few}
 use Rattle.collapse.proofs.Members.{membersAt, AtMember, at-next, member-at, members-next, members-end, members-first, members-all, members-few}
 
@@ -164,7 +164,7 @@ module _ (ks os : List ℕ) (es vs : List ℤ) (nk : List ℕ) (first : ℕ) whe
         first-out = (p .valid, p .paired, omega (arith, first-few, p .count, q .room-ends), omega (arith, first-few, p .count, q .room-values))
 
         first-runs : length (encode (dense (runsOf pe pv))) + total (map length (left next)) ≤ most
-        first-runs = rw (p .runs) (omega (arith, first-few, merged-few (columnAt (batch ks os es vs) first) (column-valid ks os es vs nk g first)))
+        first-runs = rw (p .runs) (omega (arith, first-few, merged-few (columnAt (batch ks os es vs) first) (column-valid ks os es vs (g .valid) first)))
 
         pub first-long : {s₁ t₁ : List ℤ} {n : ℕ} → Filled (encode (dense (runsOf pe pv))) s s₁ t t₁ n → (length s₁ ≡ length s) × (length t₁ ≡ length t)
         first-long {s₁} {t₁} d = (
@@ -276,7 +276,7 @@ module _ (ks os : List ℕ) (es vs : List ℤ) (nk : List ℕ) (first : ℕ) whe
             let on : left at ≡ columnAt (batch ks os es vs) at ∷ left at′ = members-next key nk cs (new-many ks os es vs nk g) at m h here in
             let k : length (i .sofar) + (length (columnAt (batch ks os es vs) at) + total (map length (left at′))) ≤ most = rw on at (i .few) in
             let n : length next + total (map length (left at′)) ≤ most =
-            omega (arith, k, two-few op (Value f) (Value f) (i .sofar) (columnAt (batch ks os es vs) at) (i .valid) (column-valid ks os es vs nk g at)) in
+            omega (arith, k, two-few op (Value f) (Value f) (i .sofar) (columnAt (batch ks os es vs) at) (i .valid) (column-valid ks os es vs (g .valid) at)) in
             let le : length e′ ≡ length e = long _ e e′ (d .through .ends) (rw length-ends (omega (arith, i .room .room-ends))) in
             let lv : length v′ ≡ length v = long _ v v′ (d .through .values) (rw length-values (omega (arith, i .room .room-values))) in
             let ls : length s′ ≡ length s = long _ s s′ (d .filled .ends) (rw length-ends (omega (arith, low g, i .room .scratch-ends))) in

@@ -12,16 +12,14 @@ use Rattle.column.specs.declared.answer.Fill.the-variants.{Value}
 use Rattle.column.specs.Combine.{combined}
 use Rattle.column.specs.Lists.{total, parts}
 use Rattle.column.specs.Runs.{sequence, Filled}
-use Rattle.column.proofs.Ends.{rising, runs-rise}
 use Rattle.column.proofs.Rest.{rest-length}
-use Rattle.column.proofs.Rising.{Valid}
 use Rattle.plan.proofs.Columns.{two-few}
 use Rattle.ops.specs.Ops.{sides}
 use Rattle.ops.specs.Workers.{Zippable}
 use Rattle.batch.specs.declared.two.Joined.{Joined}
 use Rattle.batch.specs.Batch.{Batch, Entry, columnsOf}
-use Rattle.batch.specs.Workers.{ValidBatch, FilledCounts, NextKept}
-use Rattle.batch.proofs.Entries.{columnAt, column-is, column-count, part-valid, parts-paired}
+use Rattle.batch.specs.Workers.{FilledCounts, NextKept}
+use Rattle.batch.proofs.Entries.{columnAt, column-is, column-count, part-valid, parts-paired, column-valid}
 use Rattle.batch.proofs.Laying.{noEntry, LayingBatch, batch-start, batch-next, batch-end}
 use Rattle.join.specs.Zip.{Pair, pairRuns, zipPair}
 use Rattle.join.specs.Workers.{ZipRoom}
@@ -31,11 +29,6 @@ drop-map : {A B : Type 0} (f : A → B) (n : ℕ) (xs : List A) → drop n (map 
 drop-map f zero xs = refl
 drop-map f (suc n) [] = refl
 drop-map f (suc n) (x ∷ xs) = drop-map f n xs
-
-column-valid : (b : Batch) → ValidBatch b → (i : ℕ) → Valid (columnAt b i)
-column-valid b v i =
-    rw (column-is (b .keys) (b .flat .offsets) (b .flat .ends) (b .flat .values) v i)
-    (runs-rise 0 _ _ (rising _ (part-valid (b .keys) (b .flat .offsets) (b .flat .ends) (b .flat .values) v i)))
 
 module _ (how : ℕ) (a b : Batch) (op : ℤ → ℤ → ℤ) (fa fb : ℤ) where
   abbrev zip : Pair → Entry
@@ -51,7 +44,8 @@ module _ (how : ℕ) (a b : Batch) (op : ℤ → ℤ → ℤ) (fa fb : ℤ) wher
 
   module _ {k₀ y : List ℕ} {e₀ v₀ : List ℤ} (z : ZipRoom a b (allPairs how a b) k₀ y e₀ v₀) where
     few : (j : Joined) → length (zip (pairOf a b j) .runs) ≤ pairRuns (pairOf a b j)
-    few j = two-few op (Value fa) (Value fb) (columnAt a (j .a)) (columnAt b (j .b)) (column-valid a (z .first) (j .a)) (column-valid b (z .second) (j .b))
+    few j = two-few op (Value fa) (Value fb) (columnAt a (j .a)) (columnAt b (j .b)) (column-valid (a .keys) (a .flat .offsets) (a .flat .ends) (a .flat .values) (z .first) (j .a))
+        (column-valid (b .keys) (b .flat .offsets) (b .flat .ends) (b .flat .values) (z .second) (j .b))
 
     -- the results have no more runs than the pairs
     all-few : total (map length (columnsOf zipped)) ≤ total (map pairRuns (allPairs how a b))

@@ -11,8 +11,9 @@ use Rattle.column.specs.declared.inner.Writer.{Writer}
 use Rattle.column.specs.Combine.{Column, folded, combined}
 use Rattle.column.specs.Runs.{Run, Runs, magnitude, pushMerged, Filled}
 use Rattle.column.specs.Writing.{nextPlace, PushedMerged, pushAll, Merging}
+use Rattle.column.proofs.Appending.{push-few}
 use Rattle.column.proofs.All.{All}
-use Rattle.column.proofs.Encode.{length-push, place-le, le-place}
+use Rattle.column.proofs.Encode.{length-push, le-place}
 use Rattle.column.proofs.Merging.{merge-at, merge-more, merge-end, fill-none}
 use Rattle.column.proofs.Rising.{Valid}
 use Rattle.plan.specs.Plan.{Place, Segment, leastEnd, rests, indexes, firstPlaces, segmentsFrom, endsIn, valuesFor, segmentRun, segmentRuns}
@@ -27,12 +28,6 @@ push-snoc : (done rs : Runs) (r : Run) → pushAll done (rs ++ r ∷ []) ≡ pus
 unfolding pushAll
 push-snoc done [] r = refl
 push-snoc done (s ∷ rs) r = push-snoc (pushMerged done (s .end) (s .value)) rs r
-
-push-few : (done rs : Runs) → length (pushAll done rs) ≤ length done + length rs
-unfolding pushAll
-push-few done [] = omega arith
-push-few done (r ∷ rs) =
-    omega (arith, push-few (pushMerged done (r .end) (r .value)) rs, length-push done (r .end) (r .value), place-le done (r .value))
 
 push-some : (done rs : Runs) → length done ≤ length (pushAll done rs)
 unfolding pushAll

@@ -7,7 +7,8 @@ use lib.ListN.{length, getD}
 use mathlib.Core.List.{[]}
 use Rattle.num.specs.Numbers.{operation}
 use Rattle.column.specs.Flat.{flat, columns}
-use Rattle.collapse.proofs.Columns.{new-many, column-valid, part-long}
+use Rattle.batch.proofs.Entries.{column-valid}
+use Rattle.collapse.proofs.Columns.{new-many, part-long}
 use Rattle.collapse.proofs.Filling.{Asking, asking-start, asking-no, asking-next, asking-end}
 use borrow.Author.Needs.{needs}
 use Rattle.collapse.proofs.inner.ask_group.Statement.{statement}
@@ -31,7 +32,7 @@ next-member-requires c κs = let s = c .before .before .before .before .before i
 
 loop-holds : tie.Need-loop-holds Inv-loop μ-loop
 loop-holds c = let s = c .before .before .before .before .before .before in
-    asking-start _ _ _ (new-many _ _ _ _ _ (s .pre .0)) _ (column-valid _ _ _ _ _ (s .pre .0) _) (s .pre .1) (s .pre .2) (c .next-member .ensures)
+    asking-start _ _ _ (new-many _ _ _ _ _ (s .pre .0)) _ (column-valid _ _ _ _ (s .pre .0 .valid) _) (s .pre .1) (s .pre .2) (c .next-member .ensures)
 
 part-at-requires-2 : tie.Need-part-at-requires-2 Inv-loop μ-loop
 part-at-requires-2 c κs = search needs
