@@ -979,6 +979,18 @@ fn batch_lookups<L, A: Into<Answer>, R: Reference<L>>(
     );
 }
 
+fn batch_position(bench: &Bench, input: &str, batch: &Batch, key: u32) {
+    batch_lookups(
+        bench,
+        ["batch_position", input, "call"],
+        1,
+        batch,
+        || (),
+        |()| library::batch_position(black_box(batch).keys(), black_box(key)),
+        |batch| Ok(batch.position(&black_box(key))),
+    );
+}
+
 /// The sequence of a key, copied.
 fn batch_get(bench: &Bench, input: &str, batch: &Batch, key: u32) {
     batch_lookups(
@@ -1238,6 +1250,7 @@ fn batches(bench: &Bench, rng: &mut Rng) {
 
     let [a, b] = &[(); 2].map(|()| random_batch(rng, 0..KEYS));
     let input = "10k keys of 100 runs";
+    batch_position(bench, input, a, KEYS / 3);
     batch_get(bench, input, a, KEYS / 3);
     let first = a.get_index(0).expect("there are keys").to_rle();
     let intervals = &random_intervals(rng, &first, 1000, 500);
