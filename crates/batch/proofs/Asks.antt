@@ -23,7 +23,7 @@ pub lengths-asked : (ks os : List ℕ) (es vs : List ℤ) {r a b : Question} →
 unfolding keyed paired
 lengths-asked ks os es vs hr ha hb = asked-last (agree 2 (length os) (length ks + 1)) hr ha (λ y. hb)
 
-pub lengths-told : (ks os : List ℕ) (es vs : List ℤ) → firstNo (lengthsAsked (batch ks os es vs)) ≡ none → (length os ≡ length ks + 1) × (length es ≡ length vs)
+lengths-told : (ks os : List ℕ) (es vs : List ℤ) → firstNo (lengthsAsked (batch ks os es vs)) ≡ none → (length os ≡ length ks + 1) × (length es ≡ length vs)
 unfolding keyed paired
 lengths-told ks os es vs h =
     let y = all-yes (lengthsAsked (batch ks os es vs)) h in

@@ -1,9 +1,8 @@
 -- The loop that asks about all pairs of a join, and counts their runs: n of them are asked, and j is the place of the next.
 -- Assumes nothing.
 use Prim.Native.Nat.{ℕ, suc, _+_, _≤_, _<_, _^_}
-use mathlib.Core.Option.{none, some}
 use mathlib.Core.List.{List, [], _∷_, map}
-use mathlib.Core.Path.{_≡_, refl, ap, ap₂, sym, _∙_}
+use mathlib.Core.Path.{_≡_, ap, ap₂, sym, _∙_}
 use native.Mathlib.Numerals.{add-one}
 use native.Mathlib.Omega.{arith}
 use lib.IntN.{ℤ}
@@ -24,10 +23,6 @@ use Rattle.batch.proofs.Entries.{column-count, column-length}
 use Rattle.join.specs.Zip.{Pair, filledPair, filledPairs, pairRuns}
 use Rattle.join.specs.Workers.{AsksPairs}
 use Rattle.join.proofs.Pairs.{pairOf, allPairs, placesIn, placeIn, Stands, pairs-rest, standing-start, standing-pair, standing-next, standing-end}
-
-yes-last : (q : Question) → q ≡ firstNo (q ∷ none ∷ [])
-yes-last none = refl
-yes-last (some r) = refl
 
 -- one more question, before those that are left
 asked-more : {r b : Question} (a p c : Question) → r ≡ firstNo (a ∷ b ∷ []) → b ≡ p → firstNo (r ∷ c ∷ []) ≡ firstNo (a ∷ firstNo (p ∷ c ∷ []) ∷ [])
@@ -61,7 +56,7 @@ module _ (how : ℕ) (a b : Batch) (fa fb : Fill) where
           let z = standing-end (placeIn how a b) (pairOf a b) (placesIn how a b) (allPairs how a b) (s .stands) k in
           let r : firstNo (shownAsked asked ∷ eachFrom question n [] ∷ []) ≡ filledPairs fa fb (allPairs how a b) = rw z at (s .answer) in
           let c : saturated (runs + total (map pairRuns [])) ≡ saturated (total (map pairRuns (allPairs how a b))) = rw z at (s .count) in
-          record { filled = yes-last (shownAsked asked) ∙ r; runs = omega (arith, s .shown) }
+          record { filled = sym (first-rest (shownAsked asked) [] ∙ alone (shownAsked asked)) ∙ r; runs = omega (arith, s .shown) }
 
       -- the sequences of the next pair, as the code reads them
       module _ (h : j .at < placesIn how a b) {left right : List ℤ} (el : left ≡ getD (parts (a .flat .offsets) (a .flat .ends)) (j .a) []) (er : right ≡ getD (parts (b .flat .offsets) (b .flat .ends)) (j .b) []) where
