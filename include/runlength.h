@@ -422,6 +422,15 @@ rl_batched rl_batch_reversed(const uint32_t *keys, size_t keys_len, const size_t
                              size_t *out_offsets, size_t out_offsets_len, int64_t *out_ends, size_t out_ends_len,
                              int64_t *out_values, size_t out_values_len);
 
+/* The same keys, each with what rl_slice makes of its sequence; a key whose slice shows nothing is kept, with no runs.
+ * Refuses: the batch; 12: out_keys needs keys_len entries, out_offsets keys_len + 1, out_ends and out_values ends_len, however
+ * few runs the slices have. */
+rl_batched rl_batch_map_rles_slice(const uint32_t *keys, size_t keys_len, const size_t *offsets, size_t offsets_len,
+                                   const int64_t *ends, size_t ends_len, const int64_t *values, size_t values_len, int64_t start,
+                                   int64_t end, uint32_t *out_keys, size_t out_keys_len, size_t *out_offsets,
+                                   size_t out_offsets_len, int64_t *out_ends, size_t out_ends_len, int64_t *out_values,
+                                   size_t out_values_len);
+
 /* The sequences gathered under new keys, one for each key; these may repeat, and the keys themselves are not looked at. A new key
  * stands where it first appears. Its sequence starts as that of its first key, merged, and takes each further one in order by
  * rl_zip_with, the fill serving both sides.

@@ -14,12 +14,20 @@ use Rattle.column.specs.Asking.{_otherwise_}
 use Rattle.column.specs.Flat.{flat, columns}
 use Rattle.column.specs.Lists.{total, parts}
 use Rattle.column.specs.Questions.{endsValid, room}
-use Rattle.column.specs.Runs.{Runs, runsOf, Filled}
+use Rattle.column.specs.Runs.{Runs, runsOf, endsOf, valuesOf, Filled}
 use Rattle.column.proofs.All.{All}
+use Rattle.column.proofs.Ends.{valid-ends}
 use Rattle.column.proofs.FirstNo.{all-yes}
 use Rattle.column.proofs.Rest.{rest-length}
 use Rattle.column.proofs.Rising.{Valid}
+use Rattle.column.proofs.Sequences.{runs-flat, length-ends, length-values}
+use Rattle.slice.specs.declared.search.TouchedRuns.{TouchedRuns}
+use Rattle.slice.specs.Search.{touchedBy}
+use Rattle.slice.specs.Slice.{sliceRuns}
+use Rattle.slice.specs.Workers.{Touches}
 use Rattle.slice.proofs.Items.{length-all}
+use Rattle.slice.proofs.Touching.{touched-inside, touches, touched-count}
+use Rattle.transform.specs.Transform.{reverseRuns}
 use Rattle.transform.proofs.Reversing.{reverse-count}
 use Rattle.transform.proofs.Shifting.{shift-few}
 use Rattle.batch.specs.Batch.{Batch, batch, Entry, entries, keysOf, columnsOf, WritesBatch, batchValid, batchNeeds}
@@ -28,16 +36,30 @@ use Rattle.batch.proofs.Asks.{valid-told, Room, batch-room}
 use Rattle.batch.proofs.Entries.{columns-are, columns-many, columns-total, column-is, column-count, part-valid, parts-paired, entries-keys, entries-columns, entries-many}
 use Rattle.batch.proofs.Laying.{noEntry, LayingBatch, batch-start, batch-next-room, batch-next, batch-end, batch-written}
 use Rattle.each.specs.declared.inner.Mapping.{Mapping}
-use Rattle.each.specs.declared.inner.Mapping.the-variants.{Shift, Reversed}
-use Rattle.each.specs.Each.{onEach, eachAsked, shiftRuns}
-use Rattle.each.specs.Workers.{mapped, more, Mappable}
+use Rattle.each.specs.declared.inner.Mapping.the-variants.{Shift, Reversed, Slice}
+use Rattle.each.specs.Each.{onEach, eachAsked, shiftRuns, shift, reversed, mapRlesSlice}
+use Rattle.each.specs.Workers.{mapped, more, mapEach, Mappable}
 
 -- ---- how many runs are left
+
+slice-few : (start end : ℤ) (rs : Runs) → Valid rs → length (sliceRuns start end rs) ≤ length rs
+slice-few start end rs v =
+    let valid = valid-ends rs v in
+    let n = rw runs-flat at (touched-count start end (endsOf rs) (valuesOf rs) valid (length-ends rs ∙ sym (length-values rs))) in
+    omega (arith, n, touched-inside start end (endsOf rs) valid, length-ends rs)
 
 mapped-few : (m : Mapping) (rs : Runs) → Valid rs → length (mapped m rs) ≤ length rs + more m
 unfolding shiftRuns
 mapped-few (Shift distance fill) rs v = shift-few distance fill rs v
 mapped-few Reversed rs v = omega (arith, reverse-count rs)
+mapped-few (Slice start end) rs v = omega (arith, slice-few start end rs v)
+
+-- there is room for the runs that a slice touches where there is for all
+pub slice-touches : (start end : ℤ) (es vs e v : List ℤ) {t : TouchedRuns} → (endsValid es ≡ none → t ≡ touchedBy start end es)
+    → endsValid es ≡ none → length es ≡ length vs → length es ≤ length e → length es ≤ length v → Touches t es vs e v
+slice-touches start end es vs e v et valid l re rv =
+    let i = touched-inside start end es valid in
+    rw (et valid) (touches start end es vs e v valid l (omega arith) (omega arith))
 
 module _ (m : Mapping) where
   -- those of the sequences before one of them, and as many as may be left of it
@@ -157,11 +179,30 @@ module _ {m : Mapping} {ks os : List ℕ} {es vs : List ℤ} {k₀ x : List ℕ}
 
 -- ---- the calls
 
-module _ (m : Mapping) (ks os : List ℕ) (es vs : List ℤ) {runs : ℕ} (er : runs ≡ length es + more m * length ks) (k x : List ℕ) (e v : List ℤ)
-    (yes : eachAsked (batch ks os es vs) runs (length k ∷ length x ∷ length e ∷ length v ∷ []) ≡ none) where
-  told : ValidBatch (batch ks os es vs) × Room (length ks) runs (length k) (length x) (length e) (length v)
+pub shift-each : (distance fill : ℤ) (b : Batch) (buffers : List ℕ) → mapEach (Shift distance fill) b buffers ≡ shift b distance fill buffers
+unfolding mapEach shift
+shift-each distance fill b buffers =
+    let n : length (b .flat .ends) + 1 * length (b .keys) ≡ length (b .flat .ends) + length (b .keys) = omega arith in
+    ap (λ (runs : ℕ). eachAsked b runs buffers otherwise onEach (shiftRuns distance fill) (entries b)) n
+
+pub reversed-each : (b : Batch) (buffers : List ℕ) → mapEach Reversed b buffers ≡ reversed b buffers
+unfolding mapEach reversed
+reversed-each b buffers =
+    let n : length (b .flat .ends) + 0 * length (b .keys) ≡ length (b .flat .ends) = omega arith in
+    ap (λ (runs : ℕ). eachAsked b runs buffers otherwise onEach reverseRuns (entries b)) n
+
+pub slice-each : (start end : ℤ) (b : Batch) (buffers : List ℕ) → mapEach (Slice start end) b buffers ≡ mapRlesSlice b start end buffers
+unfolding mapEach mapRlesSlice
+slice-each start end b buffers =
+    let n : length (b .flat .ends) + 0 * length (b .keys) ≡ length (b .flat .ends) = omega arith in
+    ap (λ (runs : ℕ). eachAsked b runs buffers otherwise onEach (sliceRuns start end) (entries b)) n
+
+module _ (m : Mapping) (ks os : List ℕ) (es vs : List ℤ) (k x : List ℕ) (e v : List ℤ)
+    (yes : eachAsked (batch ks os es vs) (length es + more m * length ks) (length k ∷ length x ∷ length e ∷ length v ∷ []) ≡ none) where
+  told : ValidBatch (batch ks os es vs) × Room (length ks) (length es + more m * length ks) (length k) (length x) (length e) (length v)
   unfolding eachAsked
   told =
+      let runs = length es + more m * length ks in
       let y = all-yes (batchValid (batch ks os es vs) ∷ room (batchNeeds (length ks) runs) (length k ∷ length x ∷ length e ∷ length v ∷ []) ∷ []) yes in
       (valid-told ks os es vs (y .0), batch-room (length ks) runs (length k) (length x) (length e) (length v) (y .1 .0))
 
@@ -170,11 +211,12 @@ module _ (m : Mapping) (ks os : List ℕ) (es vs : List ℤ) {runs : ℕ} (er : 
     batch = told .0;
     room-keys = told .1 .for-keys;
     room-offsets = told .1 .for-offsets;
-    room-ends = rw er at (told .1 .for-ends);
-    room-values = rw er at (told .1 .for-values);
+    room-ends = told .1 .for-ends;
+    room-values = told .1 .for-values;
   }
 
   pub each-written : {k′ x′ : List ℕ} {e′ v′ : List ℤ} {n : ℕ} → FilledBatch (results m (batch ks os es vs)) k k′ x x′ e e′ v v′ n
-      → WritesBatch (eachAsked (batch ks os es vs) runs (length k ∷ length x ∷ length e ∷ length v ∷ []) otherwise results m (batch ks os es vs))
+      → WritesBatch (mapEach m (batch ks os es vs) (length k ∷ length x ∷ length e ∷ length v ∷ []))
       (Batched.Batch (record { keys = length ks; runs = n })) k k′ x x′ e e′ v v′
+  unfolding mapEach
   each-written f = batch-written (results m (batch ks os es vs)) yes (sym (results-many m ks os es vs (told .0))) f

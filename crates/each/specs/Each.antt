@@ -7,6 +7,7 @@ use Rattle.column.specs.Asking.{Question, firstNo, _otherwise_}
 use Rattle.column.specs.Paper.{Outcome}
 use Rattle.column.specs.Questions.{room}
 use Rattle.column.specs.Runs.{Runs, dense, encode}
+use Rattle.slice.specs.Slice.{sliceRuns}
 use Rattle.transform.specs.Transform.{shiftValues, reverseRuns}
 use Rattle.batch.specs.Batch.{Batch, Entry, entries, batchValid, batchNeeds}
 
@@ -30,3 +31,7 @@ shift b distance fill buffers =
 -- each sequence reversed
 unfoldable pub reversed : Batch → List ℕ → Outcome (List Entry)
 reversed b buffers = eachAsked b (length (b .flat .ends)) buffers otherwise onEach reverseRuns (entries b)
+
+-- "a slice of every key through `map_rles`", of a key too that then shows nothing
+unfoldable pub mapRlesSlice : Batch → ℤ → ℤ → List ℕ → Outcome (List Entry)
+mapRlesSlice b start end buffers = eachAsked b (length (b .flat .ends)) buffers otherwise onEach (sliceRuns start end) (entries b)

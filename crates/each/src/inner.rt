@@ -15,6 +15,7 @@ ghost use Rattle.each.specs.Workers.{mapped, more, Mappable};
 pub enum Mapping {
     Shift { distance: i64, fill: i64 },
     Reversed,
+    Slice { start: i64, end: i64 },
 }
 
 fn map_runs(
@@ -34,6 +35,10 @@ fn map_runs(
             transform::inner::shift(ends, values, distance, fill, out_ends, out_values)
         }
         Mapping::Reversed => transform::inner::reversed(ends, values, out_ends, out_values),
+        Mapping::Slice { start, end } => {
+            let touched = slice::search::touched(ends, start, end);
+            slice::inner::slice(ends, values, touched, out_ends, out_values)
+        }
     }
 }
 

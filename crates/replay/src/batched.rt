@@ -106,42 +106,63 @@ fn slice_reduce(
     answer
 }
 
-fn shift(
-    row: &[i64],
-    distance: i64,
-    fill: i64,
-    out_keys: &mut [i64],
-    out_offsets: &mut [i64],
+// Call 36, 37 or 38, with the numbers that it takes, if any.
+fn call_each(
+    call: usize,
+    numbers: &[i64],
+    keys: &[u32],
+    offsets: &[usize],
+    ends: &[i64],
+    values: &[i64],
+    out_keys: &mut [u32],
+    out_offsets: &mut [usize],
     out_ends: &mut [i64],
     out_values: &mut [i64],
 ) -> RlBatched {
-    let mut keys = [0u32; row::LONGEST];
-    let mut offsets = [0usize; row::LONGEST];
-    let n = row::fill_keys(listed(row, 0), &mut keys);
-    let m = row::fill_places(listed(row, 1), &mut offsets);
-    let mut left_keys = [0u32; row::LONGEST];
-    let mut left = [0usize; row::LONGEST];
-    let e = row::fill_keys(out_keys, &mut left_keys);
-    let f = row::fill_places(out_offsets, &mut left);
-    let answer = runlength::rl_batch_shift(
-        &keys[..n],
-        &offsets[..m],
-        listed(row, 2),
-        listed(row, 3),
-        distance,
-        fill,
-        &mut left_keys[..e],
-        &mut left[..f],
-        out_ends,
-        out_values,
-    );
-    row::put_keys(&left_keys, out_keys);
-    row::put_places(&left, out_offsets);
-    answer
+    let first = row::entry(numbers, 0);
+    let second = row::entry(numbers, 1);
+    match call {
+        36 => runlength::rl_batch_shift(
+            keys,
+            offsets,
+            ends,
+            values,
+            first,
+            second,
+            out_keys,
+            out_offsets,
+            out_ends,
+            out_values,
+        ),
+        37 => runlength::rl_batch_reversed(
+            keys,
+            offsets,
+            ends,
+            values,
+            out_keys,
+            out_offsets,
+            out_ends,
+            out_values,
+        ),
+        _ => runlength::rl_batch_map_rles_slice(
+            keys,
+            offsets,
+            ends,
+            values,
+            first,
+            second,
+            out_keys,
+            out_offsets,
+            out_ends,
+            out_values,
+        ),
+    }
 }
 
-fn reversed(
+fn map_each(
+    call: usize,
     row: &[i64],
+    numbers: &[i64],
     out_keys: &mut [i64],
     out_offsets: &mut [i64],
     out_ends: &mut [i64],
@@ -155,7 +176,9 @@ fn reversed(
     let mut left = [0usize; row::LONGEST];
     let e = row::fill_keys(out_keys, &mut left_keys);
     let f = row::fill_places(out_offsets, &mut left);
-    let answer = runlength::rl_batch_reversed(
+    let answer = call_each(
+        call,
+        numbers,
         &keys[..n],
         &offsets[..m],
         listed(row, 2),
@@ -330,16 +353,7 @@ pub fn answer(
     sixth: &mut [i64],
 ) -> [i64; 10] {
     match call {
-        36 => batched(shift(
-            row,
-            row::entry(numbers, 0),
-            row::entry(numbers, 1),
-            first,
-            second,
-            third,
-            fourth,
-        )),
-        37 => batched(reversed(row, first, second, third, fourth)),
+        36..=38 => batched(map_each(call, row, numbers, first, second, third, fourth)),
         39 => batched(collapse(
             row,
             numbers,

@@ -120,6 +120,7 @@ fn report_batch(cases: &[u64; CALLS], agreed: &[u64; CALLS]) {
     report(b"RleBatch slice_reduce ", cases[35], agreed[35]);
     report(b"RleBatch shift ", cases[36], agreed[36]);
     report(b"RleBatch reversed ", cases[37], agreed[37]);
+    report(b"RleBatch map_rles_slice ", cases[38], agreed[38]);
     report(b"RleBatch collapse ", cases[39], agreed[39]);
     report(b"RleBatch concat ", cases[40], agreed[40]);
     report(b"RleBatch zip_with ", cases[41], agreed[41]);

@@ -9,7 +9,7 @@ pub fn known(number: i64) -> usize
 {
     let call = num::as_unsigned(number);
     match call {
-        2..=37 | 39..=43 => call as usize,
+        2..=43 => call as usize,
         _ => 0,
     }
 }
@@ -84,6 +84,7 @@ fn shape_of(call: usize) -> Shape {
         35 => shaped(7, 2, 0, 2, 0, 1),
         36 => shaped(4, 2, NO_CODE, 4, 0, 2),
         37 => shaped(4, 0, NO_CODE, 4, 0, 2),
+        38 => shaped(4, 2, NO_CODE, 4, 0, 2),
         39 => shaped(5, 3, 2, 6, 0, 2),
         40 => shaped(8, 0, NO_CODE, 4, 0, 2),
         41 => shaped(8, 6, 5, 4, 0, 2),

@@ -654,6 +654,37 @@ pub extern "C" fn rl_batch_reversed(
 }
 
 #[no_mangle]
+pub extern "C" fn rl_batch_map_rles_slice(
+    keys: &[u32],
+    offsets: &[usize],
+    ends: &[i64],
+    values: &[i64],
+    start: i64,
+    end: i64,
+    out_keys: &mut [u32],
+    out_offsets: &mut [usize],
+    out_ends: &mut [i64],
+    out_values: &mut [i64],
+) -> RlBatched
+    ensures { λ r. ⌜ LaidBatch
+        (each.mapRlesSlice (batch (now (keys .entry)) (now (offsets .entry)) (now (ends .entry)) (now (values .entry))) start end (length (now («out_keys» .entry)) ∷ length (now («out_offsets» .entry)) ∷ length (now («out_ends» .entry)) ∷ length (now («out_values» .entry)) ∷ [])) r
+        (now («out_keys» .entry)) (now («out_keys» .exit)) (now («out_offsets» .entry)) (now («out_offsets» .exit)) (now («out_ends» .entry)) (now («out_ends» .exit)) (now («out_values» .entry)) (now («out_values» .exit)) ⌝ }
+{
+    ffi::batched(each::map_rles_slice(
+        keys,
+        offsets,
+        ends,
+        values,
+        start,
+        end,
+        out_keys,
+        out_offsets,
+        out_ends,
+        out_values,
+    ))
+}
+
+#[no_mangle]
 pub extern "C" fn rl_batch_collapse(
     keys: &[u32],
     offsets: &[usize],
