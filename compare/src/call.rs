@@ -47,6 +47,16 @@ impl Arg {
             (list, _) => panic!("not what the buffer holds: {list}"),
         }
     }
+
+    /// The first entries of a list of a sequence or of a batch.
+    pub fn first(&self, count: usize) -> Arg {
+        match self {
+            Arg::List(list) => Arg::List(list[..count].to_vec()),
+            Arg::Places(list) => Arg::Places(list[..count].to_vec()),
+            Arg::Keys(list) => Arg::Keys(list[..count].to_vec()),
+            arg => panic!("no list of a sequence or of a batch: {arg}"),
+        }
+    }
 }
 
 fn in_front<T: Copy>(mut list: Vec<T>, held: &[T]) -> Vec<T> {
@@ -249,6 +259,11 @@ pub struct Call {
 }
 
 impl Call {
+    pub fn named(name: &str) -> &'static Call {
+        let call = CALLS.iter().find(|call| call.name == name);
+        call.expect("there is a call of that name")
+    }
+
     pub fn takes_arguments(&self) -> bool {
         !self.parameters.is_empty()
     }
@@ -467,6 +482,11 @@ calls! {
     ) -> 2;
     37 batch_reversed(
         keys: Keys, offsets: Offsets, ends: FlatEnds, values: FlatValues;
+        out_keys: KeyRoom, out_offsets: IndexRoom, out_ends: Room, out_values: Room
+    ) -> 2;
+    38 batch_map_rles_slice(
+        keys: Keys, offsets: Offsets, ends: FlatEnds, values: FlatValues,
+        start: Position, end: Position;
         out_keys: KeyRoom, out_offsets: IndexRoom, out_ends: Room, out_values: Room
     ) -> 2;
     39 batch_collapse(

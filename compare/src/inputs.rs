@@ -2,6 +2,7 @@
 
 use crate::answer::Error;
 use crate::call::{Arg, Call, Fill, Parameter};
+use std::collections::BTreeSet;
 
 /// What a parameter stands for.
 #[derive(Clone, Copy, PartialEq, Eq)]
@@ -471,13 +472,17 @@ fn meeting_batches(call: &Call) -> Vec<Vec<Arg>> {
             .to_vec(),
         _ => Vec::new(),
     };
-    let with_rooms = |mut args: Vec<Arg>| {
-        let rooms = call.parameters[args.len()..].iter();
-        args.extend(rooms.map(|room| no_room(room.role)));
-        lengthen_to_need(call, &call.lent_at(), &mut args);
-        args
-    };
-    inputs.into_iter().map(with_rooms).collect()
+    let inputs = inputs.into_iter();
+    inputs.map(|inputs| with_rooms(call, inputs)).collect()
+}
+
+/// These inputs with buffers as long as document 01 asks.
+pub fn with_rooms(call: &Call, inputs: Vec<Arg>) -> Vec<Arg> {
+    let mut args = inputs;
+    let rooms = call.parameters[args.len()..].iter();
+    args.extend(rooms.map(|room| no_room(room.role)));
+    lengthen_to_need(call, &call.lent_at(), &mut args);
+    args
 }
 
 /// Seams of document 01 whose numbers are floats, and what short random cases seldom show.
@@ -796,6 +801,13 @@ struct Keyed {
     columns: Vec<Column>,
 }
 
+impl Keyed {
+    fn keys_differ(&self) -> bool {
+        let different: BTreeSet<u32> = self.keys.iter().copied().collect();
+        different.len() == self.keys.len()
+    }
+}
+
 /// What the arguments of a call are taken from.
 struct Drawn {
     /// A sequence that stands for all.
@@ -825,6 +837,31 @@ impl Drawn {
             first: Keyed { keys, columns },
             second,
         }
+    }
+
+    /// Two or more points from 0 on that never fall and reach the longest length, many of them at
+    /// the end of a run, at one another or past the end. Seldom there are more than 128 pieces.
+    fn points(&self, rng: &mut Rng) -> Vec<i64> {
+        let columns = self.first.columns.iter().chain(&self.second.columns);
+        let columns: Vec<&Column> = columns.collect();
+        let longest = columns.iter().map(|column| column.length()).max();
+        let longest = longest.unwrap_or(0);
+        let last = rng.pick(&[longest, longest, longest.saturating_add(1), MAX]);
+        let more = match rng.below(100) {
+            0 => 150,
+            _ => rng.pick(&[0, 1, 2, 2, 3, 3, 5, 8]),
+        };
+        let mut points = vec![0, last];
+        for _ in 0..more {
+            let point = match columns[..] {
+                [] => rng.number(),
+                _ if rng.one_in(4) => rng.pick(&points),
+                _ => rng.pick(&columns).position(rng),
+            };
+            points.push(point.max(0));
+        }
+        points.sort();
+        points
     }
 
     fn arg(&self, role: Role, rng: &mut Rng) -> Arg {
@@ -929,6 +966,28 @@ impl Drawn {
             | Role::Scratch => no_room(role),
         }
     }
+}
+
+/// A job to be cut, of valid columns and, in a batch, different keys: the inputs of a call, those
+/// that belong together in a group, and the points.
+pub fn job(call: &Call, rng: &mut Rng) -> (Vec<Vec<Arg>>, Vec<i64>) {
+    let drawn = loop {
+        let drawn = Drawn::new(call, rng);
+        if [&drawn.first, &drawn.second]
+            .iter()
+            .all(|batch| batch.keys_differ())
+        {
+            break drawn;
+        }
+    };
+    let parameters = call.parameters.iter();
+    let inputs: Vec<&Parameter> = parameters.filter(|parameter| !parameter.lent).collect();
+    let groups = inputs.chunk_by(|one, next| next.role.continues(one.role));
+    let groups = groups.map(|group| {
+        let args = group.iter().map(|input| drawn.arg(input.role, rng));
+        args.collect()
+    });
+    (groups.collect(), drawn.points(rng))
 }
 
 /// Different keys, ascending, descending or in any order, and at times one of them twice.

@@ -264,6 +264,11 @@ calls! {
         out_keys: &mut [u32], out_offsets: &mut [usize], out_ends: &mut [i64],
         out_values: &mut [i64]
     ) -> Batched;
+    rl_batch_map_rles_slice: batch_map_rles_slice(
+        keys: &[u32], offsets: &[usize], ends: &[i64], values: &[i64], start: i64, end: i64,
+        out_keys: &mut [u32], out_offsets: &mut [usize], out_ends: &mut [i64],
+        out_values: &mut [i64]
+    ) -> Batched;
     rl_batch_collapse: batch_collapse(
         keys: &[u32], offsets: &[usize], ends: &[i64], values: &[i64],
         new_keys: &[u32], fill: Fill, code: u8,

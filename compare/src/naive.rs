@@ -184,7 +184,7 @@ fn segment_ends(segments: &[Segment]) -> Vec<i64> {
 }
 
 /// The parts of a flat list.
-fn parts<'a>(offsets: &[usize], list: &'a [i64]) -> Vec<&'a [i64]> {
+pub fn parts<'a>(offsets: &[usize], list: &'a [i64]) -> Vec<&'a [i64]> {
     let part = |pair: &[usize]| &list[pair[0]..pair[1]];
     offsets.windows(2).map(part).collect()
 }
@@ -624,7 +624,7 @@ pub fn slice_view_values(ends: &[i64], values: &[i64], start: i64, end: i64) -> 
 
 /// Sequences laid flat: where each starts and, at last, how many runs all have; their ends; their
 /// values.
-fn laid_flat(sequences: Vec<Runs>) -> (Vec<usize>, Vec<i64>, Vec<i64>) {
+pub fn laid_flat(sequences: Vec<Runs>) -> (Vec<usize>, Vec<i64>, Vec<i64>) {
     let before = |k: usize| sequences[..k].iter().map(|(ends, _)| ends.len()).sum();
     let offsets = (0..=sequences.len()).map(before).collect();
     let (ends, values): (Vec<_>, Vec<_>) = sequences.into_iter().unzip();
@@ -1178,6 +1178,25 @@ pub fn batch_reversed(
     let given = given_batch(out_keys, out_offsets, out_ends, out_values);
     ask_buffers(&batch_needs(keys.len(), ends.len()), &given)?;
     Ok(batch.each(turned))
+}
+
+pub fn batch_map_rles_slice(
+    keys: &[u32],
+    offsets: &[usize],
+    ends: &[i64],
+    values: &[i64],
+    start: i64,
+    end: i64,
+    out_keys: &[u32],
+    out_offsets: &[usize],
+    out_ends: &[i64],
+    out_values: &[i64],
+) -> Reading {
+    let batch = Batch::new(keys, offsets, ends, values);
+    ask_batches(&[&batch], Ok(()))?;
+    let given = given_batch(out_keys, out_offsets, out_ends, out_values);
+    ask_buffers(&batch_needs(keys.len(), ends.len()), &given)?;
+    Ok(batch.each(|ends, values| runs(&show_slice(ends, values, start, end))))
 }
 
 /// The entries of a batch's buffers.

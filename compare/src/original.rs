@@ -476,6 +476,18 @@ pub fn batch_reversed(keys: &[u32], offsets: &[usize], ends: &[i64], values: &[i
     made_batch(Ok(batch(keys, offsets, ends, values)?.reversed()))
 }
 
+pub fn batch_map_rles_slice(
+    keys: &[u32],
+    offsets: &[usize],
+    ends: &[i64],
+    values: &[i64],
+    start: i64,
+    end: i64,
+) -> InDomain {
+    let batch = batch(keys, offsets, ends, values)?;
+    made_batch(Ok(batch.map_rles(|rle| rle.slice(start, end))))
+}
+
 pub fn batch_collapse(
     keys: &[u32],
     offsets: &[usize],

@@ -376,7 +376,7 @@ impl Timing {
 }
 
 fn print_row([call, input, unit]: [&str; 3], [library, original, ratio]: [&str; 3]) {
-    println!("| {call:18} | {input:33} | {unit:8} | {library:>9} | {original:>9} | {ratio:>9} |");
+    println!("| {call:20} | {input:33} | {unit:8} | {library:>9} | {original:>9} | {ratio:>9} |");
 }
 
 /// How long the calls take. What they give back is dropped after that.
@@ -1134,6 +1134,35 @@ fn batch_reversed(bench: &Bench, input: &str, batch: &Batch) {
     );
 }
 
+/// Of every key from a start up to an end.
+fn batch_map_rles_slice(bench: &Bench, input: &str, batch: &Batch, [start, end]: [i64; 2]) {
+    let runs = batch.ends().len();
+    bench.measure(
+        Row::new(["batch_map_rles_slice", input, "run"], runs),
+        || batch_buffers(batch.len(), runs),
+        |(keys, offsets, ends, out)| {
+            let batch = black_box(batch);
+            library::batch_map_rles_slice(
+                batch.keys(),
+                batch.offsets(),
+                batch.ends(),
+                batch.values(),
+                black_box(start),
+                black_box(end),
+                keys,
+                offsets,
+                ends,
+                out,
+            )
+        },
+        || (),
+        |()| {
+            let (start, end) = (black_box(start), black_box(end));
+            Ok(black_box(batch).map_rles(|rle| rle.slice(start, end)))
+        },
+    );
+}
+
 /// Sums under new keys, which the library takes as a list.
 fn batch_collapse(bench: &Bench, input: &str, batch: &Batch, new_key: impl Fn(&u32) -> u32) {
     let runs = batch.ends().len();
@@ -1262,6 +1291,14 @@ fn batches(bench: &Bench, rng: &mut Rng) {
     let input = "10k keys of 100 runs";
     batch_shift(bench, input, a, 10);
     batch_reversed(bench, input, a);
+    let middle = first.len() / 2;
+    for (part, limits) in [
+        ("nearly all", [5, 4 * middle]),
+        ("the middle", [middle, middle + 100]),
+    ] {
+        let input = &format!("{input}, {part}");
+        batch_map_rles_slice(bench, input, a, limits);
+    }
     let groups = |number| format!("{input}, {number} groups");
     batch_collapse(bench, &groups(100), a, |key| key % 100);
     batch_collapse(bench, &groups(5000), a, |key| key / 2);
