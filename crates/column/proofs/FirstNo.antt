@@ -7,8 +7,8 @@ use mathlib.Core.Path.{_≡_, refl, sym, _∙_}
 use native.Mathlib.Numerals.{add-one}
 use lib.ListN.{length, getD, drop, drop-of-length-le}
 use lib.Seq.{drop-cons}
-use Rattle.column.specs.Paper.{PaperRefusal, answers}
-use Rattle.column.specs.Asking.{Question, firstNo, _otherwise_, eachFrom}
+use Rattle.column.specs.Paper.{PaperRefusal}
+use Rattle.column.specs.Asking.{Question, firstNo, eachFrom}
 
 -- a question by itself
 pub alone : (q : Question) → firstNo (q ∷ []) ≡ q
@@ -43,10 +43,6 @@ AllYes (q ∷ qs) = (q ≡ none) × AllYes qs
 pub all-yes : (qs : List Question) → firstNo qs ≡ none → AllYes qs
 all-yes [] e = tt
 all-yes (q ∷ qs) e = (first-yes q qs e, all-yes qs (rest-yes q qs e))
-
-pub answered-yes : {X : Type 0} (q : Question) (x y : X) → q otherwise x ≡ answers y → q ≡ none
-answered-yes none x y e = refl
-answered-yes (some r) x y e = cc
 
 -- ---- a question and those behind it, as the code puts them: what is asked later counts only after a "yes"
 

@@ -1,7 +1,7 @@
 -- What a question tells where it is answered "yes".
 -- Assumes nothing.
 use Prim.Native.Nat.{ℕ, suc, _+_, _≤_, _<_, _^_, min}
-use mathlib.Core.Bool.{Bool, true, false, _&&_}
+use mathlib.Core.Bool.{Bool, true, false, _&&_, _||_}
 use mathlib.Core.Option.{none}
 use mathlib.Core.List.{List, [], _∷_}
 use mathlib.Core.Path.{_≡_, refl, _∙_, sym}
@@ -27,6 +27,10 @@ told number values false e = cc
 pub both-true : (s t : Bool) → s && t ≡ true → (s ≡ true) × (t ≡ true)
 both-true true t e = (refl, e)
 both-true false t e = (e, cc)
+
+pub both-false : (s t : Bool) → s || t ≡ false → (s ≡ false) × (t ≡ false)
+both-false true t e = (e, cc)
+both-false false t e = (refl, e)
 
 pub listed-told : (low high code : ℕ) → listed low high code ≡ none → (low ≤ code) × (code ≤ high)
 unfolding listed

@@ -1,7 +1,7 @@
 -- The sequences of keys that are given once: together they have no more runs than the batch.
 -- Assumes nothing.
 use Prim.Native.Nat.{ℕ, _+_, _≤_}
-use mathlib.Core.Bool.{Bool, true, false, _||_}
+use mathlib.Core.Bool.{false}
 use mathlib.Core.List.{List, [], _∷_, map}
 use mathlib.Core.Path.{_≡_, refl, ap, sym, _∙_}
 use native.Mathlib.Omega.{arith}
@@ -10,14 +10,11 @@ use lib.ListN.{length}
 use borrow.Author.Tests.{eqb-true, eq-eqb}
 use Rattle.num.proofs.Tests.{by-test}
 use Rattle.column.specs.Lists.{any, total}
+use Rattle.column.proofs.Told.{both-false}
 use Rattle.keys.specs.Keys.{onceFrom, once}
 use Rattle.keys.proofs.Lowest.{no-test}
 use Rattle.keys.proofs.Once.{NoDoubles, once-no-doubles}
 use Rattle.batch.specs.Batch.{Entry, columnsOf, find}
-
-neither : (a b : Bool) → a || b ≡ false → (a ≡ false) × (b ≡ false)
-neither true b e = let z : _≡_ {A = ℕ} 0 1 = cc in let y : ⊥ = omega arith in absurd y
-neither false b e = (refl, e)
 
 -- ---- the runs of the keys' sequences
 
@@ -35,7 +32,7 @@ module _ (e : Entry) (es : List Entry) where
   unfolding find
   entry-absent [] t = refl
   entry-absent (k ∷ ks) t =
-      let n = neither (eqb (e .key) k) (any (eqb (e .key)) ks) t in
+      let n = both-false (eqb (e .key) k) (any (eqb (e .key)) ks) t in
       let m : eqb k (e .key) ≡ false = by-test (eqb k (e .key)) (λ u. no-test (eq-eqb (e .key) k (sym (eqb-true k (e .key) u))) (n .0)) (λ u. u) in
       rw (m, entry-absent ks (n .1))
 

@@ -1,9 +1,7 @@
 -- The test of equality of integers, and cases on a test.
 -- Assumes nothing.
-use Prim.Native.Nat.{ℕ}
 use mathlib.Core.Bool.{Bool, true, false}
 use mathlib.Core.Path.{_≡_, refl, ap}
-use native.Mathlib.Omega.{arith}
 use lib.IntN.{ℤ, pos, negsuc}
 use borrow.Author.Tests.{eqb-true, eq-eqb}
 use Rattle.num.specs.Numbers.{eqZ}
@@ -28,6 +26,3 @@ eq-eqZ a b e = rw (← e) (eqZ-refl a)
 
 pub ne-eqZ : (a b : ℤ) → (a ≡ b → ⊥) → eqZ a b ≡ false
 ne-eqZ a b n = by-test (eqZ a b) (λ t. absurd (n (eqZ-true a b t))) (λ t. t)
-
-pub eqZ-false : (a b : ℤ) → eqZ a b ≡ false → a ≡ b → ⊥
-eqZ-false a b f e = let t = eq-eqZ a b e in let z : _≡_ {A = ℕ} 0 1 = cc in omega arith

@@ -59,9 +59,6 @@ wrap-add-left = wrap-left _+ℤ_ _+_ residue-add
 pub wrap-add-right : (a b : ℤ) → wrap (a +ℤ wrap b) ≡ wrap (a +ℤ b)
 wrap-add-right = wrap-right _+ℤ_ _+_ residue-add
 
-pub wrap-mul : (a b : ℤ) → wrap (wrap a *ℤ wrap b) ≡ wrap (a *ℤ b)
-wrap-mul = wrap-both _*ℤ_ _*_ residue-mul
-
 from-residue : (z : ℤ) {r : ℤ} {s : ℕ} → r ≡ signed s → s ≡ residue z → toZ w64 (ofZ w64 r) ≡ wrap z
 unfolding wrap
 from-residue z er es = let e : _ ≡ wrap z = er ∙ ap signed es in rw e (toZ-ofZ (wrap-fits z))

@@ -1,13 +1,13 @@
--- The sum of a sequence is the wrapped sum of what it shows, wrapping on the way makes no difference, and the sums of parts add up.
+-- The sum of a sequence is the wrapped sum of what it shows, and wrapping on the way makes no difference.
 -- Assumes nothing.
 use Prim.Native.Nat.{ℕ, zero, suc, _-_}
-use mathlib.Core.List.{List, [], _∷_, _++_, map}
+use mathlib.Core.List.{List, [], _∷_, _++_}
 use mathlib.Core.Path.{_≡_, refl, ap, sym, _∙_}
 use native.Mathlib.Omega.{arith}
 use lib.IntN.{ℤ, pos, _+ℤ_, _*ℤ_, sucℤ-*ℤ, zero-*ℤ, +ℤ-comm, +ℤ-assoc, +ℤ-idl, +ℤ-idr}
 use lib.ListN.{replicate}
 use Rattle.num.specs.Numbers.{wrap}
-use Rattle.num.proofs.Wrap.{wrap-same, wrap-add, wrap-add-left}
+use Rattle.num.proofs.Wrap.{wrap-same, wrap-add-left}
 use Rattle.column.specs.Runs.{Runs, dense, denseFrom}
 use Rattle.reduce.specs.Reduce.{foldRuns, addWeight, sumRuns}
 use Rattle.reduce.specs.Workers.{addWrapped}
@@ -54,28 +54,3 @@ wrap-zero = wrap-same (pos 0) (record { sfits = omega arith })
 
 pub wrapped-fold : (p : ℕ) (rs : Runs) → foldRuns addWrapped (pos 0) p rs ≡ wrap (foldRuns addWeight (pos 0) p rs)
 wrapped-fold p rs = ap (λ (z : ℤ). foldRuns addWrapped z p rs) (sym wrap-zero) ∙ wrapped-folds (pos 0) p rs
-
--- ---- sums of parts
-
--- integers added, wrapping
-abbrev pub addWrapping : ℤ → List ℤ → ℤ
-addWrapping a [] = a
-addWrapping a (z ∷ zs) = addWrapping (wrap (a +ℤ z)) zs
-
--- what the parts show, one after the other
-abbrev pub allShown : List Runs → List ℤ
-allShown [] = []
-allShown (c ∷ cs) = dense c ++ allShown cs
-
-wrapped-sums : (a : ℤ) (cs : List Runs) → addWrapping (wrap a) (map sumRuns cs) ≡ wrap (a +ℤ adds (allShown cs))
-wrapped-sums a [] = ap wrap (sym (+ℤ-idr a))
-wrapped-sums a (c ∷ cs) =
-    rw (sum-dense c, wrap-add, adds-append) (wrapped-sums (a +ℤ adds (dense c)) cs ∙ ap wrap (+ℤ-assoc a (adds (dense c)) (adds (allShown cs))))
-
-pub sums-add : (cs : List Runs) → addWrapping (pos 0) (map sumRuns cs) ≡ wrap (adds (allShown cs))
-sums-add cs =
-    ap (λ (z : ℤ). addWrapping z (map sumRuns cs)) (sym wrap-zero) ∙ wrapped-sums (pos 0) cs ∙ ap wrap (+ℤ-idl (adds (allShown cs)))
-
--- if the parts show, one after the other, what the runs show
-pub sums-whole : (cs : List Runs) (rs : Runs) → allShown cs ≡ dense rs → addWrapping (pos 0) (map sumRuns cs) ≡ sumRuns rs
-sums-whole cs rs e = sums-add cs ∙ ap (λ (xs : List ℤ). wrap (adds xs)) e ∙ sym (sum-dense rs)

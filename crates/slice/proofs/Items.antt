@@ -121,17 +121,17 @@ all-behind : (cs : List Runs) (c : Runs) → allRuns (cs ++ c ∷ []) ≡ allRun
 all-behind [] c = append-nil c
 all-behind (b ∷ cs) c = rw (all-behind cs c) (sym (append-assoc b (allRuns cs) c))
 
-flat-ends : (cs : List Runs) → flatEnds cs ≡ endsOf (allRuns cs)
+pub flat-ends : (cs : List Runs) → flatEnds cs ≡ endsOf (allRuns cs)
 unfolding flatEnds endsOf
 flat-ends [] = refl
 flat-ends (c ∷ cs) = rw (flat-ends cs) (sym (ends-append c (allRuns cs)))
 
-flat-values : (cs : List Runs) → flatValues cs ≡ valuesOf (allRuns cs)
+pub flat-values : (cs : List Runs) → flatValues cs ≡ valuesOf (allRuns cs)
 unfolding flatValues valuesOf
 flat-values [] = refl
 flat-values (c ∷ cs) = rw (flat-values cs) (sym (values-append c (allRuns cs)))
 
-length-offsets : (a : ℕ) (cs : List Runs) → length (offsetsFrom a cs) ≡ length cs
+pub length-offsets : (a : ℕ) (cs : List Runs) → length (offsetsFrom a cs) ≡ length cs
 unfolding offsetsFrom
 length-offsets a [] = refl
 length-offsets a (c ∷ cs) = ap suc (length-offsets (a + length c) cs)

@@ -1,0 +1,150 @@
+-- Cutting never shows: many columns combined.
+-- Assumes nothing.
+use Prim.Native.Nat.{ℕ, suc, _-_}
+use mathlib.Core.Bool.{true}
+use mathlib.Core.Option.{none}
+use mathlib.Core.List.{List, [], _∷_, map, map-map}
+use mathlib.Core.Path.{_≡_, refl, ap, sym, _∙_}
+use native.Mathlib.Omega.{arith}
+use lib.IntN.{ℤ}
+use lib.ListN.{length, length-map}
+use Rattle.num.specs.Numbers.{operation}
+use Rattle.column.specs.declared.answer.Fill.{Fill}
+use Rattle.column.specs.Asking.{Question, firstNo, _otherwise_}
+use Rattle.column.specs.Combine.{many, greatestLength, allFilled, combined}
+use Rattle.column.specs.Flat.{Flat, count, sequencesFrom, sequencesAt, sequences, columns, pairedFlat, offsetsFlat, endsFlat, flatAsked}
+use Rattle.column.specs.Lists.{part, partsFrom}
+use Rattle.column.specs.Paper.{Outcome, answers}
+use Rattle.column.specs.Questions.{listed, paired, endsValid, atMost, room, both}
+use Rattle.column.specs.Runs.{Sequence, Runs, runs}
+use Rattle.column.proofs.All.{All}
+use Rattle.column.proofs.FirstNo.{first-several, all-yes}
+use Rattle.column.proofs.Flattened.{AllValid, sequences-told, columns-valid}
+use Rattle.column.proofs.Parts.{part-paired}
+use Rattle.column.proofs.Rising.{Valid}
+use Rattle.column.proofs.Told.{agree-told}
+use Rattle.slice.proofs.Sliced.{valid-slice}
+use Rattle.many.specs.Many.{mostColumns, leastLength, zipManyAsked}
+use Rattle.many.specs.Many as calls
+use Rattle.cutting.specs.Cut.{longest, cutPoints, Span, spans, flatOf, inTurn}
+use Rattle.cutting.specs.Claim.{ValidFlat, NeverShows, cut, zipMany, zipManyPieces, JoinsUp}
+use Rattle.cutting.proofs.Combined.{piece, sliced, ValidColumn}
+use Rattle.cutting.proofs.Columns.{map-same, first-same, cut-columns, cut-answers}
+use Rattle.cutting.proofs.Laid.{agree-yes, columns-flat, paired-flat, length-flat-offsets, offsets-flat, ends-flat}
+
+-- ---- each sequence of several laid flat
+
+-- a sequence that is asked nothing more
+abbrev Fine : Sequence → Type 0
+Fine s = (paired s ≡ none) × (endsValid (s .ends) ≡ none)
+
+fine-from : (a : ℕ) (os : List ℕ) (es vs : List ℤ) → length es ≡ length vs → AllValid (partsFrom a os es) → All Fine (sequencesFrom a os es vs)
+unfolding sequencesFrom partsFrom paired
+fine-from a [] es vs l v = tt
+fine-from a (b ∷ os) es vs l v =
+    ((agree-yes 3 (length (part a b es)) (length (part a b vs)) (part-paired a b es vs l), v .0), fine-from b os es vs l (v .1))
+
+fine-at : (os : List ℕ) (es vs : List ℤ) → paired (record { ends = es; values = vs }) ≡ none → endsFlat (record { offsets = os; ends = es; values = vs }) ≡ none → All Fine (sequencesAt os es vs)
+unfolding paired
+fine-at [] es vs p e = tt
+fine-at (a ∷ os) es vs p e = fine-from a os es vs (agree-told 3 (length es) (length vs) p) (sequences-told (a ∷ os) es e)
+
+length-from : (a : ℕ) (os : List ℕ) (es vs : List ℤ) → length (sequencesFrom a os es vs) ≡ length os
+unfolding sequencesFrom
+length-from a [] es vs = refl
+length-from a (b ∷ os) es vs = ap suc (length-from b os es vs)
+
+length-at : (os : List ℕ) (es vs : List ℤ) → length (sequencesAt os es vs) ≡ length os - 1
+length-at [] es vs = refl
+length-at (a ∷ os) es vs = rw (length-from a os es vs) (omega arith)
+
+columns-count : (f : Flat) → length (columns f) ≡ count f
+unfolding columns
+columns-count f = length-map (sequences f) runs ∙ length-at (f .offsets) (f .ends) (f .values)
+
+-- ---- the columns of the pieces
+
+greatest-many : (fill : Fill) (cs : List Runs) → greatestLength (many fill cs) ≡ longest cs
+unfolding greatestLength
+greatest-many fill [] = refl
+greatest-many fill (c ∷ cs) = rw (greatest-many fill cs)
+
+valid-many : (fill : Fill) (cs : List Runs) → All Valid cs → All ValidColumn (many fill cs)
+valid-many fill [] v = tt
+valid-many fill (c ∷ cs) v = (v .0, valid-many fill cs (v .1))
+
+valid-cut : (z : Span) (cs : List Runs) → All Valid cs → All Valid (map (piece z) cs)
+valid-cut z [] v = tt
+valid-cut z (c ∷ cs) v = (valid-slice (z .start) (z .end) c (v .0), valid-cut z cs (v .1))
+
+many-cut : (fill : Fill) (z : Span) (cs : List Runs) → many fill (map (piece z) cs) ≡ map (sliced z) (many fill cs)
+many-cut fill z [] = refl
+many-cut fill z (c ∷ cs) = rw (many-cut fill z cs)
+
+module _ (fill : Fill) (code : ℕ) where
+  -- the questions before the fills: the same for the whole and for every piece
+  abbrev before : ℕ → Question
+  before k = firstNo (listed 0 9 code ∷ atMost mostColumns k ∷ [])
+
+  abbrev fills : List Runs → Question
+  fills cs = allFilled (leastLength cs) (greatestLength (many fill cs)) (many fill cs)
+
+  -- the questions that are left, of columns that are valid
+  abbrev settled : ℕ → List Runs → Outcome Runs
+  settled k cs = firstNo (before k ∷ fills cs ∷ []) otherwise combined (operation code) (many fill cs)
+
+  zip-settles : (f : Flat) (given : List ℕ) → pairedFlat f ≡ none → offsetsFlat f ≡ none → endsFlat f ≡ none → room (both (length (f .ends))) given ≡ none
+      → calls.zipMany f fill code given ≡ settled (count f) (columns f)
+  unfolding calls.zipMany zipManyAsked
+  zip-settles f given p o e r =
+      let few = atMost mostColumns (count f) in
+      let ask = fills (columns f) in
+      let room = room (both (length (f .ends))) given in
+      ap (λ q. q otherwise combined (operation code) (many fill (columns f)))
+      (first-same (listed 0 9 code) (pairedFlat f ∷ offsetsFlat f ∷ endsFlat f ∷ few ∷ ask ∷ room ∷ []) (few ∷ ask ∷ [])
+      (rw (p, o, e) (first-same few (ask ∷ room ∷ []) (ask ∷ []) (first-same ask (room ∷ []) [] (rw r))))
+      ∙ first-several (listed 0 9 code ∷ few ∷ []) (ask ∷ []))
+
+  module _ (lent : List ℕ → List ℕ) (enough : (needed : List ℕ) → room needed (lent needed) ≡ none) where
+    in-turn : (z : Span) (ss : List Sequence) → All Fine ss → inTurn (map (cut lent z) ss) ≡ answers (map (λ s. piece z (runs s)) ss)
+    in-turn z [] h = refl
+    in-turn z (s ∷ ss) h = rw (cut-answers lent enough s z (h .0 .0) (h .0 .1), in-turn z ss (h .1))
+
+    zip-runs : (cs : List Runs) → All Valid cs → zipMany lent fill code (flatOf cs) ≡ settled (length cs) cs
+    zip-runs cs v =
+        let needed = both (length (flatOf cs .ends)) in
+        let z = zip-settles (flatOf cs) (lent needed) (paired-flat cs) (offsets-flat cs) (ends-flat cs v) (enough needed) in
+        let k : count (flatOf cs) ≡ length cs = rw (length-flat-offsets cs) (omega arith) in
+        rw (columns-flat cs, k) at z
+
+    abbrev pieceOf : List Runs → Span → Outcome Runs
+    pieceOf cs z =
+        firstNo (before (length cs) ∷ allFilled (leastLength (map (piece z) cs)) (greatestLength (map (sliced z) (many fill cs))) (map (sliced z) (many fill cs)) ∷ [])
+        otherwise combined (operation code) (map (sliced z) (many fill cs))
+
+    piece-settles : (f : Flat) → All Fine (sequences f) → All Valid (columns f) → (z : Span)
+        → zipManyPieces lent fill code f z ≡ pieceOf (columns f) z
+    unfolding columns
+    piece-settles f h v z =
+        let cs = map runs (sequences f) in
+        let e : map (λ s. piece z (runs s)) (sequences f) ≡ map (piece z) cs = sym (map-map (piece z) runs (sequences f)) in
+        let k : length (map (piece z) cs) ≡ length cs = length-map cs (piece z) in
+        let g : zipMany lent fill code (flatOf (map (piece z) cs)) ≡ pieceOf cs z = rw (k, many-cut fill z cs) at (zip-runs (map (piece z) cs) (valid-cut z cs v)) in
+        rw (in-turn z (sequences f) h, e) g
+
+    pub many-way : (points : List ℤ) (f : Flat) → ValidFlat f → cutPoints (longest (columns f)) points ≡ true
+        → NeverShows (JoinsUp lent) (zipMany lent fill code f) (map (zipManyPieces lent fill code f) (spans points))
+    many-way points f v t =
+        let (p, (o, (e, _))) = all-yes (flatAsked f) v in
+        let w = columns-valid (f .offsets) (f .ends) (f .values) (sequences-told (f .offsets) (f .ends) e) in
+        let cs = columns f in
+        let needed = both (length (f .ends)) in
+        rw (
+          zip-settles f (lent needed) p o e (enough needed),
+          ← columns-count f,
+          map-same (zipManyPieces lent fill code f) (pieceOf cs) (spans points)
+              (piece-settles f (fine-at (f .offsets) (f .ends) (f .values) p e) w),
+        )
+        (cut-columns lent enough (before (length cs)) (operation code) (many fill cs) (leastLength cs) (greatestLength (many fill cs))
+        (λ z. leastLength (map (piece z) cs)) (λ z. greatestLength (map (sliced z) (many fill cs))) (valid-many fill cs w)
+        points (rw (greatest-many fill cs) t))
