@@ -100,7 +100,7 @@ paired-at : (os : List ℕ) (es vs : List ℤ) (k : ℕ) → length es ≡ lengt
 paired-at [] es vs k e = refl
 paired-at (a ∷ os) es vs k e = paired-from a os es vs k e
 
-length-columns : (os : List ℕ) (es vs : List ℤ) → length es ≡ length vs → AllValid (parts os es) → length (columns (flat os es vs)) ≡ length os - 1
+pub length-columns : (os : List ℕ) (es vs : List ℤ) → length es ≡ length vs → AllValid (parts os es) → length (columns (flat os es vs)) ≡ length os - 1
 length-columns os es vs l v =
     sym (length-map (columns (flat os es vs)) length)
     ∙ ap length (columns-by-ends length length (λ e w y p. length-runs e w p) os es vs l v)

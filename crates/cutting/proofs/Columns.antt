@@ -14,13 +14,13 @@ use Rattle.column.specs.Asking.{Question, firstNo, _otherwise_}
 use Rattle.column.specs.Combine.{Column, greatestLength, sideOf, allFilled, rowAt, table, combined}
 use Rattle.column.specs.Paper.{answers}
 use Rattle.column.specs.Questions.{Side, isMissing, longest, lacking, filled, paired, endsValid, room, both, sequenceAsked}
-use Rattle.column.specs.Runs.{Sequence, runs, lengthOf}
+use Rattle.column.specs.Runs.{Sequence, runs}
 use Rattle.column.proofs.All.{All}
 use Rattle.column.proofs.Encoded.{valid-encode}
-use Rattle.column.proofs.Naturals.{larger-naturals}
 use Rattle.column.proofs.Positions.{eachPosition-length}
 use Rattle.column.proofs.Rising.{Valid}
 use Rattle.slice.specs.Slice.{slice}
+use Rattle.many.proofs.Ranging.{longest-sides}
 use Rattle.cutting.specs.Cut.{cutPoints, Span, spansFrom, spans}
 use Rattle.cutting.specs.Claim.{NeverShows, cut, JoinsUp}
 use Rattle.cutting.proofs.Tests.{any-map}
@@ -37,11 +37,6 @@ first-same none qs qs′ e = e
 first-same (some r) qs qs′ e = refl
 
 -- ---- 10, exactly where a column lacks its fill
-
-longest-sides : (cs : List Column) → longest (map sideOf cs) ≡ pos (greatestLength cs)
-unfolding greatestLength
-longest-sides [] = refl
-longest-sides (c ∷ cs) = rw (longest-sides cs) (larger-naturals (lengthOf (c .runs)) (greatestLength cs))
 
 lacks-sides : (cs : List Column) → lacking (longest (map sideOf cs)) (map sideOf cs) ≡ lacks cs
 lacks-sides cs = rw (longest-sides cs) (any-map (λ (s : Side). ltZ (s .length) (pos (greatestLength cs)) && isMissing (s .fill)) sideOf cs)

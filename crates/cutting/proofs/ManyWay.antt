@@ -1,6 +1,6 @@
 -- Cutting never shows: many columns combined.
 -- Assumes nothing.
-use Prim.Native.Nat.{ℕ, suc, _-_}
+use Prim.Native.Nat.{ℕ}
 use mathlib.Core.Bool.{true}
 use mathlib.Core.Option.{none}
 use mathlib.Core.List.{List, [], _∷_, map, map-map}
@@ -24,6 +24,7 @@ use Rattle.column.proofs.Parts.{part-paired}
 use Rattle.column.proofs.Rising.{Valid}
 use Rattle.column.proofs.Told.{agree-told}
 use Rattle.slice.proofs.Sliced.{valid-slice}
+use Rattle.batch.proofs.Entries.{length-columns}
 use Rattle.many.specs.Many.{mostColumns, leastLength, zipManyAsked}
 use Rattle.many.specs.Many as calls
 use Rattle.cutting.specs.Cut.{longest, cutPoints, Span, spans, flatOf, inTurn}
@@ -49,18 +50,10 @@ unfolding paired
 fine-at [] es vs p e = tt
 fine-at (a ∷ os) es vs p e = fine-from a os es vs (agree-told 3 (length es) (length vs) p) (sequences-told (a ∷ os) es e)
 
-length-from : (a : ℕ) (os : List ℕ) (es vs : List ℤ) → length (sequencesFrom a os es vs) ≡ length os
-unfolding sequencesFrom
-length-from a [] es vs = refl
-length-from a (b ∷ os) es vs = ap suc (length-from b os es vs)
-
-length-at : (os : List ℕ) (es vs : List ℤ) → length (sequencesAt os es vs) ≡ length os - 1
-length-at [] es vs = refl
-length-at (a ∷ os) es vs = rw (length-from a os es vs) (omega arith)
-
-columns-count : (f : Flat) → length (columns f) ≡ count f
-unfolding columns
-columns-count f = length-map (sequences f) runs ∙ length-at (f .offsets) (f .ends) (f .values)
+columns-count : (f : Flat) → pairedFlat f ≡ none → endsFlat f ≡ none → length (columns f) ≡ count f
+unfolding paired
+columns-count f p e =
+    length-columns (f .offsets) (f .ends) (f .values) (agree-told 3 (length (f .ends)) (length (f .values)) p) (sequences-told (f .offsets) (f .ends) e)
 
 -- ---- the columns of the pieces
 
@@ -141,7 +134,7 @@ module _ (fill : Fill) (code : ℕ) where
         let needed = both (length (f .ends)) in
         rw (
           zip-settles f (lent needed) p o e (enough needed),
-          ← columns-count f,
+          ← columns-count f p e,
           map-same (zipManyPieces lent fill code f) (pieceOf cs) (spans points)
               (piece-settles f (fine-at (f .offsets) (f .ends) (f .values) p e) w),
         )

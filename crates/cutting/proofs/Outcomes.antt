@@ -1,7 +1,7 @@
 -- A whole and its pieces that are refused by one question, after questions that are the same for all.
 -- Assumes nothing.
 use Prim.Native.Nat.{ℕ}
-use mathlib.Core.Bool.{Bool, true, false, _&&_, _||_}
+use mathlib.Core.Bool.{Bool, true, false, _&&_}
 use mathlib.Core.Option.{none, some}
 use mathlib.Core.List.{List, [], _∷_, map}
 use mathlib.Core.Path.{_≡_, refl, ap, sym, _∙_}
@@ -10,11 +10,11 @@ use lib.Dec.{eqb}
 use borrow.Author.Tests.{eq-eqb}
 use Rattle.column.specs.Asking.{Question, firstNo, _otherwise_}
 use Rattle.column.specs.Lists.{any}
-use Rattle.column.specs.Paper.{Outcome, answers}
+use Rattle.column.specs.Paper.{answers}
 use Rattle.column.proofs.Told.{both-false}
-use Rattle.cutting.specs.Cut.{refusedWith, someRefusedWith}
+use Rattle.cutting.specs.Cut.{refusedWith}
 use Rattle.cutting.specs.Claim.{Answered, NeverShows}
-use Rattle.cutting.proofs.Tests.{any-and, any-same}
+use Rattle.cutting.proofs.Tests.{any-and, any-map, any-same}
 
 -- is a question answered "no" with the number
 abbrev pub noWith : ℕ → Question → Bool
@@ -24,10 +24,6 @@ noWith n (some r) = eqb (r .number) n
 refused-no : {X : Type 0} (n : ℕ) (q : Question) (x : X) → refusedWith n (firstNo (q ∷ []) otherwise x) ≡ noWith n q
 refused-no n none x = refl
 refused-no n (some r) x = refl
-
-some-refused : {X Z : Type 0} (n : ℕ) (f : Z → Outcome X) (zs : List Z) → someRefusedWith n (map f zs) ≡ any (λ z. refusedWith n (f z)) zs
-some-refused n f [] = refl
-some-refused n f (z ∷ zs) = ap (refusedWith n (f z) ||_) (some-refused n f zs)
 
 -- never "no", with no number
 never-no : (q : Question) → ((n : ℕ) → noWith n q ≡ false) → q ≡ none
@@ -71,7 +67,7 @@ module _ {X Z : Type 0} (Joins : X → List X → Type 0) (whole : Question) (x 
   pub never-shows : (q : Question) → NeverShows Joins (firstNo (q ∷ whole ∷ []) otherwise x) (map (λ z. firstNo (q ∷ piece z ∷ []) otherwise value z) (z₀ ∷ zs))
   never-shows none = record {
     refused = λ n.
-        some-refused n (λ z. firstNo (none ∷ piece z ∷ []) otherwise value z) (z₀ ∷ zs)
+        any-map (refusedWith n) (λ z. firstNo (none ∷ piece z ∷ []) otherwise value z) (z₀ ∷ zs)
         ∙ any-same (λ z. refusedWith n (firstNo (piece z ∷ []) otherwise value z)) (λ z. lack z && eqb 10 n) (z₀ ∷ zs) (λ z. refused-no n (piece z) (value z) ∙ tens z n)
         ∙ any-and lack (eqb 10 n) (z₀ ∷ zs)
         ∙ ap (_&& eqb 10 n) some-piece
@@ -79,6 +75,6 @@ module _ {X Z : Type 0} (Joins : X → List X → Type 0) (whole : Question) (x 
     answered = whole-answers;
   }
   never-shows (some r) = record {
-    refused = λ n. some-refused n (λ z. firstNo (some r ∷ piece z ∷ []) otherwise value z) (z₀ ∷ zs) ∙ any-same-test (eqb (r .number) n) z₀ zs;
+    refused = λ n. any-map (refusedWith n) (λ z. firstNo (some r ∷ piece z ∷ []) otherwise value z) (z₀ ∷ zs) ∙ any-same-test (eqb (r .number) n) z₀ zs;
     answered = λ y e. absurd (let z : _≡_ {A = ℕ} 0 1 = cc in omega arith);
   }

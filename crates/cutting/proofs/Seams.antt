@@ -132,12 +132,12 @@ rows =
     ∷ row (asWhole (converted (pos (2 ^ 53 + 3)))) (answers ((pos (2 ^ 53 + 4) ∷ []) ∷ []))
     -- And the claim's own words, where a wrong reading would differ.
     -- Cut points start at 0, never fall and reach the longest length; they are two or more, and i64
-    ∷ row (asTest (cutPoints 9 points)) (asTotal (answers (pos 1)))
-    ∷ row (asTest (cutPoints 9 (pos 1 ∷ pos 12 ∷ []))) (asTotal (answers (pos 0)))
-    ∷ row (asTest (cutPoints 9 (pos 0 ∷ pos 12 ∷ pos 9 ∷ []))) (asTotal (answers (pos 0)))
-    ∷ row (asTest (cutPoints 9 (pos 0 ∷ pos 8 ∷ []))) (asTotal (answers (pos 0)))
-    ∷ row (asTest (cutPoints 0 (pos 0 ∷ []))) (asTotal (answers (pos 0)))
-    ∷ row (asTest (cutPoints 9 (pos 0 ∷ pos (2 ^ 63) ∷ []))) (asTotal (answers (pos 0)))
+    ∷ row (asTest (cutPoints 9 points)) (asTest true)
+    ∷ row (asTest (cutPoints 9 (pos 1 ∷ pos 12 ∷ []))) (asTest false)
+    ∷ row (asTest (cutPoints 9 (pos 0 ∷ pos 12 ∷ pos 9 ∷ []))) (asTest false)
+    ∷ row (asTest (cutPoints 9 (pos 0 ∷ pos 8 ∷ []))) (asTest false)
+    ∷ row (asTest (cutPoints 0 (pos 0 ∷ []))) (asTest false)
+    ∷ row (asTest (cutPoints 9 (pos 0 ∷ pos (2 ^ 63) ∷ []))) (asTest false)
     -- without fill some set of pieces is refused with 10, as the whole is; the first is not
     ∷ row (asTest (someRefusedWith 10 (pieces Missing Missing))) (asTest (refusedWith 10 (add Missing Missing)))
     -- past the end of every key the slice keeps the keys

@@ -1,12 +1,13 @@
 -- Cut points, the pieces between them, and calls that get what earlier calls returned.
 use Prim.Native.Nat.{ℕ, _^_, max}
-use mathlib.Core.Bool.{Bool, false, _&&_, _||_}
+use mathlib.Core.Bool.{Bool, false, _&&_}
 use mathlib.Core.List.{List, [], _∷_}
 use lib.IntN.{ℤ, pos, _+ℤ_}
 use lib.Signed.{leZ, ltZ}
 use lib.Dec.{eqb}
 use Rattle.num.specs.Numbers.{eqZ, wrap}
 use Rattle.column.specs.Flat.{Flat, flat, flatOffsets, flatEnds, flatValues}
+use Rattle.column.specs.Lists.{any}
 use Rattle.column.specs.Paper.{Outcome, answers, refuses}
 use Rattle.column.specs.Runs.{Sequence, sequence, Runs, endsOf, valuesOf, lengthOf}
 use Rattle.batch.specs.Batch.{Batch, Entry, keysOf, columnsOf}
@@ -72,8 +73,7 @@ refusedWith number (refuses r) = eqb (r .number) number
 
 -- "Some set of pieces is refused"
 abbrev pub someRefusedWith : {X : Type 0} → ℕ → List (Outcome X) → Bool
-someRefusedWith number [] = false
-someRefusedWith number (o ∷ os) = refusedWith number o || someRefusedWith number os
+someRefusedWith number os = any (refusedWith number) os
 
 -- "add, wrapping", from a on
 unfoldable pub addWrapping : ℤ → List ℤ → ℤ

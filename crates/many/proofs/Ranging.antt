@@ -13,7 +13,7 @@ use Rattle.num.specs.Numbers.{smallerOf, largerOf}
 use Rattle.num.proofs.Tests.{by-test}
 use Rattle.column.specs.declared.answer.Fill.{Fill}
 use Rattle.column.specs.Asking.{refusal, _unless_}
-use Rattle.column.specs.Combine.{many, greatestLength, sideOf, allFilled}
+use Rattle.column.specs.Combine.{Column, many, greatestLength, sideOf, allFilled}
 use Rattle.column.specs.Lists.{any, part, parts}
 use Rattle.column.specs.Questions.{side, isMissing, longest, lacking, filled}
 use Rattle.column.specs.Runs.{Runs, lengthOf, lengthOfEnds}
@@ -61,6 +61,11 @@ module _ (os : List ℕ) (es : List ℤ) where
     pub ranging-end : length os ≤ c + 1 → LengthsOf (map lengthOfEnds (parts os es)) (record { least = l; greatest = g })
     ranging-end h = let n = parts-end c os es h in record { least = sym (rw n at (r .least)); greatest = sym (rw n at (r .greatest)) }
 
+pub longest-sides : (cs : List Column) → longest (map sideOf cs) ≡ pos (greatestLength cs)
+unfolding greatestLength
+longest-sides [] = refl
+longest-sides (c ∷ cs) = rw (longest-sides cs) (larger-naturals (lengthOf (c .runs)) (greatestLength cs))
+
 or-false : (t : Bool) → t || false ≡ t
 or-false true = refl
 or-false false = refl
@@ -95,11 +100,6 @@ module _ (fill : Fill) where
   greatest-is (c ∷ cs) = greatest-from (lengthOf c) cs
 
   -- ---- 10, of many columns with a single fill: the shortest and the longest stand for all
-
-  longest-is : (cs : List Runs) → longest (map sideOf (many fill cs)) ≡ pos (greatestLength (many fill cs))
-  unfolding greatestLength
-  longest-is [] = refl
-  longest-is (c ∷ cs) = rw (longest-is cs) (larger-naturals (lengthOf c) (greatestLength (many fill cs)))
 
   least-le : (cs : List Runs) → leastLength cs ≤ greatestLength (many fill cs)
   unfolding greatestLength
@@ -145,5 +145,5 @@ module _ (fill : Fill) where
       let g = greatestLength (many fill cs) in
       let m : max l (max g 0) ≡ g = omega (arith, least-le cs) in
       let two : longest (side (pos l) fill ∷ side (pos g) fill ∷ []) ≡ pos g = rw (larger-naturals g 0, larger-naturals l (max g 0)) (ap pos m) in
-      rw (ex, ey, two, longest-is cs, lacking-is g cs, shortest-is cs, le-ltb g g (omega arith))
+      rw (ex, ey, two, longest-sides (many fill cs), lacking-is g cs, shortest-is cs, le-ltb g g (omega arith))
       (ap (λ (b : Bool). refusal 10 (pos l ∷ pos g ∷ []) unless not b) (or-false (ltb l g && isMissing fill)))
