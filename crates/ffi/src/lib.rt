@@ -12,7 +12,7 @@ use many::PlannedMany;
 use reduce::Reduced;
 use reduce::Reduction;
 use reduce::Summed;
-use rle::Equality;
+use dense::Equality;
 use slice::Part;
 use slice::Viewed;
 ghost use mathlib.Core.Path.{_≡_};

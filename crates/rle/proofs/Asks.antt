@@ -3,20 +3,19 @@
 use Prim.Native.Nat.{ℕ, _+_, _-_, _≤_, _<_, _^_}
 use mathlib.Core.Option.{none}
 use mathlib.Core.List.{List, [], _∷_}
-use mathlib.Core.Path.{_≡_, ap, sym, _∙_}
+use mathlib.Core.Path.{_≡_, ap, _∙_}
 use native.Mathlib.Omega.{arith}
 use lib.IntN.{ℤ, pos}
 use lib.ListN.{length, take}
 use Rattle.column.specs.Asking.{Question, firstNo}
 use Rattle.column.specs.Lists.{part}
-use Rattle.column.specs.Questions.{agree, paired, usedWithin, endsValid, notNegative, fits, runByRun, longEnough, roomAt, room, both}
-use Rattle.column.specs.Runs.{sequence, magnitude, runsOf, lengthOf, lengthOfEnds}
+use Rattle.column.specs.Questions.{agree, usedWithin, endsValid, notNegative, fits, runByRun, longEnough, room, both}
+use Rattle.column.specs.Runs.{sequence, magnitude, lengthOfEnds}
 use Rattle.column.proofs.Ends.{length-of-ends}
-use Rattle.column.proofs.FirstNo.{all-yes, asked-next, asked-last, first-several}
-use Rattle.column.proofs.Told.{agree-told, used-told}
+use Rattle.column.proofs.FirstNo.{asked-next, asked-last}
+use Rattle.column.proofs.Told.{used-told}
 use Rattle.column.proofs.Used.{used-paired}
-use Rattle.column.proofs.YesNo.{room-one}
-use Rattle.rle.specs.Rle.{fromRunsAsked, pushRunAsked, extendToAsked, toDenseAsked, equalsAsked, presentLength, roomForOne}
+use Rattle.rle.specs.Rle.{fromRunsAsked, pushRunAsked, extendToAsked, presentLength, roomForOne}
 use Rattle.rle.proofs.Behind.{first-part}
 
 pub from-runs-asked : (runs values : List ℤ) (e v : ℕ) {r a b c d : Question} → r ≡ firstNo (a ∷ b ∷ []) → a ≡ agree 1 (length runs) (length values) → b ≡ firstNo (c ∷ d ∷ [])
@@ -24,16 +23,6 @@ pub from-runs-asked : (runs values : List ℤ) (e v : ℕ) {r a b c d : Question
 unfolding fromRunsAsked
 from-runs-asked runs values e v h p k q s =
     asked-next (agree 1 (length runs) (length values)) (runByRun 0 0 runs ∷ room (both (length runs)) (e ∷ v ∷ []) ∷ []) h p (λ y. asked-last (runByRun 0 0 runs) k q (λ z. s))
-
-pub to-dense-asked : (es vs : List ℤ) (g : ℕ) {r a b : Question} {n : ℕ} {x : ℤ} → r ≡ firstNo (a ∷ b ∷ []) → a ≡ firstNo (paired (sequence es vs) ∷ endsValid es ∷ [])
-    → b ≡ roomAt 0 n g → n ≡ magnitude x → x ≡ lengthOfEnds es → r ≡ toDenseAsked (sequence es vs) (g ∷ [])
-unfolding toDenseAsked paired
-to-dense-asked es vs g h p q en ex =
-    asked-last (firstNo (paired (sequence es vs) ∷ endsValid es ∷ [])) h p
-    (λ y. let z = all-yes (paired (sequence es vs) ∷ endsValid es ∷ []) y in
-    let l = length-of-ends es vs (z .1 .0) (agree-told 3 (length es) (length vs) (z .0)) in
-    q ∙ ap (λ (k : ℕ). roomAt 0 k g) (en ∙ ap magnitude (ex ∙ l)) ∙ sym (room-one (lengthOf (runsOf es vs)) g))
-    ∙ sym (first-several (paired (sequence es vs) ∷ endsValid es ∷ []) (room (lengthOf (runsOf es vs) ∷ []) (g ∷ []) ∷ []))
 
 -- ---- behind the used entries
 
@@ -80,13 +69,3 @@ module _ (e v : List ℤ) (n : ℕ) (few : length e < 2 ^ 63) where
         asked-next (usedWithin n (length e) (length v)) (endsValid (take n e) ∷ long ∷ roomForOne n (sequence e v) ∷ []) hr ha
         (λ u. asked-next (endsValid (take n e)) (long ∷ roomForOne n (sequence e v) ∷ []) hb (hc ∙ ap endsValid used-entries)
         (λ w. asked-last long hd (hf ∙ ap (longEnough requested) (present-is ex u w)) (λ y. room-is ex u w hg)))
-
--- ---- of two sequences
-
-pub equals-asked : (ae av be bv : List ℤ) {r a b c d f g : Question} → r ≡ firstNo (a ∷ b ∷ []) → a ≡ agree 3 (length ae) (length av)
-    → b ≡ firstNo (c ∷ d ∷ []) → c ≡ agree 3 (length be) (length bv) → d ≡ firstNo (f ∷ g ∷ []) → f ≡ endsValid ae → g ≡ endsValid be
-    → r ≡ equalsAsked (sequence ae av) (sequence be bv)
-unfolding equalsAsked paired
-equals-asked ae av be bv hr ha hb hc hd hf hg =
-    asked-next (paired (sequence ae av)) (paired (sequence be bv) ∷ endsValid ae ∷ endsValid be ∷ []) hr ha
-    (λ y. asked-next (paired (sequence be bv)) (endsValid ae ∷ endsValid be ∷ []) hb hc (λ z. asked-last (endsValid ae) hd hf (λ w. hg)))

@@ -8,8 +8,8 @@ use lib.IntN.{ℤ, pos, negsuc}
 use Rattle.column.specs.Paper.{answers}
 use Rattle.column.specs.Questions.{agree, paired, usedWithin, endsFrom, endsValid, notNegative, fits, runByRun, longEnough, roomAt, roomFrom, room}
 use Rattle.column.specs.Runs.{Sequence, sequence, runsOf, endsOf, valuesOf, lengthOf, denseFrom, dense, joined, encodeFrom, encode, pushMerged}
-use Rattle.column.proofs.Rows.{Row, row, Hold, refused, asRuns, asEntries}
-use Rattle.rle.specs.Rle.{runsFrom, fromRunsAsked, fromRuns, fromEnds, repeat, pushed, pushRunAsked, pushRun, extended, extendToAsked, extendTo, fromDense, toDenseAsked, toDense}
+use Rattle.column.proofs.Rows.{Row, row, Hold, refused, asRuns}
+use Rattle.rle.specs.Rle.{runsFrom, fromRunsAsked, fromRuns, fromEnds, repeat, pushed, pushRunAsked, pushRun, extended, extendToAsked, extendTo}
 
 -- the greatest i64
 abbrev greatest : ℤ
@@ -27,10 +27,8 @@ rows =
     ∷ row (asRuns (repeat (pos 7) (pos 0) (0 ∷ 1 ∷ []))) (refused 12 (pos 0 ∷ pos 1 ∷ pos 0 ∷ []) none)
     ∷ row (asRuns (pushRun lent 3 (pos 2) (pos 7))) (answers ((pos 3 ∷ pos 5 ∷ pos 9 ∷ pos 11 ∷ []) ∷ (pos 7 ∷ pos 2 ∷ pos 7 ∷ pos 7 ∷ []) ∷ []))
     ∷ row (asRuns (extendTo lent 3 (pos 12) (pos 7))) (answers ((pos 3 ∷ pos 5 ∷ pos 12 ∷ []) ∷ (pos 7 ∷ pos 2 ∷ pos 7 ∷ []) ∷ []))
-    ∷ row (asRuns (fromDense (pos 7 ∷ pos 7 ∷ pos 2 ∷ pos 7 ∷ []) (4 ∷ 4 ∷ []))) (answers ((pos 2 ∷ pos 3 ∷ pos 4 ∷ []) ∷ (pos 7 ∷ pos 2 ∷ pos 7 ∷ []) ∷ []))
-    ∷ row (asEntries (toDense (sequence (pos 2 ∷ pos 3 ∷ []) (pos 7 ∷ pos 2 ∷ [])) (3 ∷ []))) (answers ((pos 7 ∷ pos 7 ∷ pos 2 ∷ []) ∷ []))
     ∷ []
 
 pub examples : Hold rows
-unfolding agree paired usedWithin endsFrom endsValid notNegative fits runByRun longEnough roomAt roomFrom room runsOf endsOf valuesOf lengthOf denseFrom dense joined encodeFrom encode pushMerged runsFrom fromRunsAsked fromRuns fromEnds repeat pushed pushRunAsked pushRun extended extendToAsked extendTo fromDense toDenseAsked toDense
-examples = (refl, (refl, (refl, (refl, (refl, (refl, (refl, (refl, tt))))))))
+unfolding agree paired usedWithin endsFrom endsValid notNegative fits runByRun longEnough roomAt roomFrom room runsOf endsOf valuesOf lengthOf denseFrom dense joined encodeFrom encode pushMerged runsFrom fromRunsAsked fromRuns fromEnds repeat pushed pushRunAsked pushRun extended extendToAsked extendTo
+examples = (refl, (refl, (refl, (refl, (refl, (refl, tt))))))

@@ -1,10 +1,7 @@
 pub mod Asks
 pub mod Behind
-pub mod Comparing
-pub mod Encoding
 pub mod Examples
 pub mod Repeated
 pub mod Runwise
-pub mod Same
 pub mod Shown
 pub mod Yes

@@ -3,19 +3,16 @@
 use Prim.Native.Nat.{ℕ, _+_, _≤_}
 use mathlib.Core.Option.{none}
 use mathlib.Core.List.{List, [], _∷_}
-use mathlib.Core.Path.{_≡_, sym, _∙_}
+use mathlib.Core.Path.{_≡_}
 use native.Mathlib.Omega.{arith}
 use lib.IntN.{ℤ, pos}
 use lib.ListN.{length, take}
-use Rattle.column.specs.Questions.{agree, paired, usedWithin, endsValid, notNegative, fits, runByRun, longEnough, room, both}
-use Rattle.column.specs.Runs.{sequence, magnitude, runsOf, lengthOf, dense}
-use Rattle.column.proofs.Dense.{length-dense}
-use Rattle.column.proofs.Ends.{rising, runs-rise}
+use Rattle.column.specs.Questions.{agree, usedWithin, endsValid, notNegative, fits, runByRun, longEnough, room, both}
+use Rattle.column.specs.Runs.{sequence, magnitude}
 use Rattle.column.proofs.FirstNo.{all-yes}
-use Rattle.column.proofs.Told.{agree-told, room-told, both-told}
-use Rattle.column.proofs.YesNo.{room-one}
-use Rattle.rle.specs.Rle.{fromRunsAsked, pushRunAsked, extendToAsked, toDenseAsked, equalsAsked, presentLength, roomForOne}
-use Rattle.rle.specs.Workers.{Pushable, Extendable, Comparable}
+use Rattle.column.proofs.Told.{agree-told, both-told}
+use Rattle.rle.specs.Rle.{fromRunsAsked, pushRunAsked, extendToAsked, presentLength, roomForOne}
+use Rattle.rle.specs.Workers.{Pushable, Extendable}
 
 module _ (e v : List ℤ) where
   pub from-runs-yes : (runs values : List ℤ) → fromRunsAsked runs values (length e ∷ length v ∷ []) ≡ none
@@ -41,23 +38,3 @@ module _ (e v : List ℤ) where
       (usedWithin n (length e) (length v) ∷ endsValid (take n e) ∷ longEnough requested (pos (presentLength n (sequence e v))) ∷ roomForOne n (sequence e v) ∷ []) h in
       let r = both-told (n + 1) (length e) (length v) (y .1 .1 .1 .0) in
       record { valid = y .1 .0; room-ends = omega arith; room-values = omega arith; long = y .1 .1 .0 }
-
-pub to-dense-yes : (es vs out : List ℤ) → toDenseAsked (sequence es vs) (length out ∷ []) ≡ none
-    → (endsValid es ≡ none) × (length es ≡ length vs) × (length (dense (runsOf es vs)) ≤ length out)
-unfolding toDenseAsked paired
-to-dense-yes es vs out h =
-    let n = lengthOf (runsOf es vs) in
-    let y = all-yes (paired (sequence es vs) ∷ endsValid es ∷ room (n ∷ []) (length out ∷ []) ∷ []) h in
-    let r = room-told 0 n (length out) (sym (room-one n (length out)) ∙ y .1 .1 .0) in
-    (y .1 .0, agree-told 3 (length es) (length vs) (y .0), rw (length-dense (runsOf es vs) (runs-rise 0 es vs (rising es (y .1 .0)))) r)
-
-pub equals-yes : (ae av be bv : List ℤ) → equalsAsked (sequence ae av) (sequence be bv) ≡ none → Comparable (sequence ae av) (sequence be bv)
-unfolding equalsAsked paired
-equals-yes ae av be bv h =
-    let y = all-yes (paired (sequence ae av) ∷ paired (sequence be bv) ∷ endsValid ae ∷ endsValid be ∷ []) h in
-    record {
-      valid-a = y .1 .1 .0;
-      valid-b = y .1 .1 .1 .0;
-      paired-a = agree-told 3 (length ae) (length av) (y .0);
-      paired-b = agree-told 3 (length be) (length bv) (y .1 .0);
-    }

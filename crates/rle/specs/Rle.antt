@@ -1,16 +1,14 @@
 -- rle.rs: sequences made from runs, from values, and run by run.
 use Prim.Native.Nat.{ℕ, _+_}
-use mathlib.Core.Bool.{Bool, true, false, cond, _&&_}
+use mathlib.Core.Bool.{cond}
 use mathlib.Core.List.{List, [], _∷_, _++_}
 use lib.IntN.{ℤ, pos}
 use lib.ListN.{length, take}
 use lib.Dec.{eqb}
-use Rattle.num.specs.Numbers.{eqZ}
 use Rattle.column.specs.Asking.{Question, firstNo, _otherwise_}
-use Rattle.column.specs.Paper.{Outcome, answers, refuses, paper}
+use Rattle.column.specs.Paper.{Outcome}
 use Rattle.column.specs.Questions.{agree, paired, usedWithin, endsValid, notNegative, fits, runByRun, longEnough, room, both}
-use Rattle.rle.specs.declared.Equality.{Equality}
-use Rattle.column.specs.Runs.{Sequence, sequence, Runs, magnitude, runs, lengthOf, dense, encode, pushMerged}
+use Rattle.column.specs.Runs.{Sequence, sequence, Runs, magnitude, runs, lengthOf, pushMerged}
 
 -- ---- from_runs, from_ends, repeat
 
@@ -87,37 +85,3 @@ extendToAsked buffers n requested =
 
 unfoldable pub extendTo : Sequence → ℕ → ℤ → ℤ → Outcome Runs
 extendTo buffers n requested value = extendToAsked buffers n requested otherwise extended buffers n requested value
-
--- ---- from_dense, to_dense
-
--- "for `from_dense` as many as values given"
-unfoldable pub fromDense : List ℤ → List ℕ → Outcome Runs
-fromDense values buffers = room (both (length values)) buffers otherwise encode values
-
--- "for dense output, the length"
-unfoldable pub toDenseAsked : Sequence → List ℕ → Question
-toDenseAsked s buffers = firstNo (paired s ∷ endsValid (s .ends) ∷ room (lengthOf (runs s) ∷ []) buffers ∷ [])
-
-unfoldable pub toDense : Sequence → List ℕ → Outcome (List ℤ)
-toDense s buffers = toDenseAsked s buffers otherwise dense (runs s)
-
--- ---- equals
-
--- are two lists of values equal, position by position
-abbrev pub same : List ℤ → List ℤ → Bool
-same [] [] = true
-same [] (y ∷ ys) = false
-same (x ∷ xs) [] = false
-same (x ∷ xs) (y ∷ ys) = eqZ x y && same xs ys
-
-unfoldable pub equalsAsked : Sequence → Sequence → Question
-equalsAsked a b = firstNo (paired a ∷ paired b ∷ endsValid (a .ends) ∷ endsValid (b .ends) ∷ [])
-
--- "the same values at every position", however the runs are split
-unfoldable pub equals : Sequence → Sequence → Outcome Bool
-equals a b = equalsAsked a b otherwise same (dense (runs a)) (dense (runs b))
-
-abbrev pub shownEquality : Equality → Outcome Bool
-shownEquality Equality.Equal = answers true
-shownEquality Equality.Different = answers false
-shownEquality (Equality.Refused r) = refuses (paper r)

@@ -1,15 +1,14 @@
 -- What the workers leave and require.
-use Prim.Native.Nat.{ℕ, _+_, _-_, _≤_, _<_}
+use Prim.Native.Nat.{ℕ, _+_, _<_}
 use mathlib.Core.Bool.{cond}
 use mathlib.Core.Option.{none}
-use mathlib.Core.List.{List, _++_}
+use mathlib.Core.List.{List}
 use mathlib.Core.Path.{_≡_}
 use lib.IntN.{ℤ, pos}
-use lib.ListN.{length, take, set, getD, replicate}
+use lib.ListN.{length, take, set}
 use Rattle.num.specs.Numbers.{eqZ}
 use Rattle.column.specs.Questions.{endsValid, notNegative, fits, longEnough}
-use Rattle.column.specs.Runs.{Sequence, sequence, magnitude, endsOf, valuesOf, encode, over}
-use Rattle.column.specs.declared.inner.Writer.{Writer}
+use Rattle.column.specs.Runs.{sequence, magnitude}
 use Rattle.rle.specs.Rle.{presentLength}
 
 -- a run put at entry n of two buffers, each before and after, unless its length is 0
@@ -31,29 +30,3 @@ pub record Extendable (ends values : List ℤ) (n : ℕ) (requested : ℤ) : Typ
   pub room-ends : n < length ends
   pub room-values : n < length values
   pub long : longEnough requested (pos (presentLength n (sequence ends values))) ≡ none
-
--- from i up to j all of xs are x
-abbrev pub Constant : List ℤ → ℕ → ℕ → ℤ → Type 0
-Constant xs i j x = take j xs ≡ take i xs ++ replicate (j - i) x
-
--- the merged runs of the first i of xs written into the front of two buffers, each before and after, and the writer behind them
-pub record Encoded (xs e e′ v v′ : List ℤ) (w : Writer) (i : ℕ) : Type 0 where
-  pub ends : e′ ≡ over (endsOf (encode (take i xs))) e
-  pub values : v′ ≡ over (valuesOf (encode (take i xs))) v
-  pub at-last : w .at ≡ length (encode (take i xs)) - 1
-  pub last-value : w .last ≡ getD xs (i - 1) (pos 0)
-
--- the first i of xs are written, and there is room to go on up to j
-pub record Encodable (xs e v : List ℤ) (w : Writer) (i j : ℕ) : Type 0 where
-  pub ordered : i ≤ j
-  pub within : j ≤ length xs
-  pub room-ends : length xs ≤ length e
-  pub room-values : length xs ≤ length v
-  pub written : Encoded xs e e v v w i
-
--- two sequences, each valid
-pub record Comparable (a b : Sequence) : Type 0 where
-  pub valid-a : endsValid (a .ends) ≡ none
-  pub valid-b : endsValid (b .ends) ≡ none
-  pub paired-a : length (a .ends) ≡ length (a .values)
-  pub paired-b : length (b .ends) ≡ length (b .values)

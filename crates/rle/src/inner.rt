@@ -1,19 +1,15 @@
 // Workers that assume what the calls have asked.
 use column::inner::Writer;
 use column::sequence;
-use plan::inner::Segments;
-ghost use Prim.Native.Nat.{_+_, _-_, _≤_, _<_, _^_};
-ghost use mathlib.Core.Bool.{true, cond};
-ghost use mathlib.Core.List.{_++_};
+ghost use Prim.Native.Nat.{_+_, _-_, _≤_, _<_};
 ghost use mathlib.Core.Option.{none};
 ghost use mathlib.Core.Path.{_≡_};
 ghost use lib.IntN.{pos};
-ghost use lib.ListN.{length, getD, take, drop, replicate};
-ghost use Rattle.num.specs.Numbers.{eqZ};
-ghost use Rattle.column.specs.Questions.{endsValid, runByRun};
-ghost use Rattle.column.specs.Runs.{sequence, runsOf, dense, encode, over, Filled};
-ghost use Rattle.rle.specs.Rle.{runsFrom, pushed, extended, same};
-ghost use Rattle.rle.specs.Workers.{PutRun, Pushable, Extendable, Constant, Encoded, Encodable, Comparable};
+ghost use lib.ListN.{length, getD};
+ghost use Rattle.column.specs.Questions.{runByRun};
+ghost use Rattle.column.specs.Runs.{sequence, Filled};
+ghost use Rattle.rle.specs.Rle.{runsFrom, pushed, extended};
+ghost use Rattle.rle.specs.Workers.{PutRun, Pushable, Extendable};
 
 // A run up to `end` at entry n, unless its length is 0: how many entries there are then.
 fn put_run(
@@ -102,143 +98,4 @@ pub fn extend_to(
     let writer = last_run(values, used, value);
     let next = column::inner::push_merged(writer, ends, values, length, value);
     next.at + 1
-}
-
-// As many values are compared at once: so many that short runs never fill a block, and the branch on it is predicted.
-const BLOCK: usize = 32;
-
-// One more if the values are equal.
-fn count_if_equal(count: usize, x: i64, y: i64) -> usize
-    requires { ⌜ count + 1 < 2 ^ 64 ⌝ }
-    ensures { λ r. ⌜ r ≡ cond (eqZ x y) (count + 1) count ⌝ }
-{
-    if x == y { count + 1 } else { count }
-}
-
-// It counts, as that becomes vector instructions, where a conjunction becomes a branch for each value.
-fn all_equal(values: &[i64], from: usize, to: usize, value: i64) -> bool
-    requires { ⌜ (from ≤ to) × (to ≤ length (now values)) ⌝ }
-    ensures { λ r. ⌜ (r ≡ true → Constant (now (values .entry)) from to value) ⌝ }
-{
-    let mut count: usize = 0;
-    let mut i = from;
-    while i < to {
-        let x = values[i];
-        count = count_if_equal(count, x, value);
-        i += 1;
-    }
-    count == to - from
-}
-
-// The values from `from` up to `to`, one by one, with no branch on them.
-fn push_values(
-    writer: Writer,
-    values: &[i64],
-    from: usize,
-    to: usize,
-    out_ends: &mut [i64],
-    out_values: &mut [i64],
-) -> Writer
-    requires { ⌜ Encodable (now values) (now «out_ends») (now «out_values») writer from to ⌝ }
-    ensures { λ r. ⌜ Encoded (now (values .entry)) (now («out_ends» .entry)) (now («out_ends» .exit)) (now («out_values» .entry)) (now («out_values» .exit)) r to ⌝ }
-{
-    let mut next = writer;
-    let mut i = from;
-    while i < to {
-        let value = values[i];
-        i += 1;
-        next = column::inner::push_merged(next, out_ends, out_values, i as i64, value);
-    }
-    next
-}
-
-// The same, in one step where all of them go on with the last run.
-fn push_block(
-    writer: Writer,
-    values: &[i64],
-    from: usize,
-    to: usize,
-    out_ends: &mut [i64],
-    out_values: &mut [i64],
-) -> Writer
-    requires { ⌜ (from < to) × Encodable (now values) (now «out_ends») (now «out_values») writer from to ⌝ }
-    ensures { λ r. ⌜ Encoded (now (values .entry)) (now («out_ends» .entry)) (now («out_ends» .exit)) (now («out_values» .entry)) (now («out_values» .exit)) r to ⌝ }
-{
-    let last = writer.last;
-    if all_equal(values, from, to, last) {
-        column::inner::push_merged(writer, out_ends, out_values, to as i64, last)
-    } else {
-        push_values(writer, values, from, to, out_ends, out_values)
-    }
-}
-
-// The merged runs of values.
-pub fn from_dense(values: &[i64], out_ends: &mut [i64], out_values: &mut [i64]) -> usize
-    requires { ⌜ (length (now values) ≤ length (now «out_ends»)) × (length (now values) ≤ length (now «out_values»)) ⌝ }
-    ensures { λ r. ⌜ Filled (encode (now (values .entry))) (now («out_ends» .entry)) (now («out_ends» .exit)) (now («out_values» .entry)) (now («out_values» .exit)) r ⌝ }
-{
-    if values.len() == 0 {
-        return 0;
-    }
-    let first = values[0];
-    let mut writer = Writer { at: 0, last: first };
-    let mut i: usize = 0;
-    while values.len() - i >= BLOCK {
-        let to = i + BLOCK;
-        writer = push_block(writer, values, i, to, out_ends, out_values);
-        i = to;
-    }
-    let end = push_values(writer, values, i, values.len(), out_ends, out_values);
-    end.at + 1
-}
-
-// The entries from `from` up to `to` set to a value.
-fn fill(out: &mut [i64], from: usize, to: usize, value: i64)
-    requires { ⌜ (from ≤ to) × (to ≤ length (now out)) ⌝ }
-    ensures { λ _. ⌜ now (out .exit) ≡ take from (now (out .entry)) ++ replicate (to - from) value ++ drop to (now (out .entry)) ⌝ }
-{
-    let mut p = from;
-    while p < to {
-        out[p] = value;
-        p += 1;
-    }
-}
-
-// What a sequence shows, position by position.
-pub fn to_dense(ends: &[i64], values: &[i64], out: &mut [i64]) -> usize
-    requires { ⌜ (endsValid (now ends) ≡ none) × (length (now ends) ≡ length (now values)) × (length (dense (runsOf (now ends) (now values))) ≤ length (now out)) ⌝ }
-    ensures { λ r. ⌜ (r ≡ length (dense (runsOf (now (ends .entry)) (now (values .entry))))) × (now (out .exit) ≡ over (dense (runsOf (now (ends .entry)) (now (values .entry)))) (now (out .entry))) ⌝ }
-{
-    let mut p: usize = 0;
-    let mut r: usize = 0;
-    while r < ends.len() {
-        let end = ends[r];
-        let to = end as usize;
-        let value = values[r];
-        fill(out, p, to, value);
-        p = to;
-        r += 1;
-    }
-    p
-}
-
-// Columns of one length are compared at every segment, up to the first that shows two values.
-pub fn equals(a_ends: &[i64], a_values: &[i64], b_ends: &[i64], b_values: &[i64]) -> bool
-    requires { ⌜ Comparable (sequence (now «a_ends») (now «a_values»)) (sequence (now «b_ends») (now «b_values»)) ⌝ }
-    ensures { λ r. ⌜ r ≡ same (dense (runsOf (now («a_ends» .entry)) (now («a_values» .entry)))) (dense (runsOf (now («b_ends» .entry)) (now («b_values» .entry)))) ⌝ }
-{
-    if sequence::length(a_ends) != sequence::length(b_ends) {
-        return false;
-    }
-    let mut here = Segments::start(a_ends, b_ends);
-    while here.more() {
-        let x = sequence::entry_or(a_values, here.a.index, 0);
-        let y = sequence::entry_or(b_values, here.b.index, 0);
-        let segment = here.next(a_ends, b_ends);
-        if x != y {
-            return false;
-        }
-        here = segment.next;
-    }
-    true
 }

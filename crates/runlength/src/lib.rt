@@ -23,6 +23,7 @@ ghost use Rattle.collapse.specs.Collapse as collapse;
 ghost use Rattle.column.specs.Flat.{flat};
 ghost use Rattle.column.specs.Runs.{sequence};
 ghost use Rattle.concat.specs.Concat as concat;
+ghost use Rattle.dense.specs.Dense as dense;
 ghost use Rattle.each.specs.Each as each;
 ghost use Rattle.ffi.specs.Reading.{readFill, LaidCheck, LaidEquality, LaidFound, LaidViewed, LaidSum, LaidReduced, LaidPart, LaidRuns, LaidEntries, LaidRanges, LaidGroups, LaidReductions, LaidPlan, LaidPlanMany, LaidFlat, LaidGot, LaidBatch, LaidCollapse};
 ghost use Rattle.items.specs.Items as items;
@@ -116,19 +117,19 @@ pub extern "C" fn rl_from_dense(
     out_values: &mut [i64],
 ) -> RlCounted
     ensures { λ r. ⌜ LaidRuns
-        (calls.fromDense (now (values .entry)) (length (now («out_ends» .entry)) ∷ length (now («out_values» .entry)) ∷ [])) r
+        (dense.fromDense (now (values .entry)) (length (now («out_ends» .entry)) ∷ length (now («out_values» .entry)) ∷ [])) r
         (now («out_ends» .entry)) (now («out_ends» .exit)) (now («out_values» .entry)) (now («out_values» .exit)) ⌝ }
 {
-    ffi::counted(rle::from_dense(values, out_ends, out_values))
+    ffi::counted(dense::from_dense(values, out_ends, out_values))
 }
 
 #[no_mangle]
 pub extern "C" fn rl_to_dense(ends: &[i64], values: &[i64], out: &mut [i64]) -> RlCounted
     ensures { λ r. ⌜ LaidEntries
-        (calls.toDense (sequence (now (ends .entry)) (now (values .entry))) (length (now (out .entry)) ∷ [])) r
+        (dense.toDense (sequence (now (ends .entry)) (now (values .entry))) (length (now (out .entry)) ∷ [])) r
         (now (out .entry)) (now (out .exit)) ⌝ }
 {
-    ffi::counted(rle::to_dense(ends, values, out))
+    ffi::counted(dense::to_dense(ends, values, out))
 }
 
 #[no_mangle]
@@ -138,9 +139,9 @@ pub extern "C" fn rl_equals(
     b_ends: &[i64],
     b_values: &[i64],
 ) -> RlEquality
-    ensures { λ r. ⌜ LaidEquality (calls.equals (sequence (now («a_ends» .entry)) (now («a_values» .entry))) (sequence (now («b_ends» .entry)) (now («b_values» .entry)))) r ⌝ }
+    ensures { λ r. ⌜ LaidEquality (dense.equals (sequence (now («a_ends» .entry)) (now («a_values» .entry))) (sequence (now («b_ends» .entry)) (now («b_values» .entry)))) r ⌝ }
 {
-    ffi::equality(rle::equals(a_ends, a_values, b_ends, b_values))
+    ffi::equality(dense::equals(a_ends, a_values, b_ends, b_values))
 }
 
 #[no_mangle]

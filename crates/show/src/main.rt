@@ -31,7 +31,7 @@ fn show_runs(ends: &[i64], values: &[i64]) {
 fn show_column(values: &[i64]) {
     let mut ends = [0i64; VALUES];
     let mut shown = [0i64; VALUES];
-    match rle::from_dense(values, &mut ends, &mut shown) {
+    match dense::from_dense(values, &mut ends, &mut shown) {
         Counted::Count(n) => {
             io::print_decimal(STDOUT_FILENO, n as u64);
             io::write_all(STDOUT_FILENO, b" runs\n");
