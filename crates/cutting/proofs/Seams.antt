@@ -19,7 +19,8 @@ use Rattle.column.specs.Questions.{listed, maskListed, agree, paired, offsetsVa
 use Rattle.column.specs.Runs.{Sequence, sequence, Runs, runs, runsOf, endsOf, valuesOf, lengthOf, denseFrom, dense, joined, encodeFrom, encode}
 use Rattle.column.proofs.Rows.{Lines, Row, row, Hold, refused, asRuns, asEntries}
 use Rattle.float.specs.Float.{converted}
-use Rattle.merge.specs.Merge.{Group, groupsFrom, groups, maskAgrees, mergePlanAsked, mergePlan, groupEnds, pastEach, groupOffsets}
+use Rattle.groups.specs.Groups.{mergePlanAsked, mergePlan, groupEnds, pastEach, groupOffsets}
+use Rattle.merge.specs.Merge.{Group, groupsFrom, groups, maskAgrees}
 use Rattle.ops.specs.Ops.{zipAsked}
 use Rattle.ops.specs.Ops as ops
 use Rattle.plan.specs.Plan.{Segment, segmentsFrom, segments, segmentEnds, indexesOf, planAsked, plan}

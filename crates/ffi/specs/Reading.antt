@@ -28,7 +28,8 @@ use Rattle.column.specs.Paper.{Outcome, numberOf, shownBy, shownChecked, shownF
 use Rattle.column.specs.Runs.{Runs}
 use Rattle.many.specs.declared.PlannedMany.{PlannedMany}
 use Rattle.many.specs.Many.{WritesPlanMany}
-use Rattle.merge.specs.Merge.{Group, WritesGroups}
+use Rattle.groups.specs.Groups.{WritesGroups}
+use Rattle.merge.specs.Merge.{Group}
 use Rattle.plan.specs.Plan.{Segment, WritesPlan}
 use Rattle.reduce.specs.declared.Reduced.{Reduced}
 use Rattle.reduce.specs.declared.Reduction.{Reduction}

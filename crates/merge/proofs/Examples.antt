@@ -1,30 +1,22 @@
 -- Worked examples of the calls of merge.rs, computed from their definitions. A is document 01's: ends 3, 5, 9, values 7, 2, 7.
 -- Assumes nothing.
-use Prim.Native.Nat.{ℕ}
 use mathlib.Core.Option.{none}
-use mathlib.Core.List.{List, [], _∷_, map}
+use mathlib.Core.List.{List, [], _∷_}
 use mathlib.Core.Path.{refl}
 use lib.IntN.{ℤ, pos}
 use Rattle.num.specs.Numbers.{operation}
 use Rattle.column.specs.Asking.{eachFrom}
-use Rattle.column.specs.Paper.{Outcome, answers, counts}
-use Rattle.column.specs.Questions.{listed, maskListed, agree, paired, offsetsRise, endsFrom, endsValid, roomAt, roomFrom, room, sequenceAsked}
+use Rattle.column.specs.Paper.{answers}
+use Rattle.column.specs.Questions.{listed, maskListed, agree, paired, endsFrom, endsValid, roomAt, roomFrom, room, sequenceAsked}
 use Rattle.column.specs.Runs.{Sequence, sequence, runsOf, endsOf, valuesOf}
-use Rattle.column.proofs.Rows.{Lines, Row, row, Hold, refused, asRuns, asEntries}
-use Rattle.merge.specs.Merge.{Group, groupsFrom, groups, maskAgrees, maskRuns, mergeMaskAsked, mergeMask, neighbours, mergeByAsked, mergeBy, mergePlanAsked, mergePlan, groupEnds, pastEach, groupOffsets, idsFrom, groupIdsAsked, groupIds}
+use Rattle.column.proofs.Rows.{Row, row, Hold, refused, asRuns}
+use Rattle.merge.specs.Merge.{groupsFrom, groups, maskAgrees, maskRuns, mergeMaskAsked, mergeMask, neighbours, mergeByAsked, mergeBy}
 
 abbrev ends : List ℤ
 ends = pos 3 ∷ pos 5 ∷ pos 9 ∷ []
 
 abbrev a : Sequence
 a = sequence ends (pos 7 ∷ pos 2 ∷ pos 7 ∷ [])
-
--- what merge_plan writes into each buffer
-abbrev asGroups : Outcome (List (Group ℤ)) → Outcome Lines
-asGroups o = counts (λ gs. groupEnds gs ∷ map pos (groupOffsets gs) ∷ []) o
-
-abbrev asIds : Outcome (List ℕ) → Outcome Lines
-asIds o = asEntries (counts (map pos) o)
 
 abbrev rows : List Row
 rows =
@@ -34,13 +26,8 @@ rows =
     ∷ row (asRuns (mergeMask a (1 ∷ []) 0 (0 ∷ 0 ∷ []))) (refused 2 (pos 6 ∷ pos 1 ∷ pos 2 ∷ []) none)
     ∷ row (asRuns (mergeBy (sequence ends (pos 3 ∷ pos 5 ∷ pos 4 ∷ [])) 8 (3 ∷ 3 ∷ []))) (answers ((pos 5 ∷ pos 9 ∷ []) ∷ (pos 3 ∷ pos 4 ∷ []) ∷ []))
     ∷ row (asRuns (mergeBy a 0 (3 ∷ 3 ∷ []))) (refused 1 (pos 0 ∷ []) none)
-    ∷ row (asGroups (mergePlan ends (1 ∷ 0 ∷ []) (3 ∷ 4 ∷ []))) (answers ((pos 5 ∷ pos 9 ∷ []) ∷ (pos 0 ∷ pos 2 ∷ pos 3 ∷ []) ∷ []))
-    ∷ row (asGroups (mergePlan [] [] (0 ∷ 1 ∷ []))) (answers ([] ∷ (pos 0 ∷ []) ∷ []))
-    ∷ row (asGroups (mergePlan [] [] (0 ∷ 0 ∷ []))) (refused 12 (pos 1 ∷ pos 1 ∷ pos 0 ∷ []) none)
-    ∷ row (asIds (groupIds (0 ∷ 2 ∷ 2 ∷ 3 ∷ []) (3 ∷ []))) (answers ((pos 0 ∷ pos 0 ∷ pos 2 ∷ []) ∷ []))
-    ∷ row (asIds (groupIds (1 ∷ 2 ∷ []) (2 ∷ []))) (refused 3 [] none)
     ∷ []
 
 pub examples : Hold rows
-unfolding operation eachFrom listed maskListed agree paired offsetsRise endsFrom endsValid roomAt roomFrom room sequenceAsked runsOf endsOf valuesOf groupsFrom groups maskAgrees maskRuns mergeMaskAsked mergeMask neighbours mergeByAsked mergeBy mergePlanAsked mergePlan groupEnds pastEach idsFrom groupIdsAsked groupIds
-examples = (refl, (refl, (refl, (refl, (refl, (refl, (refl, (refl, (refl, (refl, (refl, tt)))))))))))
+unfolding operation eachFrom listed maskListed agree paired endsFrom endsValid roomAt roomFrom room sequenceAsked runsOf endsOf valuesOf groupsFrom groups maskAgrees maskRuns mergeMaskAsked mergeMask neighbours mergeByAsked mergeBy
+examples = (refl, (refl, (refl, (refl, (refl, (refl, tt))))))

@@ -3,7 +3,4 @@ pub mod Asks
 pub mod Examples
 pub mod First
 pub mod Groups
-pub mod Ids
-pub mod Planning
-pub mod Promised
 pub mod Writing

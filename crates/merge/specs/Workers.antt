@@ -1,15 +1,13 @@
 -- What the workers leave and require.
-use Prim.Native.Nat.{ℕ, _+_, _-_, _≤_, _<_, _^_}
+use Prim.Native.Nat.{ℕ, _+_, _≤_, _<_, _^_}
 use mathlib.Core.Bool.{Bool, cond}
 use mathlib.Core.Option.{none}
-use mathlib.Core.List.{List, _++_}
+use mathlib.Core.List.{List}
 use mathlib.Core.Path.{_≡_}
 use lib.IntN.{ℤ, pos}
-use lib.ListN.{length, getD, set, take, drop, replicate}
+use lib.ListN.{length, getD, set}
 use Rattle.column.specs.Questions.{endsValid}
-use Rattle.column.specs.Runs.{over}
 use Rattle.merge.specs.declared.inner.GroupWriter.{GroupWriter}
-use Rattle.merge.specs.Merge.{Group, groupEnds, groupOffsets}
 
 -- where a run goes: to the place of the group that it joins, else behind it
 abbrev pub placeAfter : Bool → ℕ → ℕ
@@ -41,25 +39,3 @@ pub record Mergeable (es vs e v : List ℤ) : Type 0 where
   pub paired : length es ≡ length vs
   pub room-ends : length es ≤ length e
   pub room-values : length es ≤ length v
-
--- a group was written: its end, and one past its last run behind the offsets of the groups before it
-pub record Stored (e e′ : List ℤ) (x x′ : List ℕ) (group : ℕ) (end : ℤ) (past : ℕ) : Type 0 where
-  pub ends : e′ ≡ set e group end
-  pub offsets : x′ ≡ set x (group + 1) past
-
--- two buffers, before and after, into whose front the groups were written, and how many they are
-pub record Planned (gs : List (Group ℤ)) (e e′ : List ℤ) (x x′ : List ℕ) (n : ℕ) : Type 0 where
-  pub count : n ≡ length gs
-  pub ends : e′ ≡ over (groupEnds gs) e
-  pub offsets : x′ ≡ over (groupOffsets gs) x
-
--- the id at the entries from `at` up to r, and no further than the limit
-pub record PutIds (b b′ : List ℕ) (at limit id r : ℕ) : Type 0 where
-  pub some : at < r
-  pub within : r ≤ limit
-  pub entries : b′ ≡ take at b ++ replicate (r - at) id ++ drop r b
-
--- the id at the entries behind those before `from`, up to `to`; anything behind them up to the limit, and what was there past it
-pub record FilledIds (b b′ : List ℕ) (from to limit id : ℕ) : Type 0 where
-  pub ids : take to b′ ≡ take from b ++ replicate (to - from) id
-  pub rest : drop limit b′ ≡ drop limit b

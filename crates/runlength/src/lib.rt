@@ -26,6 +26,7 @@ ghost use Rattle.concat.specs.Concat as concat;
 ghost use Rattle.dense.specs.Dense as dense;
 ghost use Rattle.each.specs.Each as each;
 ghost use Rattle.ffi.specs.Reading.{readFill, LaidCheck, LaidEquality, LaidFound, LaidViewed, LaidSum, LaidReduced, LaidPart, LaidRuns, LaidEntries, LaidRanges, LaidGroups, LaidReductions, LaidPlan, LaidPlanMany, LaidFlat, LaidGot, LaidBatch, LaidCollapse};
+ghost use Rattle.groups.specs.Groups as groups;
 ghost use Rattle.items.specs.Items as items;
 ghost use Rattle.join.specs.Zip as join;
 ghost use Rattle.keys.specs.Keys as lookup;
@@ -449,19 +450,19 @@ pub extern "C" fn rl_merge_plan(
     out_offsets: &mut [usize],
 ) -> RlCounted
     ensures { λ r. ⌜ LaidGroups
-        (merge.mergePlan (now (ends .entry)) (now (mask .entry)) (length (now («out_ends» .entry)) ∷ length (now («out_offsets» .entry)) ∷ [])) r
+        (groups.mergePlan (now (ends .entry)) (now (mask .entry)) (length (now («out_ends» .entry)) ∷ length (now («out_offsets» .entry)) ∷ [])) r
         (now («out_ends» .entry)) (now («out_ends» .exit)) (now («out_offsets» .entry)) (now («out_offsets» .exit)) ⌝ }
 {
-    ffi::counted(merge::merge_plan(ends, mask, out_ends, out_offsets))
+    ffi::counted(groups::merge_plan(ends, mask, out_ends, out_offsets))
 }
 
 #[no_mangle]
 pub extern "C" fn rl_group_ids(offsets: &[usize], out_ids: &mut [usize]) -> RlCounted
     ensures { λ r. ⌜ LaidEntries
-        (merge.groupIds (now (offsets .entry)) (length (now («out_ids» .entry)) ∷ [])) r
+        (groups.groupIds (now (offsets .entry)) (length (now («out_ids» .entry)) ∷ [])) r
         (now («out_ids» .entry)) (now («out_ids» .exit)) ⌝ }
 {
-    ffi::counted(merge::group_ids(offsets, out_ids))
+    ffi::counted(groups::group_ids(offsets, out_ids))
 }
 
 #[no_mangle]

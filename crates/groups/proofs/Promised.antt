@@ -9,8 +9,9 @@ use Rattle.column.specs.declared.answer.Counted.{Counted}
 use Rattle.column.specs.declared.error.Refusal.{Refusal}
 use Rattle.column.specs.Asking.{Question, _otherwise_}
 use Rattle.column.specs.Paper.{answers, paper}
-use Rattle.merge.specs.Merge.{Group, WritesGroups}
-use Rattle.merge.specs.Workers.{Planned}
+use Rattle.merge.specs.Merge.{Group}
+use Rattle.groups.specs.Groups.{WritesGroups}
+use Rattle.groups.specs.Workers.{Planned}
 
 module _ {q : Question} (gs : List (Group ℤ)) {e : List ℤ} {x : List ℕ} where
   pub groups-written : {e′ : List ℤ} {x′ : List ℕ} {n : ℕ} → q ≡ none → Planned gs e e′ x x′ n → WritesGroups (q otherwise gs) (Counted.Count n) e e′ x x′

@@ -1,10 +1,10 @@
 use Rattle.column.proofs.Promised.{asked-yes, asked-no}
-use Rattle.merge.specs.Merge.{mergePlan}
-use Rattle.merge.proofs.Asks.{merge-plan-yes}
-use Rattle.merge.proofs.Promised.{groups-written, groups-refused}
+use Rattle.groups.specs.Groups.{mergePlan}
+use Rattle.groups.proofs.Asks.{merge-plan-yes}
+use Rattle.groups.proofs.Promised.{groups-written, groups-refused}
 use borrow.Author.Needs.{needs}
-use Rattle.merge.proofs.merge_plan.Statement.{statement}
-use Rattle.merge.proofs.merge_plan.Tie as tie
+use Rattle.groups.proofs.merge_plan.Statement.{statement}
+use Rattle.groups.proofs.merge_plan.Tie as tie
 
 merge-plan-asks-requires : tie.Need-merge-plan-asks-requires
 merge-plan-asks-requires c κs = search needs

@@ -1,7 +1,7 @@
-use Rattle.merge.proofs.Asks.{group-ids-asked}
+use Rattle.groups.proofs.Asks.{group-ids-asked}
 use borrow.Author.Needs.{needs}
-use Rattle.merge.proofs.group_ids_asks.Statement.{statement}
-use Rattle.merge.proofs.group_ids_asks.Tie as tie
+use Rattle.groups.proofs.group_ids_asks.Statement.{statement}
+use Rattle.groups.proofs.group_ids_asks.Tie as tie
 
 ask-offsets-rise-requires : tie.Need-ask-offsets-rise-requires
 ask-offsets-rise-requires c κs = search needs

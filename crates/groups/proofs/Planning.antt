@@ -14,10 +14,12 @@ use Rattle.num.proofs.Tests.{by-test}
 use Rattle.column.specs.Masks.{maskOnes}
 use Rattle.column.specs.Runs.{over}
 use Rattle.column.proofs.Buffer.{over-store, over-next}
-use Rattle.merge.specs.Merge.{Group, groups, groupEnds, pastEach, groupOffsets}
-use Rattle.merge.specs.Workers.{placeAfter, Stored, Planned}
+use Rattle.merge.specs.Merge.{Group, groups}
+use Rattle.groups.specs.Groups.{groupEnds, pastEach, groupOffsets}
+use Rattle.merge.specs.Workers.{placeAfter}
+use Rattle.groups.specs.Workers.{Stored, Planned}
 use Rattle.merge.proofs.First.{over-again, over-first}
 use Rattle.merge.proofs.Groups.{joinsAt, place-up, pushGroup, push-cons, place-next, groupPlace, place-is, place-le, le-place, length-push, new-last, groups-take, groups-count, push-store}
 
 -- how many runs groups have
 abbrev countRuns : List (Group ℤ) → ℕ

@@ -1,9 +1,9 @@
 use Rattle.column.proofs.Promised.{asked-yes, asked-no, entries-written, entries-refused}
-use Rattle.merge.specs.Merge.{groupIds}
-use Rattle.merge.proofs.Asks.{group-ids-yes}
+use Rattle.groups.specs.Groups.{groupIds}
+use Rattle.groups.proofs.Asks.{group-ids-yes}
 use borrow.Author.Needs.{needs}
-use Rattle.merge.proofs.group_ids.Statement.{statement}
-use Rattle.merge.proofs.group_ids.Tie as tie
+use Rattle.groups.proofs.group_ids.Statement.{statement}
+use Rattle.groups.proofs.group_ids.Tie as tie
 
 group-ids-asks-requires : tie.Need-group-ids-asks-requires
 group-ids-asks-requires c κs = search needs

@@ -1,7 +1,7 @@
-use Rattle.merge.proofs.Asks.{merge-plan-asked}
+use Rattle.groups.proofs.Asks.{merge-plan-asked}
 use borrow.Author.Needs.{needs}
-use Rattle.merge.proofs.merge_plan_asks.Statement.{statement}
-use Rattle.merge.proofs.merge_plan_asks.Tie as tie
+use Rattle.groups.proofs.merge_plan_asks.Statement.{statement}
+use Rattle.groups.proofs.merge_plan_asks.Tie as tie
 
 ask-room-requires : tie.Need-ask-room-requires
 ask-room-requires c κs = search needs

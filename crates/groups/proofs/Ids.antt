@@ -17,8 +17,8 @@ use Rattle.column.proofs.Told.{both-true}
 use Rattle.column.proofs.Flattened.{offset-within}
 use Rattle.column.proofs.Lists.{last-is}
 use Rattle.column.proofs.YesNo.{offsets-yes}
-use Rattle.merge.specs.Merge.{idsFrom, idsAt}
-use Rattle.merge.specs.Workers.{PutIds, FilledIds}
+use Rattle.groups.specs.Groups.{idsFrom, idsAt}
+use Rattle.groups.specs.Workers.{PutIds, FilledIds}
 
 -- ---- one id, or a block
 

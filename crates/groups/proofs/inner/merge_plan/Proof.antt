@@ -1,14 +1,14 @@
 use denote.Ref.{now}
 use Rattle.merge.proofs.Groups.{groups-count}
 use Prim.Native.Nat.{ℕ, _-_}
 use mathlib.Core.Path.{refl, ap}
 use native.Mathlib.Omega.{arith}
 use lib.ListN.{length, length-set}
 use Rattle.num.proofs.Bits.{back}
-use Rattle.merge.proofs.Planning.{Grouping, grouping-none, grouping-start, grouping-room, grouping-more, grouping-long, grouping-end}
+use Rattle.groups.proofs.Planning.{Grouping, grouping-none, grouping-start, grouping-room, grouping-more, grouping-long, grouping-end}
 use borrow.Author.Needs.{needs}
-use Rattle.merge.proofs.inner.merge_plan.Statement.{statement}
-use Rattle.merge.proofs.inner.merge_plan.Tie as tie
+use Rattle.groups.proofs.inner.merge_plan.Statement.{statement}
+use Rattle.groups.proofs.inner.merge_plan.Tie as tie
 
 abbrev Inv-loop : tie.InvT-loop
 Inv-loop ends mask out-ends₀ out-offsets₀ group₀ run₀ out-ends out-offsets group run =

@@ -1,8 +1,8 @@
 use Prim.Native.Nat.{_-_}
 use native.Mathlib.Omega.{arith}
-use Rattle.merge.proofs.Ids.{Filling, filling-start, filling-more, filling-end}
-use Rattle.merge.proofs.inner.fill_short.Statement.{statement}
-use Rattle.merge.proofs.inner.fill_short.Tie as tie
+use Rattle.groups.proofs.Ids.{Filling, filling-start, filling-more, filling-end}
+use Rattle.groups.proofs.inner.fill_short.Statement.{statement}
+use Rattle.groups.proofs.inner.fill_short.Tie as tie
 
 abbrev Inv-loop : tie.InvT-loop
 Inv-loop out₀ from to limit id i₀ out i = Filling out₀ out from limit id i

@@ -1,10 +1,10 @@
 use Prim.Native.Nat.{_-_}
 use native.Mathlib.Omega.{arith}
 use lib.ListN.{length}
-use Rattle.merge.proofs.Ids.{Numbering, numbering-start, numbering-room, numbering-more, numbering-end}
+use Rattle.groups.proofs.Ids.{Numbering, numbering-start, numbering-room, numbering-more, numbering-end}
 use borrow.Author.Needs.{needs}
-use Rattle.merge.proofs.inner.group_ids.Statement.{statement}
-use Rattle.merge.proofs.inner.group_ids.Tie as tie
+use Rattle.groups.proofs.inner.group_ids.Statement.{statement}
+use Rattle.groups.proofs.inner.group_ids.Tie as tie
 
 abbrev Inv-loop : tie.InvT-loop
 Inv-loop offsets out-ids₀ limit from₀ group₀ out-ids from group = Numbering offsets out-ids₀ out-ids limit from group

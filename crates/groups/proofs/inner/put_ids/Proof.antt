@@ -1,9 +1,9 @@
 use native.Mathlib.Omega.{arith}
 use lib.ListN.{length-set}
-use Rattle.merge.proofs.Ids.{put-one, put-block}
+use Rattle.groups.proofs.Ids.{put-one, put-block}
 use borrow.Author.Needs.{needs}
-use Rattle.merge.proofs.inner.put_ids.Statement.{statement}
-use Rattle.merge.proofs.inner.put_ids.Tie as tie
+use Rattle.groups.proofs.inner.put_ids.Statement.{statement}
+use Rattle.groups.proofs.inner.put_ids.Tie as tie
 
 sub-if1 : tie.Need-sub-if1
 sub-if1 c = search needs

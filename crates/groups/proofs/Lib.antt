@@ -1,0 +1,5 @@
+pub mod Asks
+pub mod Examples
+pub mod Ids
+pub mod Planning
+pub mod Promised

@@ -1,0 +1,3 @@
+-- The calls of merge.rs on groups of runs; to be read after merge's definitions.
+pub mod Groups
+pub mod Workers
