@@ -36,6 +36,11 @@ cover-dense p (r ∷ rs) i d h =
     ∙ cover-dense (r .end) rs (i - (r .end - p)) d (h .1)
     ∙ rw (f, t))
 
+-- one run more behind runs
+pub last-end : (p : ℕ) (rs : Runs) (r : Run) → lastEnd p (rs ++ r ∷ []) ≡ r .end
+last-end p [] r = refl
+last-end p (s ∷ rs) r = last-end (s .end) rs r
+
 -- the last end is no smaller than where the runs begin
 pub last-above : (p : ℕ) (rs : Runs) → Rising p rs → p ≤ lastEnd p rs
 last-above p [] h = omega arith

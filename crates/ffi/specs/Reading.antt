@@ -42,7 +42,7 @@ use Rattle.slice.specs.declared.Part.{Part}
 use Rattle.slice.specs.declared.View.{View}
 use Rattle.slice.specs.declared.Viewed.{Viewed}
 use Rattle.slice.specs.Slice.{shownViewed, PartOf}
-use Rattle.transform.specs.Transform.{Range, WritesRanges}
+use Rattle.ranges.specs.Ranges.{Range, WritesRanges}
 use Rattle.ffi.specs.declared.RlBatched.{RlBatched}
 use Rattle.ffi.specs.declared.RlCounted.{RlCounted}
 use Rattle.ffi.specs.declared.RlEquality.{RlEquality}

@@ -34,6 +34,7 @@ ghost use Rattle.many.specs.Many as many;
 ghost use Rattle.merge.specs.Merge as merge;
 ghost use Rattle.ops.specs.Ops as ops;
 ghost use Rattle.plan.specs.Plan as plan;
+ghost use Rattle.ranges.specs.Ranges as ranges;
 ghost use Rattle.reduce.specs.Reduce as reduce;
 ghost use Rattle.rle.specs.Rle as calls;
 ghost use Rattle.slice.specs.Slice as slice;
@@ -377,10 +378,10 @@ pub extern "C" fn rl_ranges_where(
     out_ends: &mut [i64],
 ) -> RlCounted
     ensures { λ r. ⌜ LaidRanges
-        (transform.rangesWhere (sequence (now (ends .entry)) (now (values .entry))) code number (length (now («out_starts» .entry)) ∷ length (now («out_ends» .entry)) ∷ [])) r
+        (ranges.rangesWhere (sequence (now (ends .entry)) (now (values .entry))) code number (length (now («out_starts» .entry)) ∷ length (now («out_ends» .entry)) ∷ [])) r
         (now («out_starts» .entry)) (now («out_starts» .exit)) (now («out_ends» .entry)) (now («out_ends» .exit)) ⌝ }
 {
-    ffi::counted(transform::ranges_where(ends, values, code, number, out_starts, out_ends))
+    ffi::counted(ranges::ranges_where(ends, values, code, number, out_starts, out_ends))
 }
 
 #[no_mangle]

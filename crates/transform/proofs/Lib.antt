@@ -1,6 +1,4 @@
-pub mod Examples
 pub mod Joining
 pub mod Natural
-pub mod Ranging
 pub mod Reversing
 pub mod Shifting

@@ -12,7 +12,7 @@ use Rattle.column.specs.Questions.{endsValid}
 use Rattle.column.specs.Runs.{Run, Runs, magnitude, endBefore, runsOf, lengthOfEnds, endsOf, valuesOf, lastEnd, lengthOf, denseFrom, dense, over, Filled}
 use Rattle.column.proofs.Appending.{rising-at}
 use Rattle.column.proofs.Buffer.{over-next}
-use Rattle.column.proofs.Cover.{last-above}
+use Rattle.column.proofs.Cover.{last-end, last-above}
 use Rattle.column.proofs.Ends.{rising, length-of-ends}
 use Rattle.column.proofs.Merging.{fill-none}
 use Rattle.column.proofs.Rising.{Rising, Valid}
@@ -164,10 +164,6 @@ reverse-replicate zero v = refl
 reverse-replicate (suc n) v = reverse-cons v (replicate n v) ∙ rw (reverse-replicate n v) (replicate-end n v)
 
 -- one run more behind runs
-pub last-end : (p : ℕ) (rs : Runs) (r : Run) → lastEnd p (rs ++ r ∷ []) ≡ r .end
-last-end p [] r = refl
-last-end p (s ∷ rs) r = last-end (s .end) rs r
-
 dense-end : (p : ℕ) (rs : Runs) (r : Run) → denseFrom p (rs ++ r ∷ []) ≡ denseFrom p rs ++ replicate (r .end - lastEnd p rs) (r .value)
 unfolding denseFrom
 dense-end p [] r = append-nil (replicate (r .end - p) (r .value))

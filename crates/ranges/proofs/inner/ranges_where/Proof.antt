@@ -11,11 +11,11 @@ use Rattle.num.specs.Numbers.{eqZ, operation}
 use Rattle.num.proofs.Bits.{back}
 use Rattle.column.specs.Runs.{runsOf}
 use Rattle.column.proofs.Ends.{rising}
-use Rattle.transform.specs.Transform.{rangesOf}
-use Rattle.transform.proofs.Ranging.{Ranging, no-ranges, range-first, range-next, range-at, range-end, with-number}
+use Rattle.ranges.specs.Ranges.{rangesOf}
+use Rattle.ranges.proofs.Ranging.{Ranging, no-ranges, range-first, range-next, range-at, range-end, with-number}
 use borrow.Author.Needs.{needs}
-use Rattle.transform.proofs.inner.ranges_where.Statement.{statement}
-use Rattle.transform.proofs.inner.ranges_where.Tie as tie
+use Rattle.ranges.proofs.inner.ranges_where.Statement.{statement}
+use Rattle.ranges.proofs.inner.ranges_where.Tie as tie
 
 abbrev Inv-loop : tie.InvT-loop
 Inv-loop ends values code number out-starts₀ out-ends₀ first start before₀ last₀ r₀ out-starts out-ends before last r =

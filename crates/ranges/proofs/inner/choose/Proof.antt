@@ -1,6 +1,6 @@
 use mir.Facts.{toZ-ofZ}
-use Rattle.transform.proofs.inner.choose.Statement.{statement}
-use Rattle.transform.proofs.inner.choose.Tie as tie
+use Rattle.ranges.proofs.inner.choose.Statement.{statement}
+use Rattle.ranges.proofs.inner.choose.Tie as tie
 
 returns : tie.Need-returns
 returns c = rw (c .if1 .taken) (toZ-ofZ (c .before .fits .x))

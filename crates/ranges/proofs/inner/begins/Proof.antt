@@ -1,5 +1,5 @@
-use Rattle.transform.proofs.inner.begins.Statement.{statement}
-use Rattle.transform.proofs.inner.begins.Tie as tie
+use Rattle.ranges.proofs.inner.begins.Statement.{statement}
+use Rattle.ranges.proofs.inner.begins.Tie as tie
 
 returns : tie.Need-returns
 returns c = rw (c .if1 .taken)

@@ -1,9 +1,9 @@
 use Rattle.column.specs.Questions.{listed}
 use Rattle.column.proofs.FirstNo.{asked-last}
-use Rattle.transform.specs.Transform.{rangesWhereAsked}
+use Rattle.ranges.specs.Ranges.{rangesWhereAsked}
 use borrow.Author.Needs.{needs}
-use Rattle.transform.proofs.ranges_where_asks.Statement.{statement}
-use Rattle.transform.proofs.ranges_where_asks.Tie as tie
+use Rattle.ranges.proofs.ranges_where_asks.Statement.{statement}
+use Rattle.ranges.proofs.ranges_where_asks.Tie as tie
 
 ask-code-requires : tie.Need-ask-code-requires
 ask-code-requires c κs = search needs

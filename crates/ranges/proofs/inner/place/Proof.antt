@@ -1,6 +1,6 @@
 use borrow.Author.Needs.{needs}
-use Rattle.transform.proofs.inner.place.Statement.{statement}
-use Rattle.transform.proofs.inner.place.Tie as tie
+use Rattle.ranges.proofs.inner.place.Statement.{statement}
+use Rattle.ranges.proofs.inner.place.Tie as tie
 
 add-result : tie.Need-add-result
 add-result c = search needs

@@ -1,4 +1,4 @@
--- Worked examples of the calls of transform.rs, computed from their definitions. A is document 01's: ends 3, 5, 9, values 7, 2, 7.
+-- Worked examples of ranges_where, computed from its definition. A is document 01's: ends 3, 5, 9, values 7, 2, 7.
 -- Assumes nothing.
 use mathlib.Core.Option.{none}
 use mathlib.Core.List.{List, [], _∷_}
@@ -9,7 +9,7 @@ use Rattle.column.specs.Paper.{Outcome, answers, counts}
 use Rattle.column.specs.Questions.{listed, agree, paired, endsFrom, endsValid, roomAt, roomFrom, room, sequenceAsked}
 use Rattle.column.specs.Runs.{Sequence, sequence, runsOf, denseFrom, dense, joined, encodeFrom, encode}
 use Rattle.column.proofs.Rows.{Lines, Row, row, Hold, refused}
-use Rattle.transform.specs.Transform.{Range, rangesFrom, rangesOf, rangesWhereAsked, rangesWhere, rangeStarts, rangeEnds}
+use Rattle.ranges.specs.Ranges.{Range, rangesFrom, rangesOf, rangesWhereAsked, rangesWhere, rangeStarts, rangeEnds}
 
 abbrev a : Sequence
 a = sequence (pos 3 ∷ pos 5 ∷ pos 9 ∷ []) (pos 7 ∷ pos 2 ∷ pos 7 ∷ [])

@@ -2,11 +2,11 @@ use mir.Facts.{toZ-ofZ}
 use denote.Ref.{now}
 use Rattle.column.specs.Runs.{runsOf}
 use Rattle.column.proofs.Promised.{asked-yes, asked-no}
-use Rattle.transform.specs.Transform.{rangesWhere}
-use Rattle.transform.proofs.Ranging.{with-number, ranges-yes, ranges-written, ranges-refused}
+use Rattle.ranges.specs.Ranges.{rangesWhere}
+use Rattle.ranges.proofs.Ranging.{with-number, ranges-yes, ranges-written, ranges-refused}
 use borrow.Author.Needs.{needs}
-use Rattle.transform.proofs.ranges_where.Statement.{statement}
-use Rattle.transform.proofs.ranges_where.Tie as tie
+use Rattle.ranges.proofs.ranges_where.Statement.{statement}
+use Rattle.ranges.proofs.ranges_where.Tie as tie
 
 ranges-where-asks-requires : tie.Need-ranges-where-asks-requires
 ranges-where-asks-requires c κs = search needs

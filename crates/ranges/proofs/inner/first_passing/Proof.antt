@@ -12,11 +12,11 @@ use denote.Ref.{now}
 use Rattle.num.specs.Numbers.{eqZ, operation}
 use Rattle.num.proofs.Bits.{back}
 use Rattle.column.specs.Lists.{any}
-use Rattle.transform.specs.Workers.{passing, FirstPassing}
-use Rattle.transform.proofs.Ranging.{none-more}
+use Rattle.ranges.specs.Workers.{passing, FirstPassing}
+use Rattle.ranges.proofs.Ranging.{none-more}
 use borrow.Author.Needs.{needs}
-use Rattle.transform.proofs.inner.first_passing.Statement.{statement}
-use Rattle.transform.proofs.inner.first_passing.Tie as tie
+use Rattle.ranges.proofs.inner.first_passing.Statement.{statement}
+use Rattle.ranges.proofs.inner.first_passing.Tie as tie
 
 module _ (code : ℕ) (n : ℤ) {x v : ℤ} {b : Bool} (ex : x ≡ v) (eb : b ≡ eqZ (operation code x n) (pos 1)) where
   passes-is : {t : Bool} → b ≡ t → passing code n v ≡ t

@@ -6,11 +6,11 @@ use mir.Syntax.{w64}
 use mir.Val.{toZ, ofZ}
 use mir.Facts.{toZ-ofZ}
 use Rattle.num.proofs.Bits.{back}
-use Rattle.transform.specs.Workers.{openAfter}
-use Rattle.transform.specs.declared.inner.Open.{Open}
+use Rattle.ranges.specs.Workers.{openAfter}
+use Rattle.ranges.specs.declared.inner.Open.{Open}
 use borrow.Author.Needs.{needs}
-use Rattle.transform.proofs.inner.next_range.Statement.{statement}
-use Rattle.transform.proofs.inner.next_range.Tie as tie
+use Rattle.ranges.proofs.inner.next_range.Statement.{statement}
+use Rattle.ranges.proofs.inner.next_range.Tie as tie
 
 begins-requires : tie.Need-begins-requires
 begins-requires c κs = search needs

@@ -28,10 +28,10 @@ use Rattle.column.proofs.Ends.{runs-rise}
 use Rattle.column.proofs.FirstNo.{all-yes}
 use Rattle.column.proofs.Lists.{any-append}
 use Rattle.column.proofs.Told.{listed-told, sequence-told}
-use Rattle.transform.specs.Transform.{Range, rangesFrom, rangesOf, rangeStarts, rangeEnds, rangesWhereAsked, WritesRanges}
-use Rattle.transform.specs.Workers.{FirstPassing, openAfter, FilledRanges}
-use Rattle.transform.specs.declared.inner.Open.{Open}
-use Rattle.transform.proofs.Reversing.{last-end}
+use Rattle.ranges.specs.Ranges.{Range, rangesFrom, rangesOf, rangeStarts, rangeEnds, rangesWhereAsked, WritesRanges}
+use Rattle.ranges.specs.Workers.{FirstPassing, openAfter, FilledRanges}
+use Rattle.ranges.specs.declared.inner.Open.{Open}
+use Rattle.column.proofs.Cover.{last-end}
 
 -- ---- a run pushed onto runs of 1 and of other values
 
