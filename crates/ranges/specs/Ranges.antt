@@ -1,17 +1,15 @@
 -- transform.rs: the ranges of positions whose values pass.
-use Prim.Native.Nat.{ℕ, suc, _+_, _-_, min}
+use Prim.Native.Nat.{ℕ}
 use mathlib.Core.Bool.{cond}
-use mathlib.Core.List.{List, [], _∷_, _++_, map}
+use mathlib.Core.List.{List, [], _∷_, map}
 use mathlib.Core.Path.{_≡_}
-use lib.IntN.{ℤ, pos, negsuc}
-use lib.ListN.{length, take, drop, replicate}
+use lib.IntN.{ℤ, pos}
+use lib.ListN.{length}
 use Rattle.num.specs.Numbers.{eqZ, operation}
 use Rattle.column.specs.Asking.{Question, firstNo, _otherwise_}
-use Rattle.column.specs.Flat.{Flat, columns, pairedFlat, offsetsFlat, endsFlat}
-use Rattle.column.specs.Lists.{total}
 use Rattle.column.specs.Paper.{Outcome, shownCounted, counts, written}
-use Rattle.column.specs.Questions.{listed, fits, room, both, sequenceAsked}
-use Rattle.column.specs.Runs.{Sequence, Runs, runs, lengthOf, dense, encode}
+use Rattle.column.specs.Questions.{listed, sequenceAsked}
+use Rattle.column.specs.Runs.{Sequence, Runs, runs, dense, encode}
 use Rattle.column.specs.declared.answer.Counted.{Counted}
 
 -- the positions from start up to end

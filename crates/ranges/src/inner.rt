@@ -1,18 +1,14 @@
 // Workers that assume what the calls have asked.
-use column::inner::Writer;
 use column::sequence;
-use slice::search;
 ghost use Prim.Native.Nat.{_+_, _≤_, _<_, _^_};
 ghost use mathlib.Core.Bool.{_&&_, not, cond};
-ghost use mathlib.Core.List.{reverse};
 ghost use mathlib.Core.Option.{none};
 ghost use mathlib.Core.Path.{_≡_};
 ghost use lib.ListN.{length};
-ghost use Rattle.column.specs.Flat.{flat, columns};
 ghost use Rattle.column.specs.Questions.{endsValid};
-ghost use Rattle.column.specs.Runs.{runsOf, dense, encode, over, Filled};
-ghost use Rattle.ranges.specs.Ranges.{shown, shiftValues, reverseRuns, rangesOf};
-ghost use Rattle.ranges.specs.Workers.{Joinable, Shiftable, shiftedUp, shiftedDown, turnedEnds, passing, FirstPassing, openAfter, FilledRanges};
+ghost use Rattle.column.specs.Runs.{runsOf};
+ghost use Rattle.ranges.specs.Ranges.{rangesOf};
+ghost use Rattle.ranges.specs.Workers.{passing, FirstPassing, openAfter, FilledRanges};
 
 // The lowest index of a value that passes, or how many values there are.
 fn first_passing(values: &[i64], code: u8, number: i64) -> usize

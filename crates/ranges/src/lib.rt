@@ -3,15 +3,11 @@ pub mod inner;
 use column::answer::Asked;
 use column::answer::Counted;
 use column::sequence;
-ghost use mathlib.Core.List.{[], _∷_, map};
+ghost use mathlib.Core.List.{[], _∷_};
 ghost use mathlib.Core.Path.{_≡_};
 ghost use lib.ListN.{length};
-ghost use Rattle.num.specs.Numbers.{saturated};
 ghost use Rattle.column.specs.Asking.{shownAsked};
-ghost use Rattle.column.specs.Flat.{flat};
-ghost use Rattle.column.specs.Lists.{total, parts};
-ghost use Rattle.column.specs.Paper.{WritesRuns};
-ghost use Rattle.column.specs.Runs.{sequence, magnitude, lengthOfEnds};
+ghost use Rattle.column.specs.Runs.{sequence};
 ghost use Rattle.ranges.specs.Ranges.{WritesRanges};
 ghost use Rattle.ranges.specs.Ranges as calls;
 

@@ -3,34 +3,31 @@
 use Prim.Native.Nat.{ℕ, _+_, _≤_, _<_, _^_}
 use mathlib.Core.Bool.{not}
 use mathlib.Core.Option.{none, some}
-use mathlib.Core.List.{List, [], _∷_, _++_, map}
-use mathlib.Core.Path.{_≡_, refl, ap, ap₂, sym, _∙_}
+use mathlib.Core.List.{List, [], _∷_, _++_}
+use mathlib.Core.Path.{_≡_, refl, ap, sym, _∙_}
 use native.Mathlib.Numerals.{add-one}
 use native.Mathlib.Omega.{arith}
 use lib.Dec.{T}
 use lib.Ieee.{Float, nan, inf, fin, isNan}
 use lib.Ieee.Scale.{finite}
-use lib.IntN.{ℤ, pos}
-use lib.ListN.{length, getD, take, set, length-map, List·getD-map}
+use lib.IntN.{ℤ}
+use lib.ListN.{length, getD, take, set}
 use lib.Seq.{take-suc, take-all}
 use lib.Signed.{mag}
 use Rattle.column.specs.declared.answer.Counted.{Counted}
 use Rattle.column.specs.declared.error.Refusal.{Refusal}
-use Rattle.column.specs.Asking.{Question, firstNo, _otherwise_}
+use Rattle.column.specs.Asking.{Question, _otherwise_}
 use Rattle.column.specs.Paper.{answers, paper}
-use Rattle.column.specs.Questions.{listed, agree, paired, endsValid, intervals, room, both}
-use Rattle.column.specs.Runs.{sequence, Runs, runsOf}
+use Rattle.column.specs.Questions.{endsValid}
+use Rattle.column.specs.Runs.{runsOf}
 use Rattle.column.proofs.Buffer.{Written, write-start, write-next}
-use Rattle.column.proofs.FirstNo.{all-yes, asked-next, asked-last}
-use Rattle.column.proofs.Told.{agree-told, both-told}
 use Rattle.slice.specs.declared.search.TouchedRuns.{TouchedRuns}
 use Rattle.slice.specs.Search.{touchedBy}
-use Rattle.slice.specs.Slice.{sliceRuns, intervalRuns}
-use Rattle.slice.proofs.Items.{item-at, length-items}
+use Rattle.slice.specs.Slice.{sliceRuns}
 use Rattle.reduce.specs.declared.Reduction.{Reduction}
 use Rattle.reduce.specs.declared.inner.WindowReduction.{WindowReduction}
-use Rattle.reduce.specs.Reduce.{reduction, FiniteReduction, kindOf, bitsOf, allKinds, allBits, sliceReduceAsked, WritesReductions}
-use Rattle.reduce.specs.Workers.{Window, ReducesWindow, Reducible, FilledReductions}
+use Rattle.reduce.specs.Reduce.{reduction, FiniteReduction, kindOf, bitsOf, allKinds, allBits, WritesReductions}
+use Rattle.reduce.specs.Workers.{Window, ReducesWindow, FilledReductions}
 use Rattle.reduce.proofs.Windows.{window-of, window-rises, window-slice}
 
 -- a float of an answer has bits
@@ -56,21 +53,8 @@ module _ (es vs : List ℤ) (valid : endsValid es ≡ none) (l : length es ≡ l
     pub slice-reduced : r .reduction ≡ reduction code ddof (sliceRuns x y (runsOf es vs))
     slice-reduced = reduces .answer (window-rises x y es valid) ∙ ap (reduction code ddof) (window-slice x y es vs valid l)
 
--- ---- of each interval
+-- ---- reductions written one after another: the first i are
 
-abbrev pub reductions : ℕ → ℤ → List ℤ → List ℤ → Runs → List Reduction
-reductions code ddof starts stops rs = map (reduction code ddof) (intervalRuns starts stops rs)
-
--- the interval at i
-pub interval-reduced : (starts stops : List ℤ) (rs : Runs) (code : ℕ) (ddof : ℤ) (m : length starts ≡ length stops) (i : ℕ) (h : i < length starts) {x y : ℤ} {r : Reduction}
-    → x ≡ getD starts i (pos 0) → y ≡ getD stops i (pos 0) → r ≡ reduction code ddof (sliceRuns x y rs) → r ≡ getD (reductions code ddof starts stops rs) i (reduction code ddof [])
-interval-reduced starts stops rs code ddof m i h ex ey er =
-    er
-    ∙ ap₂ (λ (a b : ℤ). reduction code ddof (sliceRuns a b rs)) ex ey
-    ∙ ap (reduction code ddof) (sym (item-at starts stops rs i m h))
-    ∙ sym (List·getD-map (reduction code ddof) (intervalRuns starts stops rs) i [])
-
--- the first i of them are written
 pub record Filling (rs : List Reduction) (k₀ k b₀ b : List ℕ) (i : ℕ) : Type 0 where
   pub kinds : Written kindOf (take i rs) k₀ k i
   pub bits : Written bitsOf (take i rs) b₀ b i
@@ -93,42 +77,7 @@ filling-end {rs = rs} {i = i} s h =
     let all : take i rs ≡ rs = take-all i rs h in
     record { count = rw all at (s .kinds .count); kinds = rw all at (s .kinds .entries); bits = rw all at (s .bits .entries) }
 
-pub length-reductions : (code : ℕ) (ddof : ℤ) (starts stops : List ℤ) (rs : Runs) → length starts ≡ length stops → length (reductions code ddof starts stops rs) ≡ length starts
-length-reductions code ddof starts stops rs m = rw length-map (length-items starts stops rs m)
-
--- ---- the call
-
-module _ (es vs starts stops : List ℤ) (code k b : ℕ) where
-  pub reduce-asked : {q c d f g n o p s u v : Question} → q ≡ firstNo (c ∷ d ∷ []) → c ≡ listed 0 2 code
-      → d ≡ firstNo (f ∷ g ∷ []) → f ≡ agree 3 (length es) (length vs)
-      → g ≡ firstNo (n ∷ o ∷ []) → n ≡ agree 8 (length starts) (length stops)
-      → o ≡ firstNo (p ∷ s ∷ []) → p ≡ endsValid es
-      → s ≡ firstNo (u ∷ v ∷ []) → u ≡ intervals starts stops
-      → v ≡ room (both (length starts)) (k ∷ b ∷ [])
-      → q ≡ sliceReduceAsked (sequence es vs) starts stops code (k ∷ b ∷ [])
-  unfolding sliceReduceAsked paired
-  reduce-asked hq hc hd hf hg hn ho hp hs hu hv =
-      let r = room (both (length starts)) (k ∷ b ∷ []) in
-      asked-next (listed 0 2 code) (agree 3 (length es) (length vs) ∷ agree 8 (length starts) (length stops) ∷ endsValid es ∷ intervals starts stops ∷ r ∷ []) hq hc
-      (λ y. asked-next (agree 3 (length es) (length vs)) (agree 8 (length starts) (length stops) ∷ endsValid es ∷ intervals starts stops ∷ r ∷ []) hd hf
-      (λ y. asked-next (agree 8 (length starts) (length stops)) (endsValid es ∷ intervals starts stops ∷ r ∷ []) hg hn
-      (λ y. asked-next (endsValid es) (intervals starts stops ∷ r ∷ []) ho hp
-      (λ y. asked-last (intervals starts stops) hs hu (λ y. hv)))))
-
-pub reduce-yes : (es vs starts stops : List ℤ) (code : ℕ) (k b : List ℕ) → sliceReduceAsked (sequence es vs) starts stops code (length k ∷ length b ∷ []) ≡ none
-    → Reducible (sequence es vs) starts stops k b
-unfolding sliceReduceAsked paired
-reduce-yes es vs starts stops code k b h =
-    let y = all-yes (listed 0 2 code ∷ paired (sequence es vs) ∷ agree 8 (length starts) (length stops) ∷ endsValid es ∷ intervals starts stops
-    ∷ room (both (length starts)) (length k ∷ length b ∷ []) ∷ []) h in
-    let r = both-told (length starts) (length k) (length b) (y .1 .1 .1 .1 .1 .0) in
-    record {
-      valid = y .1 .1 .1 .0;
-      paired = agree-told 3 (length es) (length vs) (y .1 .0);
-      intervals = agree-told 8 (length starts) (length stops) (y .1 .1 .0);
-      room-kinds = r .0;
-      room-bits = r .1;
-    }
+-- ---- what a worker wrote, after a "yes" to every question, is what a call promises; and so is what was there, after a "no"
 
 pub reductions-written : {q : Question} (rs : List Reduction) {k k′ b b′ : List ℕ} {n : ℕ} → q ≡ none → FilledReductions rs k k′ b b′ n → WritesReductions (q otherwise rs) (Counted.Count n) k k′ b b′
 reductions-written rs h f = rw h (record { answer = ap answers (f .count); kinds = f .kinds; bits = f .bits })

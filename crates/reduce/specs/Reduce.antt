@@ -11,12 +11,11 @@ use lib.Ieee.{Float, fin, binary64, add, sub, mul, div, toBits}
 use lib.Ieee.Scale.{finite}
 use Rattle.num.specs.Numbers.{residue, wrap}
 use Rattle.float.specs.Float.{converted}
-use Rattle.column.specs.Asking.{Question, firstNo, _otherwise_}
+use Rattle.column.specs.Asking.{firstNo, _otherwise_}
 use Rattle.column.specs.Paper.{Outcome, answers, refuses, paper, shownCounted, counts, written}
-use Rattle.column.specs.Questions.{listed, agree, paired, endsValid, intervals, room, both}
+use Rattle.column.specs.Questions.{listed, paired, endsValid}
 use Rattle.column.specs.Runs.{Sequence, Runs, runs, lengthOf}
 use Rattle.column.specs.declared.answer.Counted.{Counted}
-use Rattle.slice.specs.Slice.{intervalRuns}
 use Rattle.reduce.specs.declared.Summed.{Summed}
 use Rattle.reduce.specs.declared.Reduced.{Reduced}
 use Rattle.reduce.specs.declared.Reduction.{Reduction}
@@ -107,7 +106,7 @@ pub record Reduces (o : Outcome Reduction) (r : Reduced) : Type 0 where
   pub answer : shownReduced r ≡ o
   pub finite : FiniteReduced r
 
--- ---- slice_reduce of one column: "two buffers of one entry per interval"
+-- ---- reductions as they are written: "two buffers of one entry per interval"
 
 -- "a kind byte (0 Nothing, 1 Whole, 2 Fraction)"
 abbrev pub kindOf : Reduction → ℕ
@@ -126,22 +125,6 @@ allKinds rs = map kindOf rs
 
 unfoldable pub allBits : List Reduction → List ℕ
 allBits rs = map bitsOf rs
-
-unfoldable pub sliceReduceAsked : Sequence → List ℤ → List ℤ → ℕ → List ℕ → Question
-sliceReduceAsked s starts ends code buffers =
-    firstNo
-    (listed 0 2 code
-    ∷ paired s
-    ∷ agree 8 (length starts) (length ends)
-    ∷ endsValid (s .ends)
-    ∷ intervals starts ends
-    ∷ room (both (length starts)) buffers
-    ∷ [])
-
--- the reduction of the slice of each interval
-unfoldable pub sliceReduce : Sequence → List ℤ → List ℤ → ℕ → ℤ → List ℕ → Outcome (List Reduction)
-sliceReduce s starts ends code ddof buffers =
-    sliceReduceAsked s starts ends code buffers otherwise map (reduction code ddof) (intervalRuns starts ends (runs s))
 
 -- the promise of a call that writes reductions into two buffers, each before and after
 pub record WritesReductions (o : Outcome (List Reduction)) (r : Counted) (k k′ b b′ : List ℕ) : Type 0 where

@@ -14,8 +14,8 @@ use mir.Val.{SFits}
 use Rattle.num.specs.Numbers.{wrap}
 use Rattle.float.specs.Float.{converted, Within}
 use Rattle.column.specs.Asking.{Question, refusal, _unless_}
-use Rattle.column.specs.Questions.{endsValid, endsFrom}
-use Rattle.column.specs.Runs.{Sequence, Run, Runs, magnitude, runsOf, lastFrom, lengthOfEnds, over}
+use Rattle.column.specs.Questions.{endsFrom}
+use Rattle.column.specs.Runs.{Run, Runs, magnitude, runsOf, lastFrom, lengthOfEnds, over}
 use Rattle.column.specs.Writing.{RisingEnds}
 use Rattle.slice.specs.declared.search.TouchedRuns.{TouchedRuns}
 use Rattle.reduce.specs.declared.inner.WindowReduction.{WindowReduction}
@@ -171,14 +171,6 @@ pub record ReducesWindow (code : ℕ) (ddof : ℤ) (t : TouchedRuns) (es vs : Li
   pub finite : endsFrom 0 (t .start) (windowEnds t es) ≡ none → FiniteReduction (r .reduction)
 
 -- ---- of each interval
-
--- every question of slice_reduce answered "yes"
-pub record Reducible (s : Sequence) (starts stops : List ℤ) (k b : List ℕ) : Type 0 where
-  pub valid : endsValid (s .ends) ≡ none
-  pub paired : length (s .ends) ≡ length (s .values)
-  pub intervals : length starts ≡ length stops
-  pub room-kinds : length starts ≤ length k
-  pub room-bits : length starts ≤ length b
 
 -- reductions written into the front of two buffers, each before and after, and how many they are
 pub record FilledReductions (rs : List Reduction) (k k′ b b′ : List ℕ) (n : ℕ) : Type 0 where

@@ -5,18 +5,16 @@ use slice::search;
 use slice::search::TouchedRuns;
 ghost use Prim.Native.Nat.{_≤_, _^_};
 ghost use mathlib.Core.Bool.{true, _&&_};
-ghost use mathlib.Core.List.{map};
 ghost use mathlib.Core.Option.{none};
 ghost use mathlib.Core.Path.{_≡_};
 ghost use lib.IntN.{pos, natAbs};
 ghost use lib.ListN.{length};
 ghost use lib.Signed.{ltZ};
-ghost use Rattle.float.specs.Float.{Within};
 ghost use Rattle.column.specs.Questions.{endsValid};
 ghost use Rattle.column.specs.Runs.{magnitude, sequence, runsOf};
-ghost use Rattle.slice.specs.Slice.{sliceRuns, intervalRuns};
+ghost use Rattle.slice.specs.Slice.{sliceRuns};
 ghost use Rattle.reduce.specs.Reduce.{addProduct, addSquare, reduction, FiniteReduction, kindOf, bitsOf};
-ghost use Rattle.reduce.specs.Workers.{addWrapped, WalkedSum, StoppedSum, SumOf, ProductsOf, ExactProducts, AllProducts, AroundMean, WalkedSquares, Squarable, SquaresOf, ExactRun, Window, divisorOf, VarianceBy, ReducesWindow, Reducible, FilledReductions};
+ghost use Rattle.reduce.specs.Workers.{addWrapped, WalkedSum, StoppedSum, SumOf, ProductsOf, ExactProducts, AllProducts, AroundMean, WalkedSquares, Squarable, SquaresOf, ExactRun, Window, divisorOf, VarianceBy, ReducesWindow};
 
 // How far a sum came: how many runs, the end of the last of them, and their total.
 pub struct WholeSum {
@@ -469,31 +467,4 @@ pub fn bits(reduction: Reduction) -> u64
         Reduction::Fraction(moments) => f64::to_bits(moments.variance),
         Reduction::Nothing => 0,
     }
-}
-
-// The reduction of the slice of each interval.
-pub fn slice_reduce(
-    ends: &[i64],
-    values: &[i64],
-    starts: &[i64],
-    stops: &[i64],
-    code: u8,
-    ddof: i64,
-    out_kinds: &mut [u8],
-    out_bits: &mut [u64],
-) -> usize
-    requires { ⌜ Reducible (sequence (now ends) (now values)) (now starts) (now stops) (now «out_kinds») (now «out_bits») ⌝ }
-    ensures { λ r. ⌜ FilledReductions (map (reduction code ddof) (intervalRuns (now (starts .entry)) (now (stops .entry)) (runsOf (now (ends .entry)) (now (values .entry)))))
-        (now («out_kinds» .entry)) (now («out_kinds» .exit)) (now («out_bits» .entry)) (now («out_bits» .exit)) r ⌝ }
-{
-    let mut i: usize = 0;
-    while i < starts.len() {
-        let start = starts[i];
-        let stop = stops[i];
-        let reduction = reduce_slice(ends, values, start, stop, code, ddof);
-        out_kinds[i] = kind(reduction);
-        out_bits[i] = bits(reduction);
-        i += 1;
-    }
-    i
 }

@@ -3,18 +3,16 @@ pub mod inner;
 use crate::inner::WholeSum;
 use crate::inner::WindowReduction;
 use column::answer::Asked;
-use column::answer::Counted;
 use column::error::Error;
 use column::error::InKey;
 use column::error::Refusal;
 use column::sequence;
 use slice::search::TouchedRuns;
-ghost use mathlib.Core.List.{[], _∷_};
 ghost use mathlib.Core.Path.{_≡_};
 ghost use lib.ListN.{length};
 ghost use Rattle.column.specs.Asking.{shownAsked, _otherwise_};
 ghost use Rattle.column.specs.Runs.{sequence};
-ghost use Rattle.reduce.specs.Reduce.{shownSummed, shownReduced, Reduces, WritesReductions};
+ghost use Rattle.reduce.specs.Reduce.{shownSummed, shownReduced, Reduces};
 ghost use Rattle.reduce.specs.Reduce as calls;
 ghost use Rattle.reduce.specs.Workers.{endsPass, wholeOf};
 
@@ -122,66 +120,5 @@ pub fn reduce(ends: &[i64], values: &[i64], code: u8, ddof: i64) -> Reduced
             reduction_answer(reduction, ends.len())
         }
         Asked::No(r) => Reduced::Refused(r),
-    }
-}
-
-fn slice_reduce_asks(
-    ends: &[i64],
-    values: &[i64],
-    starts: &[i64],
-    stops: &[i64],
-    code: u8,
-    out_kinds: usize,
-    out_bits: usize,
-) -> Asked
-    ensures { λ r. ⌜ shownAsked r ≡ calls.sliceReduceAsked (sequence (now (ends .entry)) (now (values .entry))) (now (starts .entry)) (now (stops .entry)) code («out_kinds» ∷ «out_bits» ∷ []) ⌝ }
-{
-    let room = questions::ask_both(starts.len(), out_kinds, out_bits);
-    let inside = questions::first_no(questions::ask_intervals(starts, stops), room);
-    let valid = questions::first_no(questions::ask_ends(ends), inside);
-    let paired = questions::first_no(questions::ask_lengths(8, starts.len(), stops.len()), valid);
-    let lengths = questions::first_no(questions::ask_lengths(3, ends.len(), values.len()), paired);
-    questions::first_no(questions::ask_code(0, 2, code), lengths)
-}
-
-// The sum, mean or variance of the slice of each interval, by code: kind bytes, and 64 bits for each.
-pub fn slice_reduce(
-    ends: &[i64],
-    values: &[i64],
-    starts: &[i64],
-    stops: &[i64],
-    code: u8,
-    ddof: i64,
-    out_kinds: &mut [u8],
-    out_bits: &mut [u64],
-) -> Counted
-    ensures { λ r. ⌜ WritesReductions
-        (calls.sliceReduce (sequence (now (ends .entry)) (now (values .entry))) (now (starts .entry)) (now (stops .entry)) code ddof (length (now («out_kinds» .entry)) ∷ length (now («out_bits» .entry)) ∷ [])) r
-        (now («out_kinds» .entry)) (now («out_kinds» .exit)) (now («out_bits» .entry)) (now («out_bits» .exit)) ⌝ }
-{
-    let asked = slice_reduce_asks(
-        ends,
-        values,
-        starts,
-        stops,
-        code,
-        out_kinds.len(),
-        out_bits.len(),
-    );
-    match asked {
-        Asked::Yes => {
-            let n = inner::slice_reduce(
-                ends,
-                values,
-                starts,
-                stops,
-                code,
-                ddof,
-                out_kinds,
-                out_bits,
-            );
-            Counted::Count(n)
-        }
-        Asked::No(r) => Counted::Refused(r),
     }
 }

@@ -27,6 +27,7 @@ ghost use Rattle.dense.specs.Dense as dense;
 ghost use Rattle.each.specs.Each as each;
 ghost use Rattle.ffi.specs.Reading.{readFill, LaidCheck, LaidEquality, LaidFound, LaidViewed, LaidSum, LaidReduced, LaidPart, LaidRuns, LaidEntries, LaidRanges, LaidGroups, LaidReductions, LaidPlan, LaidPlanMany, LaidFlat, LaidGot, LaidBatch, LaidCollapse};
 ghost use Rattle.groups.specs.Groups as groups;
+ghost use Rattle.intervals.specs.Intervals as intervals;
 ghost use Rattle.items.specs.Items as items;
 ghost use Rattle.join.specs.Zip as join;
 ghost use Rattle.keys.specs.Keys as lookup;
@@ -309,10 +310,10 @@ pub extern "C" fn rl_getitems(
     out_values: &mut [i64],
 ) -> RlBatched
     ensures { λ r. ⌜ LaidFlat
-        (slice.getitems (sequence (now (ends .entry)) (now (values .entry))) (now (starts .entry)) (now (stops .entry)) (length (now («out_offsets» .entry)) ∷ length (now («out_ends» .entry)) ∷ length (now («out_values» .entry)) ∷ [])) r
+        (intervals.getitems (sequence (now (ends .entry)) (now (values .entry))) (now (starts .entry)) (now (stops .entry)) (length (now («out_offsets» .entry)) ∷ length (now («out_ends» .entry)) ∷ length (now («out_values» .entry)) ∷ [])) r
         (now («out_offsets» .entry)) (now («out_offsets» .exit)) (now («out_ends» .entry)) (now («out_ends» .exit)) (now («out_values» .entry)) (now («out_values» .exit)) ⌝ }
 {
-    ffi::batched(slice::getitems(
+    ffi::batched(intervals::getitems(
         ends,
         values,
         starts,
@@ -492,10 +493,10 @@ pub extern "C" fn rl_slice_reduce(
     out_bits: &mut [u64],
 ) -> RlCounted
     ensures { λ r. ⌜ LaidReductions
-        (reduce.sliceReduce (sequence (now (ends .entry)) (now (values .entry))) (now (starts .entry)) (now (stops .entry)) code ddof (length (now («out_kinds» .entry)) ∷ length (now («out_bits» .entry)) ∷ [])) r
+        (intervals.sliceReduce (sequence (now (ends .entry)) (now (values .entry))) (now (starts .entry)) (now (stops .entry)) code ddof (length (now («out_kinds» .entry)) ∷ length (now («out_bits» .entry)) ∷ [])) r
         (now («out_kinds» .entry)) (now («out_kinds» .exit)) (now («out_bits» .entry)) (now («out_bits» .exit)) ⌝ }
 {
-    ffi::counted(reduce::slice_reduce(ends, values, starts, stops, code, ddof, out_kinds, out_bits))
+    ffi::counted(intervals::slice_reduce(ends, values, starts, stops, code, ddof, out_kinds, out_bits))
 }
 
 #[no_mangle]

@@ -1,18 +1,16 @@
 -- Worked examples of the calls of slice.rs, computed from their definitions. A is document 01's: ends 3, 5, 9, values 7, 2, 7.
 -- Assumes nothing.
 use mathlib.Core.Option.{Option, none, some}
-use mathlib.Core.List.{List, [], _∷_, map}
+use mathlib.Core.List.{List, [], _∷_}
 use mathlib.Core.Path.{refl}
 use Prim.Native.Nat.{ℕ}
 use lib.IntN.{pos, negsuc}
-use Rattle.column.specs.Flat.{offsetsFrom, flatOffsets, flatEnds, flatValues}
 use Rattle.column.specs.Paper.{Outcome, answers, counts}
-use Rattle.column.specs.Questions.{agree, paired, endsFrom, endsValid, intervalAt, intervals, roomAt, roomFrom, room, sequenceAsked}
-use Rattle.column.specs.Asking.{eachFrom}
-use Rattle.column.specs.Runs.{Sequence, sequence, Runs, runsOf, endsOf, valuesOf, lengthOf}
+use Rattle.column.specs.Questions.{agree, paired, endsFrom, endsValid, roomAt, roomFrom, room, sequenceAsked}
+use Rattle.column.specs.Runs.{Sequence, sequence, runsOf, endsOf, valuesOf, lengthOf}
 use Rattle.column.proofs.Rows.{Lines, Row, row, Hold, refused, asRuns}
 use Rattle.slice.specs.Search.{firstWhere, firstEndAbove}
-use Rattle.slice.specs.Slice.{covering, runIndex, cut, sliceRuns, slice, viewOf, sliceView, slicePart, entriesOf, intervalRuns, getitemsAsked, getitems}
+use Rattle.slice.specs.Slice.{covering, runIndex, cut, sliceRuns, slice, viewOf, sliceView, slicePart, entriesOf}
 use Rattle.slice.specs.declared.View.{View}
 
 abbrev a : Sequence
@@ -29,9 +27,6 @@ asIndex o = counts lines o
 abbrev asView : Outcome View → Outcome Lines
 asView o = counts (λ v. (pos (v .first) ∷ v .start ∷ v .length ∷ []) ∷ []) o
 
-abbrev asFlat : Outcome (List Runs) → Outcome Lines
-asFlat o = counts (λ cs. map pos (flatOffsets cs) ∷ flatEnds cs ∷ flatValues cs ∷ []) o
-
 abbrev rows : List Row
 rows =
     row (asIndex (runIndex (a .ends) (pos 2))) (answers ((pos 0 ∷ []) ∷ []))
@@ -46,11 +41,8 @@ rows =
     ∷ row (asView (sliceView a (pos 4) (pos 12))) (answers ((pos 1 ∷ pos 4 ∷ pos 5 ∷ []) ∷ []))
     ∷ row (asView (sliceView a (pos 6) (pos 6))) (answers ((pos 0 ∷ pos 0 ∷ pos 0 ∷ []) ∷ []))
     ∷ row (answers (entriesOf (slicePart a (pos 4) (pos 12)) (a .values) ∷ [])) (answers ((pos 2 ∷ pos 7 ∷ []) ∷ []))
-    ∷ row (asFlat (getitems a (pos 2 ∷ pos 9 ∷ pos 4 ∷ []) (pos 6 ∷ pos 12 ∷ pos 5 ∷ []) (4 ∷ 4 ∷ 4 ∷ [])))
-    (answers ((pos 0 ∷ pos 3 ∷ pos 3 ∷ pos 4 ∷ []) ∷ (pos 1 ∷ pos 3 ∷ pos 4 ∷ pos 1 ∷ []) ∷ (pos 7 ∷ pos 2 ∷ pos 7 ∷ pos 2 ∷ []) ∷ []))
-    ∷ row (asFlat (getitems a (pos 2 ∷ negsuc 0 ∷ []) (pos 6 ∷ pos 3 ∷ []) (0 ∷ 0 ∷ 0 ∷ []))) (refused 9 (pos 1 ∷ negsuc 0 ∷ pos 3 ∷ []) none)
     ∷ []
 
 pub examples : Hold rows
-unfolding agree paired endsFrom endsValid eachFrom intervalAt intervals roomAt roomFrom room sequenceAsked runsOf endsOf valuesOf lengthOf offsetsFrom flatEnds flatValues firstEndAbove firstWhere covering runIndex cut sliceRuns slice viewOf sliceView slicePart intervalRuns getitemsAsked getitems
-examples = (refl, (refl, (refl, (refl, (refl, (refl, (refl, (refl, (refl, (refl, (refl, (refl, (refl, (refl, tt))))))))))))))
+unfolding agree paired endsFrom endsValid roomAt roomFrom room sequenceAsked runsOf endsOf valuesOf lengthOf firstEndAbove firstWhere covering runIndex cut sliceRuns slice viewOf sliceView slicePart
+examples = (refl, (refl, (refl, (refl, (refl, (refl, (refl, (refl, (refl, (refl, (refl, (refl, tt))))))))))))

@@ -2,17 +2,17 @@
 use Prim.Native.Nat.{ℕ, suc, _+_, _-_, _*_, _≤_, min}
 use mathlib.Core.Bool.{cond, _&&_}
 use mathlib.Core.Option.{Option, none, some}
-use mathlib.Core.List.{List, [], _∷_, map}
+use mathlib.Core.List.{List, [], _∷_}
 use mathlib.Core.Path.{_≡_}
 use lib.IntN.{ℤ, pos}
 use lib.Signed.{leZ, ltZ}
 use lib.ListN.{length}
 use lib.Dec.{leb, ltb}
 use denote.Ref.{RefT}
-use Rattle.column.specs.Asking.{Question, firstNo, _otherwise_}
-use Rattle.column.specs.Lists.{total, part}
+use Rattle.column.specs.Asking.{firstNo, _otherwise_}
+use Rattle.column.specs.Lists.{part}
 use Rattle.column.specs.Paper.{Outcome, answers, refuses, paper}
-use Rattle.column.specs.Questions.{agree, paired, endsValid, intervals, room, both, sequenceAsked}
+use Rattle.column.specs.Questions.{paired, endsValid, sequenceAsked}
 use Rattle.column.specs.Runs.{Sequence, Runs, magnitude, runs, lengthOf}
 use Rattle.slice.specs.Search.{firstEndAbove}
 use Rattle.slice.specs.declared.Part.{Part}
@@ -93,25 +93,3 @@ pub record HandsBack (r : RefT (List ℤ)) (p : Part) (vs : RefT (List ℤ)) : T
   pub block : r .ptr .0 ≡ vs .ptr .0
   pub place : r .ptr .1 ≡ p .first * 8 + vs .ptr .1
   pub entries : r .now ≡ entriesOf p (vs .now)
-
--- ---- getitems of one column
-
--- the slice of each interval
-unfoldable pub intervalRuns : List ℤ → List ℤ → Runs → List Runs
-intervalRuns [] ends rs = []
-intervalRuns (s ∷ ss) [] rs = []
-intervalRuns (s ∷ ss) (e ∷ es) rs = sliceRuns s e rs ∷ intervalRuns ss es rs
-
--- (what 8: starts, ends) "exactly its runs and offsets; its keys are the interval numbers and are not written"
-unfoldable pub getitemsAsked : Sequence → List ℤ → List ℤ → List ℕ → Question
-getitemsAsked s starts ends buffers =
-    firstNo
-    (paired s
-    ∷ agree 8 (length starts) (length ends)
-    ∷ endsValid (s .ends)
-    ∷ intervals starts ends
-    ∷ room ((length starts + 1) ∷ both (total (map length (intervalRuns starts ends (runs s))))) buffers
-    ∷ [])
-
-unfoldable pub getitems : Sequence → List ℤ → List ℤ → List ℕ → Outcome (List Runs)
-getitems s starts ends buffers = getitemsAsked s starts ends buffers otherwise intervalRuns starts ends (runs s)

@@ -1,17 +1,13 @@
 -- What the workers leave and require.
 use Prim.Native.Nat.{ℕ, _+_, _-_, _≤_, _<_, min}
-use mathlib.Core.Option.{none}
-use mathlib.Core.List.{List, [], _∷_, map}
+use mathlib.Core.List.{List, map}
 use mathlib.Core.Path.{_≡_}
 use lib.IntN.{ℤ, pos}
 use lib.ListN.{length, getD, take, drop}
 use Rattle.column.specs.Flat.{flatOffsets, flatEnds, flatValues}
 use Rattle.column.specs.Lists.{total}
-use Rattle.column.specs.Questions.{endsValid}
-use Rattle.column.specs.Runs.{Sequence, Run, Runs, magnitude, runs, over}
+use Rattle.column.specs.Runs.{Run, Runs, magnitude, over}
 use Rattle.slice.specs.declared.search.TouchedRuns.{TouchedRuns}
-use Rattle.slice.specs.Search.{touchedBy}
-use Rattle.slice.specs.Slice.{intervalRuns}
 
 -- a run as it stands in a slice from x up to y
 abbrev pub clipped : ℕ → ℕ → Run → Run
@@ -32,21 +28,6 @@ pub record Touches (t : TouchedRuns) (es vs e v : List ℤ) : Type 0 where
   pub above : (i : ℕ) → i < t .count → magnitude (t .start) ≤ magnitude (getD es (t .first + i) (pos 0))
   pub room-ends : t .count ≤ length e
   pub room-values : t .count ≤ length v
-
--- how many runs the slice of each interval has, by the ends alone
-unfoldable pub intervalCounts : List ℤ → List ℤ → List ℤ → List ℕ
-intervalCounts [] stops es = []
-intervalCounts (s ∷ ss) [] es = []
-intervalCounts (s ∷ ss) (e ∷ stops) es = touchedBy s e es .count ∷ intervalCounts ss stops es
-
--- every question of getitems answered "yes"
-pub record Gettable (s : Sequence) (starts stops : List ℤ) (x : List ℕ) (e v : List ℤ) : Type 0 where
-  pub valid : endsValid (s .ends) ≡ none
-  pub paired : length (s .ends) ≡ length (s .values)
-  pub intervals : length starts ≡ length stops
-  pub room-offsets : length starts + 1 ≤ length x
-  pub room-ends : total (map length (intervalRuns starts stops (runs s))) ≤ length e
-  pub room-values : total (map length (intervalRuns starts stops (runs s))) ≤ length v
 
 -- sequences laid flat, written into the front of three buffers, each before and after, and how many runs they have
 pub record FilledFlat (cs : List Runs) (x x′ : List ℕ) (e e′ v v′ : List ℤ) (n : ℕ) : Type 0 where

@@ -1,18 +1,14 @@
 -- transform.rs with concat: sequences joined, moved and turned round.
 use Prim.Native.Nat.{ℕ, suc, _+_, _-_, min}
-use mathlib.Core.Bool.{cond}
 use mathlib.Core.List.{List, [], _∷_, _++_, map}
-use mathlib.Core.Path.{_≡_}
 use lib.IntN.{ℤ, pos, negsuc}
 use lib.ListN.{length, take, drop, replicate}
-use Rattle.num.specs.Numbers.{eqZ, operation}
 use Rattle.column.specs.Asking.{Question, firstNo, _otherwise_}
 use Rattle.column.specs.Flat.{Flat, columns, pairedFlat, offsetsFlat, endsFlat}
 use Rattle.column.specs.Lists.{total}
-use Rattle.column.specs.Paper.{Outcome, shownCounted, counts, written}
-use Rattle.column.specs.Questions.{listed, fits, room, both, sequenceAsked}
+use Rattle.column.specs.Paper.{Outcome}
+use Rattle.column.specs.Questions.{fits, room, both, sequenceAsked}
 use Rattle.column.specs.Runs.{Sequence, Runs, runs, lengthOf, dense, encode}
-use Rattle.column.specs.declared.answer.Counted.{Counted}
 
 -- ---- concat
 

@@ -2,8 +2,7 @@
 use column::inner::Writer;
 use column::sequence;
 use slice::search;
-ghost use Prim.Native.Nat.{_+_, _≤_, _<_, _^_};
-ghost use mathlib.Core.Bool.{_&&_, not, cond};
+ghost use Prim.Native.Nat.{_+_, _≤_, _<_};
 ghost use mathlib.Core.List.{reverse};
 ghost use mathlib.Core.Option.{none};
 ghost use mathlib.Core.Path.{_≡_};
@@ -11,8 +10,8 @@ ghost use lib.ListN.{length};
 ghost use Rattle.column.specs.Flat.{flat, columns};
 ghost use Rattle.column.specs.Questions.{endsValid};
 ghost use Rattle.column.specs.Runs.{runsOf, dense, encode, over, Filled};
-ghost use Rattle.transform.specs.Transform.{shown, shiftValues, reverseRuns, rangesOf};
-ghost use Rattle.transform.specs.Workers.{Joinable, Shiftable, shiftedUp, shiftedDown, turnedEnds, passing, FirstPassing, openAfter, FilledRanges};
+ghost use Rattle.transform.specs.Transform.{shown, shiftValues, reverseRuns};
+ghost use Rattle.transform.specs.Workers.{Joinable, Shiftable, shiftedUp, shiftedDown, turnedEnds};
 
 // One sequence after another.
 pub fn concat(

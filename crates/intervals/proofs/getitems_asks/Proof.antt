@@ -1,7 +1,7 @@
-use Rattle.slice.proofs.Asks.{getitems-asked}
+use Rattle.intervals.proofs.Asks.{getitems-asked}
 use borrow.Author.Needs.{needs}
-use Rattle.slice.proofs.getitems_asks.Statement.{statement}
-use Rattle.slice.proofs.getitems_asks.Tie as tie
+use Rattle.intervals.proofs.getitems_asks.Statement.{statement}
+use Rattle.intervals.proofs.getitems_asks.Tie as tie
 
 count-runs-requires : tie.Need-count-runs-requires
 count-runs-requires c κs = search needs

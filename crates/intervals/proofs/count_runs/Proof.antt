@@ -2,10 +2,10 @@ use Prim.Native.Nat.{_-_}
 use mathlib.Core.Path.{_∙_}
 use lib.ListN.{length}
 use Rattle.num.proofs.Bits.{back}
-use Rattle.slice.proofs.Items.{Counting, counting-start, counting-next, counting-end}
+use Rattle.intervals.proofs.Items.{Counting, counting-start, counting-next, counting-end}
 use borrow.Author.Needs.{needs}
-use Rattle.slice.proofs.count_runs.Statement.{statement}
-use Rattle.slice.proofs.count_runs.Tie as tie
+use Rattle.intervals.proofs.count_runs.Statement.{statement}
+use Rattle.intervals.proofs.count_runs.Tie as tie
 
 abbrev Inv-loop : tie.InvT-loop
 Inv-loop ends starts stops total₀ i₀ total i = Counting starts stops ends total i

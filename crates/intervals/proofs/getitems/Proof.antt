@@ -6,12 +6,13 @@ use lib.ListN.{length}
 use Rattle.column.specs.Asking.{shownAsked}
 use Rattle.column.specs.Runs.{sequence}
 use Rattle.column.proofs.Promised.{asked-yes, asked-no}
-use Rattle.slice.specs.Slice.{getitemsAsked, getitems}
-use Rattle.slice.proofs.Asks.{getitems-yes}
-use Rattle.slice.proofs.Items.{length-items, flat-written, flat-refused}
+use Rattle.intervals.specs.Intervals.{getitemsAsked, getitems}
+use Rattle.intervals.proofs.Asks.{getitems-yes}
+use Rattle.intervals.proofs.Items.{length-items}
+use Rattle.slice.proofs.Items.{flat-written, flat-refused}
 use borrow.Author.Needs.{needs}
-use Rattle.slice.proofs.getitems.Statement.{statement}
-use Rattle.slice.proofs.getitems.Tie as tie
+use Rattle.intervals.proofs.getitems.Statement.{statement}
+use Rattle.intervals.proofs.getitems.Tie as tie
 
 -- the answer to the questions, the buffers being as long as slices are
 asked : (c : tie.After-getitems-asks) → let a = c .before .before .args in

@@ -8,11 +8,12 @@ use Rattle.num.proofs.Bits.{back}
 use Prim.Native.Nat.{_-_}
 use lib.ListN.{length}
 use Rattle.column.specs.Runs.{runsOf, Filled}
-use Rattle.slice.specs.Slice.{intervalRuns}
-use Rattle.slice.proofs.Items.{Laying, laying-start, laying-room, laying-next, laying-end, length-items, item-touches, item-filled}
+use Rattle.intervals.specs.Intervals.{intervalRuns}
+use Rattle.slice.proofs.Items.{Laying, laying-start, laying-room, laying-next, laying-end}
+use Rattle.intervals.proofs.Items.{length-items, item-touches, item-filled}
 use borrow.Author.Needs.{needs}
-use Rattle.slice.proofs.inner.getitems.Statement.{statement}
-use Rattle.slice.proofs.inner.getitems.Tie as tie
+use Rattle.intervals.proofs.inner.getitems.Statement.{statement}
+use Rattle.intervals.proofs.inner.getitems.Tie as tie
 
 abbrev Inv-loop : tie.InvT-loop
 Inv-loop ends values starts stops out-offsets₀ out-ends₀ out-values₀ used₀ i₀ out-offsets out-ends out-values used i =

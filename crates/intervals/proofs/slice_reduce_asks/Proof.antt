@@ -1,7 +1,7 @@
-use Rattle.reduce.proofs.Intervals.{reduce-asked}
+use Rattle.intervals.proofs.Reductions.{reduce-asked}
 use borrow.Author.Needs.{needs}
-use Rattle.reduce.proofs.slice_reduce_asks.Statement.{statement}
-use Rattle.reduce.proofs.slice_reduce_asks.Tie as tie
+use Rattle.intervals.proofs.slice_reduce_asks.Statement.{statement}
+use Rattle.intervals.proofs.slice_reduce_asks.Tie as tie
 
 ask-both-requires : tie.Need-ask-both-requires
 ask-both-requires c κs = search needs

@@ -1,11 +1,12 @@
 use denote.Ref.{now}
 use mir.Facts.{toZ-ofZ}
 use Rattle.column.proofs.Promised.{asked-yes, asked-no}
-use Rattle.reduce.specs.Reduce.{sliceReduce}
-use Rattle.reduce.proofs.Intervals.{reduce-yes, reductions-written, reductions-refused}
+use Rattle.intervals.specs.Intervals.{sliceReduce}
+use Rattle.intervals.proofs.Reductions.{reduce-yes}
+use Rattle.reduce.proofs.Intervals.{reductions-written, reductions-refused}
 use borrow.Author.Needs.{needs}
-use Rattle.reduce.proofs.slice_reduce.Statement.{statement}
-use Rattle.reduce.proofs.slice_reduce.Tie as tie
+use Rattle.intervals.proofs.slice_reduce.Statement.{statement}
+use Rattle.intervals.proofs.slice_reduce.Tie as tie
 
 slice-reduce-asks-requires : tie.Need-slice-reduce-asks-requires
 slice-reduce-asks-requires c κs = search needs

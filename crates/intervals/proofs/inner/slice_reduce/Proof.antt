@@ -8,10 +8,11 @@ use mir.Syntax.{w64}
 use mir.Val.{toZ, ofZ}
 use Rattle.num.proofs.Bits.{back}
 use Rattle.column.specs.Runs.{runsOf}
-use Rattle.reduce.proofs.Intervals.{reductions, Filling, filling-start, filling-next, filling-end, length-reductions, interval-reduced}
+use Rattle.intervals.proofs.Reductions.{reductions, length-reductions, interval-reduced}
+use Rattle.reduce.proofs.Intervals.{Filling, filling-start, filling-next, filling-end}
 use borrow.Author.Needs.{needs}
-use Rattle.reduce.proofs.inner.slice_reduce.Statement.{statement}
-use Rattle.reduce.proofs.inner.slice_reduce.Tie as tie
+use Rattle.intervals.proofs.inner.slice_reduce.Statement.{statement}
+use Rattle.intervals.proofs.inner.slice_reduce.Tie as tie
 
 abbrev Inv-loop : tie.InvT-loop
 Inv-loop ends values starts stops code ddof out-kinds₀ out-bits₀ i₀ out-kinds out-bits i =

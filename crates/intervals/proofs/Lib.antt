@@ -1,0 +1,4 @@
+pub mod Asks
+pub mod Examples
+pub mod Items
+pub mod Reductions
