@@ -24,7 +24,10 @@
  * and has written nothing. runlength_text.h writes a refusal as text.
  *
  * Threads: the library keeps nothing between calls, allocates nothing and has no variables of its own, so calls may run at once on
- * any threads, under the rules for buffers above. */
+ * any threads, under the rules for buffers above. A call takes less than 64 KiB of stack. Of other libraries it needs memcpy and
+ * memset alone.
+ *
+ * The sections below have the names of the Rust's files. */
 #ifndef RUNLENGTH_H
 #define RUNLENGTH_H
 
@@ -68,9 +71,10 @@ enum rl_what {
     RL_WHAT_STARTS_ENDS = 8
 };
 
-/* Index, in 4, counts within its sequence; of two sequences or batches it is not said which one it is. Which, in 12, counts the
- * buffers that the call may write, from 0 in argument order. 4 in calls on a batch or on sequences laid flat carries the position
- * of the key or the sequence, 10 in calls on batches that of the key in the result; no other refusal carries one. */
+/* Index, in 4, is the lowest one of an end that is not above the one before (of the first: not above 0), counted within its
+ * sequence; of two sequences or batches it is not said which one it is in. Which, in 12, counts the buffers that the call may
+ * write, from 0 in argument order. 4 carries the position of the key or the sequence in calls on a batch or on sequences laid
+ * flat, 10 that of the key in the result in calls on batches; no other refusal carries a position. */
 typedef struct {
     uint64_t number;               /* an rl_number; 0 with an answer */
     uint64_t first, second, third; /* 0 where the refusal has fewer values */
@@ -187,12 +191,12 @@ rl_rle rl_empty(void);
 rl_counted rl_from_runs(const int64_t *runs, size_t runs_len, const int64_t *values, size_t values_len, int64_t *out_ends,
                         size_t out_ends_len, int64_t *out_values, size_t out_values_len);
 
-/* Whether ends and values are a sequence. Writes nothing.
- * Refuses: 2 (what 3); 4: the lowest index of an end that is not above the one before (of the first: not above 0). */
+/* Whether ends and values are a sequence: the number is 0 where they are. Writes nothing.
+ * Refuses: 2 (what 3); 4. */
 rl_refusal rl_from_ends(const int64_t *ends, size_t ends_len, const int64_t *values, size_t values_len);
 
 /* The sequence of `length` positions that show `value`: one run, or none for length 0. The count is the number of its runs.
- * Refuses: 6 (index 0) where the length is negative; 12: each output needs 1 entry, also for length 0. */
+ * Refuses: 6 (index 0, and the length) where the length is negative; 12: each output needs 1 entry, also for length 0. */
 rl_counted rl_repeat(int64_t value, int64_t length, int64_t *out_ends, size_t out_ends_len, int64_t *out_values,
                      size_t out_values_len);
 
@@ -274,8 +278,8 @@ rl_counted rl_zip_with_raw(const int64_t *a_ends, size_t a_ends_len, const int64
  * Segment t has entry t of out_ends and, for each c, entry t * k + c of out_idx: the index of sequence c's run; a sequence that has
  * ended keeps its number of runs as index. Of the values only their number matters.
  * Refuses: 2 (what 3); 3 where there are no offsets, or they do not start at 0, fall, or do not finish at ends_len; 4 of the
- * first sequence with such ends, with its position; 5 where k is above RL_MAX_COLUMNS; 12: out_ends needs ends_len entries,
- * out_idx needs ends_len * k (at most 2^64 - 1 is shown). */
+ * first sequence whose ends are not valid, with its position; 5 where k is above RL_MAX_COLUMNS; 12: out_ends needs ends_len
+ * entries, out_idx ends_len * k (at most 2^64 - 1 is shown). */
 rl_planned_many rl_plan_many(const size_t *offsets, size_t offsets_len, const int64_t *ends, size_t ends_len, const int64_t *values,
                              size_t values_len, int64_t *out_ends, size_t out_ends_len, size_t *out_idx, size_t out_idx_len);
 
@@ -306,7 +310,8 @@ rl_counted rl_slice(const int64_t *ends, size_t ends_len, const int64_t *values,
  * Refuses: 2 (what 3); 4. */
 rl_viewed rl_slice_view(const int64_t *ends, size_t ends_len, const int64_t *values, size_t values_len, int64_t start, int64_t end);
 
-/* The part of `values` that a view has: one for each run that it touches, none where rl_slice_view refuses. Writes nothing. */
+/* The part of `values` that a view has: one for each run that it touches, none where rl_slice_view refuses. Writes nothing, and
+ * refuses nothing. */
 rl_part rl_slice_view_values(const int64_t *ends, size_t ends_len, const int64_t *values, size_t values_len, int64_t start,
                              int64_t end);
 
@@ -414,17 +419,17 @@ rl_counted rl_slice_reduce(const int64_t *ends, size_t ends_len, const int64_t *
                            uint8_t *out_kinds, size_t out_kinds_len, uint64_t *out_bits, size_t out_bits_len);
 
 /* batch.rs. A batch is a list of keys and a sequence for each: key k has the entries of ends and values from offsets[k] up to
- * offsets[k + 1], not included. What a key's sequence is, is looked up at the lowest position of the key. Only rl_batch_from_parts
- * refuses a key that is given twice.
+ * offsets[k + 1], not included. Only rl_batch_from_parts refuses a key that is given twice; where a call looks a key up, it takes
+ * the lowest position.
  *
  * "The batch" below stands for these questions, asked of all keys: 2 (what 2, then 3); 3 where the offsets do not start at 0, fall,
- * or do not finish at ends_len; 4 of the first key with such ends, with its position. Of two batches each of these, and each what,
- * is asked of a and then of b.
+ * or do not finish at ends_len; 4 of the first key whose ends are not valid, with its position. Of two batches each of these, and
+ * each what, is asked of a and then of b.
  *
  * A batch that is answered has as many entries in out_keys as it has keys, one more in out_offsets, the first of which is 0, and as
  * many in out_ends and in out_values as it has runs. */
 
-/* Whether four lists are a batch of different keys. Writes nothing.
+/* Whether four lists are a batch of different keys: the number is 0 where they are. Writes nothing.
  * Refuses: the batch; 8: the lowest position of a key that stands before as well. */
 rl_refusal rl_batch_from_parts(const uint32_t *keys, size_t keys_len, const size_t *offsets, size_t offsets_len,
                                const int64_t *ends, size_t ends_len, const int64_t *values, size_t values_len);
@@ -488,8 +493,8 @@ rl_batched rl_batch_map_rles_slice(const uint32_t *keys, size_t keys_len, const 
  * With an answer the first 2 * ends_len entries of each scratch buffer may hold anything; later ones keep what they held.
  * Refuses: 1 where the code is above 9; the batch, what 4 being asked behind its what 3; 10 (the length so far, and that of the
  * sequence to be taken) where they differ and there is no fill, of the first such new key, with its position in the result; 12:
- * out_keys needs keys_len entries, out_offsets keys_len + 1, out_ends and out_values ends_len, scratch_ends and scratch_values 2
- * * ends_len. */
+ * out_keys needs keys_len entries, out_offsets keys_len + 1, out_ends and out_values ends_len, scratch_ends and scratch_values
+ * 2 * ends_len. */
 rl_batched rl_batch_collapse(const uint32_t *keys, size_t keys_len, const size_t *offsets, size_t offsets_len, const int64_t *ends,
                              size_t ends_len, const int64_t *values, size_t values_len, const uint32_t *new_keys,
                              size_t new_keys_len, rl_fill fill, uint8_t code, uint32_t *out_keys, size_t out_keys_len,
@@ -508,7 +513,7 @@ rl_batched rl_batch_concat(const uint32_t *a_keys, size_t a_keys_len, const size
                            uint32_t *out_keys, size_t out_keys_len, size_t *out_offsets, size_t out_offsets_len, int64_t *out_ends,
                            size_t out_ends_len, int64_t *out_values, size_t out_values_len);
 
-/* The keys of the result, in their order. */
+/* The keys of the result, in their order; one that is given twice stands there twice. */
 enum rl_how {
     RL_OUTER = 0, /* the keys of a, then those of b that a has not */
     RL_INNER = 1, /* the keys of a that b has as well */
@@ -516,12 +521,13 @@ enum rl_how {
     RL_RIGHT = 3  /* the keys of a that b has as well, then those of b that a has not */
 };
 
-/* Joins two batches, by `how` (an rl_how) and the operation code.
- * Each key has what rl_zip_with makes of a's sequence of the key and b's; that of a batch without the key is empty.
+/* Joins two batches, by `how` (an rl_how) and the operation code. A key of a has what rl_zip_with makes of its sequence and of the
+ * one that b has at the lowest position of the key, a key of b that a has not what it makes of no runs and its sequence; a batch
+ * without the key has no runs.
  * Refuses: 1 where `how` is above 3, then where the code is above 9; the batches; 10 as rl_zip_with, of the first such key, with
  * its position in the result; 12: out_keys needs a_keys_len + b_keys_len entries, out_offsets one more, both for every `how`;
- * out_ends and out_values need as many as the sequences of both sides have runs, summed over the keys of the result (at most 2^64
- * - 1 is shown). */
+ * out_ends and out_values need as many as the sequences of both sides have runs, summed over the keys of the result (at most
+ * 2^64 - 1 is shown). */
 rl_batched rl_batch_zip_with(const uint32_t *a_keys, size_t a_keys_len, const size_t *a_offsets, size_t a_offsets_len,
                              const int64_t *a_ends, size_t a_ends_len, const int64_t *a_values, size_t a_values_len,
                              const uint32_t *b_keys, size_t b_keys_len, const size_t *b_offsets, size_t b_offsets_len,
