@@ -1,5 +1,5 @@
 /* A job of 40,000 labels with three columns: built from runs, combined, looked at around a seam, and joined by key.
- * The same source is C11 and C++17. */
+ * The same source is C11 and C++17; make -C examples/c run builds and runs it. */
 #include "runlength.h"
 #include "runlength_sizes.h"
 #include "runlength_text.h"
