@@ -1,51 +1,85 @@
-/* Columns of runs over label positions: the calls of librunlength.a (x86-64).
+/* Columns of runs over label positions: the calls of librunlength.a (x86-64, the System V calling convention).
  *
  * A sequence is a list of ends and an equally long list of values. Its ends are valid when the first is above 0 and each is above
  * the one before. Run r covers positions from the end before it (0 for the first) up to its own end, not included; the length is
- * the last end, or 0.
+ * the last end, or 0. It is merged when neighbouring values differ.
  *
- * A list or a buffer is passed as a pointer to its first entry and a number of entries, fewer than 2^60; the pointer is aligned
- * and not null, even with no entries. A buffer that a call may write overlaps nothing else that the call is handed.
+ * What every call needs
+ * - A list or a buffer is a pointer to its first entry and a number of entries, fewer than 2^60. The pointer is aligned and not
+ *   null, even with no entries: where malloc or std::vector::data may give null, pass the address of any entry of that type.
+ * - A buffer that a call may write overlaps nothing else that the call is handed, and all its entries may be written. Lists that
+ *   are only read may overlap each other. During the call no other thread writes to a list or touches a buffer.
+ * - rl_reduce, rl_slice_reduce and rl_batch_slice_reduce: the floating-point environment that a program starts with (rounding to
+ *   nearest, subnormal numbers kept, no traps).
+ * Nothing else is needed: whatever the lists and the other arguments hold, a call ends, with an answer or a refusal.
  *
- * Every call takes all inputs and ends. It answers, or it gives one refusal:
+ * What every call answers: an answer, or one refusal
  * - With an answer all of the refusal is 0. The first `count` entries of each output buffer are filled (as many as stand beside a
  *   call with other counts), later ones keep what they held.
  * - With a refusal the count is 0 and nothing has been written.
- * A call puts its questions in the order that stands beside it; the first "no" is its refusal. */
+ * A call puts its questions in the order that stands beside it, as "Refuses"; the first "no" is its refusal.
+ *
+ * How many entries a buffer needs stands beside a call at 12. For every call rl_NAME with buffers, runlength_sizes.h has
+ * rl_NAME_size, which answers that number. A call tells it as well: with a buffer that is too short it gives 12, with the number,
+ * and has written nothing. runlength_text.h writes a refusal as text.
+ *
+ * Threads: the library keeps nothing between calls, allocates nothing and has no variables of its own, so calls may run at once on
+ * any threads, under the rules for buffers above. A call takes less than 64 KiB of stack. Of other libraries it needs memcpy and
+ * memset alone.
+ *
+ * The sections below have the names of the Rust's files. */
 #ifndef RUNLENGTH_H
 #define RUNLENGTH_H
 
 #include <stddef.h>
 #include <stdint.h>
 
+#if SIZE_MAX != UINT64_MAX
+#error "librunlength.a is for x86-64 with a size_t of 64 bits"
+#endif
+
 #ifdef __cplusplus
 extern "C" {
 #endif
 
-/* The refusals. A value marked * is an int64_t, given as its two's complement bits; the others are unsigned.
- *
- *   number                first        second       third
- *    1  UnknownCode       code
- *    2  LengthMismatch    what         left         right
- *    3  InvalidOffsets
- *    4  InvalidEnds       index
- *    5  TooMany           number
- *    6  NegativeRun       index        run *
- *    7  Overflow
- *    8  DuplicateKey      position
- *    9  InvalidInterval   index        start *      end *
- *   10  UnequalLength     left *       right *
- *   11  LengthTooShort    requested *  required *
- *   12  ShortBuffer       which        needed       given
- *
- * What, in 2, says which lengths disagree: 1 runs, values; 2 offsets, keys + 1; 3 ends, values; 4 new keys, keys; 5 used count,
- * shorter buffer (refused only where the count is larger); 6 mask, runs - 1; 7 keys, starts; 8 starts, ends.
- * Which, in 12, counts the buffers that the call may write, from 0 in argument order. */
+/* The refusals, and their values. A value marked * is an int64_t, given as its two's complement bits; the others are unsigned. */
+enum rl_number {                /* first        second       third   */
+    RL_ANSWERED = 0,            /*                                   */
+    RL_UNKNOWN_CODE = 1,        /* code                              */
+    RL_LENGTH_MISMATCH = 2,     /* what         left         right   */
+    RL_INVALID_OFFSETS = 3,     /*                                   */
+    RL_INVALID_ENDS = 4,        /* index                             */
+    RL_TOO_MANY = 5,            /* number                            */
+    RL_NEGATIVE_RUN = 6,        /* index        run *                */
+    RL_OVERFLOW = 7,            /*                                   */
+    RL_DUPLICATE_KEY = 8,       /* position                          */
+    RL_INVALID_INTERVAL = 9,    /* index        start *      end *   */
+    RL_UNEQUAL_LENGTH = 10,     /* left *       right *              */
+    RL_LENGTH_TOO_SHORT = 11,   /* requested *  required *           */
+    RL_SHORT_BUFFER = 12        /* which        needed       given   */
+};
+
+/* What, in 2: the lengths that disagree, left and right. */
+enum rl_what {
+    RL_WHAT_RUNS_VALUES = 1,
+    RL_WHAT_OFFSETS_KEYS = 2, /* offsets, keys + 1 */
+    RL_WHAT_ENDS_VALUES = 3,
+    RL_WHAT_NEW_KEYS_KEYS = 4,
+    RL_WHAT_USED_BUFFER = 5, /* used count, shorter buffer: refused only where the count is larger */
+    RL_WHAT_MASK_RUNS = 6,   /* mask, runs - 1 (0 for no runs) */
+    RL_WHAT_KEYS_STARTS = 7,
+    RL_WHAT_STARTS_ENDS = 8
+};
+
+/* Index, in 4, is the lowest one of an end that is not above the one before (of the first: not above 0), counted within its
+ * sequence; of two sequences or batches it is not said which one it is in. Which, in 12, counts the buffers that the call may
+ * write, from 0 in argument order. 4 carries the position of the key or the sequence in calls on a batch or on sequences laid
+ * flat, 10 that of the key in the result in calls on batches; no other refusal carries a position. */
 typedef struct {
-    uint64_t number;               /* 0 with an answer */
+    uint64_t number;               /* an rl_number; 0 with an answer */
     uint64_t first, second, third; /* 0 where the refusal has fewer values */
-    uint64_t in_key;               /* 1 where the refusal carries the position of a key or a sequence */
-    uint64_t position;             /* that position */
+    uint64_t in_key;               /* 1 where the refusal carries the position of a key or a sequence, else 0 */
+    uint64_t position;             /* that position, or 0 */
 } rl_refusal;
 
 typedef struct {
@@ -105,20 +139,39 @@ typedef struct {
     int64_t total; /* 0 with a refusal */
 } rl_summed;
 
-/* What a reduction comes to. What its kind does not have is 0, and all is 0 with a refusal. */
+/* What a reduction comes to. */
+enum rl_kind { RL_NOTHING = 0, RL_WHOLE = 1, RL_FRACTION = 2 };
+
+/* What its kind does not have is 0, and all is 0 with a refusal. */
 typedef struct {
     rl_refusal refusal;
-    uint64_t kind;   /* 0 Nothing, 1 Whole, 2 Fraction */
-    int64_t whole;   /* of Whole: the sum */
-    double mean;     /* of Fraction: the mean, of a variance the one that it was taken around */
-    double variance; /* of Fraction: the variance, or the mean once more */
+    uint64_t kind;   /* an rl_kind */
+    int64_t whole;   /* of RL_WHOLE: the sum */
+    double mean;     /* of RL_FRACTION: the mean, of a variance the one that it was taken around */
+    double variance; /* of RL_FRACTION: the variance, or the mean once more */
 } rl_reduced;
 
 /* The value that stands where a column has ended. */
 typedef struct {
-    uint64_t given; /* 0: no fill, whatever the value is */
+    uint64_t given; /* 0: no fill, whatever the value is; any other number: the value */
     int64_t value;
 } rl_fill;
+
+static inline rl_fill rl_fill_value(int64_t value)
+{
+    rl_fill fill;
+    fill.given = 1;
+    fill.value = value;
+    return fill;
+}
+
+static inline rl_fill rl_fill_missing(void)
+{
+    rl_fill fill;
+    fill.given = 0;
+    fill.value = 0;
+    return fill;
+}
 
 /* rle.rs */
 
@@ -138,12 +191,12 @@ rl_rle rl_empty(void);
 rl_counted rl_from_runs(const int64_t *runs, size_t runs_len, const int64_t *values, size_t values_len, int64_t *out_ends,
                         size_t out_ends_len, int64_t *out_values, size_t out_values_len);
 
-/* Whether ends and values are a sequence. Writes nothing.
- * Refuses: 2 (what 3); 4: the lowest index of an end that is not above the one before (of the first: not above 0). */
+/* Whether ends and values are a sequence: the number is 0 where they are. Writes nothing.
+ * Refuses: 2 (what 3); 4. */
 rl_refusal rl_from_ends(const int64_t *ends, size_t ends_len, const int64_t *values, size_t values_len);
 
 /* The sequence of `length` positions that show `value`: one run, or none for length 0. The count is the number of its runs.
- * Refuses: 6 (index 0) where the length is negative; 12: each output needs 1 entry, also for length 0. */
+ * Refuses: 6 (index 0, and the length) where the length is negative; 12: each output needs 1 entry, also for length 0. */
 rl_counted rl_repeat(int64_t value, int64_t length, int64_t *out_ends, size_t out_ends_len, int64_t *out_values,
                      size_t out_values_len);
 
@@ -188,24 +241,24 @@ rl_counted rl_plan(const int64_t *a, size_t a_len, const int64_t *b, size_t b_le
 
 /* ops.rs */
 
-/* The operations. Their first value is x, their second y.
- *
- *   code
- *   0  add        x + y, modulo 2^64, read as signed
- *   1  subtract   x - y, modulo 2^64, read as signed
- *   2  multiply   x * y, modulo 2^64, read as signed
- *   3  smaller    of x and y
- *   4  larger     of x and y
- *   5  first      x
- *   6  second     y
- *   7  equal      1 where x is y, else 0
- *   8  less       1 where x is below y, else 0
- *   9  midpoint   the exact sum of x and y, halved toward zero */
+/* The operation codes. The first value is x, the second y. */
+enum rl_operation {
+    RL_ADD = 0,      /* x + y, modulo 2^64, read as signed */
+    RL_SUBTRACT = 1, /* x - y, modulo 2^64, read as signed */
+    RL_MULTIPLY = 2, /* x * y, modulo 2^64, read as signed */
+    RL_SMALLER = 3,  /* the smaller of x and y */
+    RL_LARGER = 4,   /* the larger of x and y */
+    RL_FIRST = 5,    /* x */
+    RL_SECOND = 6,   /* y */
+    RL_EQUAL = 7,    /* 1 where x is y, else 0 */
+    RL_LESS = 8,     /* 1 where x is below y, else 0 */
+    RL_MIDPOINT = 9  /* the exact sum of x and y, halved toward zero */
+};
 
 /* The merged sequence that shows, at each position up to the longer length, the operation of a's value and b's. The fill of a side
- * stands where that side has ended. The count is the number of its runs.
- * Refuses: 1; 2 (what 3) of a, then of b; 4 of a, then of b; 10 (the lengths of a and b) where the shorter side has no fill; 12:
- * each output needs a_ends_len + b_ends_len entries. */
+ * stands where that side has ended; sides of equal length need none. The count is the number of its runs.
+ * Refuses: 1 where the code is above 9; 2 (what 3) of a, then of b; 4 of a, then of b; 10 (the lengths of a and b) where the
+ * shorter side has no fill; 12: each output needs a_ends_len + b_ends_len entries. */
 rl_counted rl_zip_with(const int64_t *a_ends, size_t a_ends_len, const int64_t *a_values, size_t a_values_len,
                        const int64_t *b_ends, size_t b_ends_len, const int64_t *b_values, size_t b_values_len, rl_fill fill_a,
                        rl_fill fill_b, uint8_t code, int64_t *out_ends, size_t out_ends_len, int64_t *out_values,
@@ -224,17 +277,17 @@ rl_counted rl_zip_with_raw(const int64_t *a_ends, size_t a_ends_len, const int64
 /* The segments of all sequences. A segment ends at the least of the current ends; each sequence whose end that is steps on.
  * Segment t has entry t of out_ends and, for each c, entry t * k + c of out_idx: the index of sequence c's run; a sequence that has
  * ended keeps its number of runs as index. Of the values only their number matters.
- * Refuses: 2 (what 3); 3 where there are no offsets, or they do not start at 0, fall, or do not finish at ends_len; 4 of the first
- * sequence with such ends, with its position; 5 where k is above RL_MAX_COLUMNS; 12: out_ends needs ends_len entries, out_idx needs
- * ends_len * k (at most 2^64 - 1 is shown). */
+ * Refuses: 2 (what 3); 3 where there are no offsets, or they do not start at 0, fall, or do not finish at ends_len; 4 of the
+ * first sequence whose ends are not valid, with its position; 5 where k is above RL_MAX_COLUMNS; 12: out_ends needs ends_len
+ * entries, out_idx ends_len * k (at most 2^64 - 1 is shown). */
 rl_planned_many rl_plan_many(const size_t *offsets, size_t offsets_len, const int64_t *ends, size_t ends_len, const int64_t *values,
                              size_t values_len, int64_t *out_ends, size_t out_ends_len, size_t *out_idx, size_t out_idx_len);
 
 /* The merged sequence that shows, at each position up to the greatest length, the operation from the first value on:
  * op(op(v0, v1), v2). The fill stands where a sequence has ended. One sequence shows its own values, none gives no runs. The count
  * is the number of runs.
- * Refuses: 1; 2 (what 3), 3, 4 and 5 as rl_plan_many; 10 (the least and the greatest length) where they differ and there is no
- * fill; 12: each output needs ends_len entries. */
+ * Refuses: 1 where the code is above 9; 2 (what 3), 3, 4 and 5 as rl_plan_many; 10 (the least and the greatest length) where they
+ * differ and there is no fill; 12: each output needs ends_len entries. */
 rl_counted rl_zip_many(const size_t *offsets, size_t offsets_len, const int64_t *ends, size_t ends_len, const int64_t *values,
                        size_t values_len, rl_fill fill, uint8_t code, int64_t *out_ends, size_t out_ends_len, int64_t *out_values,
                        size_t out_values_len);
@@ -257,7 +310,8 @@ rl_counted rl_slice(const int64_t *ends, size_t ends_len, const int64_t *values,
  * Refuses: 2 (what 3); 4. */
 rl_viewed rl_slice_view(const int64_t *ends, size_t ends_len, const int64_t *values, size_t values_len, int64_t start, int64_t end);
 
-/* The part of `values` that a view has: one for each run that it touches, none where rl_slice_view refuses. Writes nothing. */
+/* The part of `values` that a view has: one for each run that it touches, none where rl_slice_view refuses. Writes nothing, and
+ * refuses nothing. */
 rl_part rl_slice_view_values(const int64_t *ends, size_t ends_len, const int64_t *values, size_t values_len, int64_t start,
                              int64_t end);
 
@@ -289,8 +343,8 @@ rl_counted rl_shift(const int64_t *ends, size_t ends_len, const int64_t *values,
 rl_counted rl_reversed(const int64_t *ends, size_t ends_len, const int64_t *values, size_t values_len, int64_t *out_ends,
                        size_t out_ends_len, int64_t *out_values, size_t out_values_len);
 
-/* The ranges of positions whose value is equal to `number` (code 7) or less than it (code 8): where each starts and where it ends,
- * not included. Ranges that touch are one. The count is the number of ranges.
+/* The ranges of positions whose value is equal to `number` (RL_EQUAL) or less than it (RL_LESS): where each starts and where it
+ * ends, not included. Ranges that touch are one. The count is the number of ranges.
  * Refuses: 1 where the code is not 7 or 8; 2 (what 3); 4; 12: each output needs ends_len entries. */
 rl_counted rl_ranges_where(const int64_t *ends, size_t ends_len, const int64_t *values, size_t values_len, uint8_t code,
                            int64_t number, int64_t *out_starts, size_t out_starts_len, int64_t *out_ends, size_t out_ends_len);
@@ -306,16 +360,19 @@ rl_counted rl_merge(const int64_t *ends, size_t ends_len, const int64_t *values,
 rl_counted rl_merged(const int64_t *ends, size_t ends_len, const int64_t *values, size_t values_len, int64_t *out_ends,
                      size_t out_ends_len, int64_t *out_values, size_t out_values_len);
 
-/* Run r + 1 is in the group of run r where mask[r] is 1. A group has the value of its first run (keep 0) or of its last (keep 1);
- * equal neighbours are not merged. The count is the number of groups.
+/* The value that a group of runs keeps. */
+enum rl_keep { RL_KEEP_FIRST = 0, RL_KEEP_LAST = 1 };
+
+/* Run r + 1 is in the group of run r where mask[r] is 1. A group has the value of its first run (RL_KEEP_FIRST) or of its last
+ * (RL_KEEP_LAST); equal neighbours are not merged. The count is the number of groups.
  * Refuses: 1 where keep is not 0 or 1, then of the first mask byte that is not; 2 (what 3, then 6); 4; 12: each output needs
  * ends_len entries. */
 rl_counted rl_merge_mask(const int64_t *ends, size_t ends_len, const int64_t *values, size_t values_len, const uint8_t *mask,
                          size_t mask_len, uint8_t keep, int64_t *out_ends, size_t out_ends_len, int64_t *out_values,
                          size_t out_values_len);
 
-/* Run r + 1 is in the group of run r where values[r] is equal to values[r + 1] (code 7) or less than it (code 8). A group has the
- * value of its first run. The count is the number of groups.
+/* Run r + 1 is in the group of run r where values[r] is equal to values[r + 1] (RL_EQUAL) or less than it (RL_LESS), both as they
+ * were handed in. A group has the value of its first run. The count is the number of groups.
  * Refuses: 1 where the code is not 7 or 8; 2 (what 3); 4; 12: each output needs ends_len entries. */
 rl_counted rl_merge_by(const int64_t *ends, size_t ends_len, const int64_t *values, size_t values_len, uint8_t code,
                        int64_t *out_ends, size_t out_ends_len, int64_t *out_values, size_t out_values_len);
@@ -338,42 +395,41 @@ rl_counted rl_group_ids(const size_t *offsets, size_t offsets_len, size_t *out_i
  * Refuses: 2 (what 3); 4. */
 rl_summed rl_sum(const int64_t *ends, size_t ends_len, const int64_t *values, size_t values_len);
 
-/* The reductions. In a mean and a variance each int64_t is first converted to the nearest double, ties to even, and each operation
- * is rounded once (IEEE 754), run after run from +0. No answer is a NaN or an infinity.
- *
- *   code
- *   0  sum        Whole: as rl_sum
- *   1  mean       Fraction: the sum of run * value, divided by the length; Nothing at length 0
- *   2  variance   Fraction: with d = value - mean the sum of d * d * run, divided by length - ddof; Nothing unless the length is
- *                 above 0 and length - ddof, taken exactly, is from 1 to 2^63 - 1
- *
- * ddof is read for code 2 alone. */
+/* The reduction codes. In a mean and a variance each int64_t is first converted to the nearest double, ties to even, and each
+ * operation is rounded once (IEEE 754), run after run from +0. No answer is a NaN or an infinity. ddof is read for RL_VARIANCE
+ * alone. */
+enum rl_reduction {
+    RL_SUM = 0,     /* RL_WHOLE: as rl_sum */
+    RL_MEAN = 1,    /* RL_FRACTION: the sum of run * value, divided by the length; RL_NOTHING at length 0 */
+    RL_VARIANCE = 2 /* RL_FRACTION: with d = value - mean the sum of d * d * run, divided by length - ddof; RL_NOTHING unless the
+                     * length is above 0 and length - ddof, taken exactly, is from 1 to 2^63 - 1 */
+};
 
 /* A reduction of the whole sequence. Writes nothing.
  * Refuses: 1 where the code is not 0, 1 or 2; 2 (what 3); 4. */
 rl_reduced rl_reduce(const int64_t *ends, size_t ends_len, const int64_t *values, size_t values_len, uint8_t code, int64_t ddof);
 
-/* The reductions of the slices from starts[k] up to stops[k], each as rl_reduce would answer for the slice: its kind, and 64 bits,
- * which are 0 for Nothing, the whole number's, or the double's, of a variance without its mean. The count is the number of
- * intervals.
- * Refuses: 1 as rl_reduce; 2 (what 3, then 8); 4; 9: the lowest index of an interval that is not 0 <= start <= end; 12: each output
- * needs starts_len entries. */
+/* The reductions of the slices from starts[k] up to stops[k], each as rl_reduce would answer for the slice: its rl_kind, and 64
+ * bits, which are 0 for RL_NOTHING, the int64_t of RL_WHOLE, or the double of RL_FRACTION, of a variance without its mean. The
+ * count is the number of intervals.
+ * Refuses: 1 as rl_reduce; 2 (what 3, then 8); 4; 9: the lowest index of an interval that is not 0 <= start <= end; 12: each
+ * output needs starts_len entries. */
 rl_counted rl_slice_reduce(const int64_t *ends, size_t ends_len, const int64_t *values, size_t values_len, const int64_t *starts,
                            size_t starts_len, const int64_t *stops, size_t stops_len, uint8_t code, int64_t ddof,
                            uint8_t *out_kinds, size_t out_kinds_len, uint64_t *out_bits, size_t out_bits_len);
 
 /* batch.rs. A batch is a list of keys and a sequence for each: key k has the entries of ends and values from offsets[k] up to
- * offsets[k + 1], not included. What a key's sequence is, is looked up at the lowest position of the key. Only rl_batch_from_parts
- * refuses a key that is given twice.
+ * offsets[k + 1], not included. Only rl_batch_from_parts refuses a key that is given twice; where a call looks a key up, it takes
+ * the lowest position.
  *
  * "The batch" below stands for these questions, asked of all keys: 2 (what 2, then 3); 3 where the offsets do not start at 0, fall,
- * or do not finish at ends_len; 4 of the first key with such ends, with its position. Of two batches each of these, and each what,
- * is asked of a and then of b.
+ * or do not finish at ends_len; 4 of the first key whose ends are not valid, with its position. Of two batches each of these, and
+ * each what, is asked of a and then of b.
  *
  * A batch that is answered has as many entries in out_keys as it has keys, one more in out_offsets, the first of which is 0, and as
  * many in out_ends and in out_values as it has runs. */
 
-/* Whether four lists are a batch of different keys. Writes nothing.
+/* Whether four lists are a batch of different keys: the number is 0 where they are. Writes nothing.
  * Refuses: the batch; 8: the lowest position of a key that stands before as well. */
 rl_refusal rl_batch_from_parts(const uint32_t *keys, size_t keys_len, const size_t *offsets, size_t offsets_len,
                                const int64_t *ends, size_t ends_len, const int64_t *values, size_t values_len);
@@ -435,9 +491,10 @@ rl_batched rl_batch_map_rles_slice(const uint32_t *keys, size_t keys_len, const 
  * stands where it first appears. Its sequence starts as that of its first key, merged, and takes each further one in order by
  * rl_zip_with, the fill serving both sides.
  * With an answer the first 2 * ends_len entries of each scratch buffer may hold anything; later ones keep what they held.
- * Refuses: 1; the batch, what 4 being asked behind its what 3; 10 (the length so far, and that of the sequence to be taken) where
- * they differ and there is no fill, of the first such new key, with its position in the result; 12: out_keys needs keys_len
- * entries, out_offsets keys_len + 1, out_ends and out_values ends_len, scratch_ends and scratch_values 2 * ends_len. */
+ * Refuses: 1 where the code is above 9; the batch, what 4 being asked behind its what 3; 10 (the length so far, and that of the
+ * sequence to be taken) where they differ and there is no fill, of the first such new key, with its position in the result; 12:
+ * out_keys needs keys_len entries, out_offsets keys_len + 1, out_ends and out_values ends_len, scratch_ends and scratch_values
+ * 2 * ends_len. */
 rl_batched rl_batch_collapse(const uint32_t *keys, size_t keys_len, const size_t *offsets, size_t offsets_len, const int64_t *ends,
                              size_t ends_len, const int64_t *values, size_t values_len, const uint32_t *new_keys,
                              size_t new_keys_len, rl_fill fill, uint8_t code, uint32_t *out_keys, size_t out_keys_len,
@@ -456,18 +513,21 @@ rl_batched rl_batch_concat(const uint32_t *a_keys, size_t a_keys_len, const size
                            uint32_t *out_keys, size_t out_keys_len, size_t *out_offsets, size_t out_offsets_len, int64_t *out_ends,
                            size_t out_ends_len, int64_t *out_values, size_t out_values_len);
 
-/* Joins two batches, by `how`:
- *
- *   how
- *   0  outer   the keys of a, then those of b that a has not
- *   1  inner   the keys of a that b has as well
- *   2  left    the keys of a
- *   3  right   the keys of a that b has as well, then those of b that a has not
- *
- * Each has what rl_zip_with makes of a's sequence of the key and b's; that of a batch without the key is empty.
- * Refuses: 1 of `how`, then of the code; the batches; 10 as rl_zip_with, of the first such key, with its position in the result;
- * 12: out_keys needs a_keys_len + b_keys_len entries, out_offsets one more, both for every `how`; out_ends and out_values need as
- * many as the sequences of both sides have runs, summed over the keys of the result (at most 2^64 - 1 is shown). */
+/* The keys of the result, in their order; one that is given twice stands there twice. */
+enum rl_how {
+    RL_OUTER = 0, /* the keys of a, then those of b that a has not */
+    RL_INNER = 1, /* the keys of a that b has as well */
+    RL_LEFT = 2,  /* the keys of a */
+    RL_RIGHT = 3  /* the keys of a that b has as well, then those of b that a has not */
+};
+
+/* Joins two batches, by `how` (an rl_how) and the operation code. A key of a has what rl_zip_with makes of its sequence and of the
+ * one that b has at the lowest position of the key, a key of b that a has not what it makes of no runs and its sequence; a batch
+ * without the key has no runs.
+ * Refuses: 1 where `how` is above 3, then where the code is above 9; the batches; 10 as rl_zip_with, of the first such key, with
+ * its position in the result; 12: out_keys needs a_keys_len + b_keys_len entries, out_offsets one more, both for every `how`;
+ * out_ends and out_values need as many as the sequences of both sides have runs, summed over the keys of the result (at most
+ * 2^64 - 1 is shown). */
 rl_batched rl_batch_zip_with(const uint32_t *a_keys, size_t a_keys_len, const size_t *a_offsets, size_t a_offsets_len,
                              const int64_t *a_ends, size_t a_ends_len, const int64_t *a_values, size_t a_values_len,
                              const uint32_t *b_keys, size_t b_keys_len, const size_t *b_offsets, size_t b_offsets_len,
