@@ -46,19 +46,13 @@ pub fn split(rng: &mut Rng, column: &Rle<i64>) -> Rle<i64> {
 }
 
 /// Starts and stops of intervals that start below `length` and are shorter than `longest`.
-pub fn intervals(
-    rng: &mut Rng,
-    count: usize,
-    length: i64,
-    longest: usize,
-) -> (Vec<i64>, Vec<i64>) {
-    (0..count)
-        .map(|_| {
-            let start = rng.below(length as usize);
-            let stop = start + rng.below(longest);
-            (start as i64, stop as i64)
-        })
-        .unzip()
+pub fn intervals(rng: &mut Rng, count: usize, length: i64, longest: usize) -> (Vec<i64>, Vec<i64>) {
+    let interval = |_| {
+        let start = rng.below(length as usize);
+        let stop = start + rng.below(longest);
+        (start as i64, stop as i64)
+    };
+    (0..count).map(interval).unzip()
 }
 
 /// Sequences laid flat.

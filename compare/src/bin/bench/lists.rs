@@ -63,8 +63,8 @@ pub struct Shown<'a> {
 }
 
 impl Shown<'_> {
-    /// How many bytes are written.
-    pub fn written(&self) -> usize {
+    /// How many bytes its lists have.
+    pub fn bytes(&self) -> usize {
         self.lists.iter().map(|list| list.len()).sum()
     }
 

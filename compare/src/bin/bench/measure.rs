@@ -8,14 +8,17 @@ use std::ffi::c_int;
 use std::hint::black_box;
 use std::time::{Duration, Instant};
 
-/// What calls that are timed at once take, about, unless what they hold together would not stay in
-/// the nearer caches.
+/// The runs that the inputs have together at least: the processor learns the branches of a short
+/// input that it meets again and again.
+const VARIED: usize = 100_000;
+
+/// What turns that are timed at once take together, unless they make more bytes than these.
 const TIMED: Duration = Duration::from_micros(200);
-const HELD: usize = 256 << 10;
+const MADE: usize = 256 << 10;
 
 /// What a round adds to the time that is taken at least, and to that after which none is begun.
 const LEAST: Duration = Duration::from_millis(10);
-const MOST: Duration = Duration::from_millis(300);
+const MOST: Duration = Duration::from_millis(200);
 
 unsafe extern "C" {
     fn mallopt(parameter: c_int, value: c_int) -> c_int;
@@ -43,84 +46,117 @@ fn set_malloc(parameter: c_int, value: c_int) {
 pub enum Sides {
     /// The library, the original on one thread, and copying.
     OneThread,
-    /// The original alone.
-    AllThreads,
+    /// The original alone, called from outside its pool.
+    DefaultThreads,
 }
 
-/// One figure of the table is to be measured.
+/// One size of a row is to be measured.
 pub struct Bench {
     pub sides: Sides,
     pub rounds: u32,
-    /// How many runs the input has.
+    /// How many runs an input has.
     pub runs: usize,
     pub rng: Rng,
     /// The times for a unit in nanoseconds, once measured.
     pub times: Vec<f64>,
 }
 
-/// How much a call does: the units that its time is divided by, and the bytes that it reads.
+/// What is timed with an input.
 pub struct Work {
+    /// How many calls.
+    pub calls: usize,
+    /// Of a call: the units that its time is divided by, and the bytes of the lists that it reads.
     pub units: usize,
     pub read: usize,
+    /// The bytes of the result that have stood in the buffers before.
+    pub kept: usize,
 }
 
 impl Bench {
+    /// The inputs that calls take in turn.
+    pub fn inputs<I>(&mut self, make: impl Fn(&mut Rng, usize) -> I) -> Vec<I> {
+        let count = VARIED.div_ceil(self.runs);
+        (0..count).map(|_| make(&mut self.rng, self.runs)).collect()
+    }
+
     /// `lend` makes the library's buffers and `given` what a call of the original consumes, both
     /// untimed.
-    pub fn measure<L: Lent, A: Into<Answer>, G, R: Show>(
+    pub fn measure<'a, I, L: Lent, A: Into<Answer>, G, R: Show>(
         &mut self,
-        work: Work,
-        lend: impl Fn() -> L,
-        library: impl Fn(&mut L) -> A,
-        given: impl Fn() -> G,
-        original: impl Fn(G) -> Result<R>,
+        inputs: &'a [I],
+        work: impl Fn(&I) -> Work,
+        lend: impl Fn(&I) -> L,
+        library: impl Fn(&I, &mut L) -> A,
+        given: impl Fn(&'a I) -> G,
+        original: impl Fn(&'a I, G) -> Result<R>,
     ) {
-        let ours = |mut lent: L| (library(&mut lent), lent);
-        let theirs = |given: G| original(given).expect("the original answers");
-        let (result, first_theirs) = timed(theirs, given());
-        let written = result.show().written();
-        let cap = |bytes: usize| (HELD / bytes.max(1)).max(1);
-        let consumed = if size_of::<G>() == 0 { 0 } else { work.read };
-        let mut theirs = Side::new(given, theirs, first_theirs, cap(consumed + written));
-        let units = work.units as f64;
-
-        if self.sides == Sides::AllThreads {
-            drop(result);
-            self.rounds(first_theirs, || theirs.time());
+        let mut theirs = Side::new(inputs, given, |input, given| {
+            original(input, given).expect("the original answers")
+        });
+        let results = theirs.first();
+        let work: Vec<Work> = inputs.iter().map(work).collect();
+        let shown = work.iter().zip(results.iter().map(Show::show));
+        let written: Vec<usize> = shown
+            .map(|(work, shown)| shown.bytes() - work.kept)
+            .collect();
+        let of_all = |of_one: fn(&Work) -> usize| work.iter().map(of_one).sum::<usize>();
+        let consumed = if size_of::<G>() == 0 {
+            0
+        } else {
+            of_all(|work| work.read)
+        };
+        let made = consumed + written.iter().sum::<usize>();
+        let most = (MADE / made.max(1)).max(1);
+        let units = of_all(|work| work.calls * work.units) as f64;
+        if self.sides == Sides::DefaultThreads {
+            drop(results);
+            self.rounds(theirs.best, || theirs.time(most));
             self.times = vec![theirs.best / units];
             return;
         }
-        let ((answer, lent_before), first_ours) = timed(ours, lend());
-        let shown = result.show().is(&answer.into(), &lent_before);
-        assert!(shown, "the results are equal");
-        let lent_bytes: usize = lent_before.lists().iter().map(|list| list.len()).sum();
-        drop((result, lent_before));
-        let mut ours = Side::new(lend, ours, first_ours, cap(lent_bytes));
 
-        let half = (work.read + written) / 2;
-        let source: Vec<u8> = lent(half);
-        let copy = |mut copied: Vec<u8>| {
-            copied.copy_from_slice(black_box(&source));
-            copied
-        };
-        let (_, first_copy) = timed(copy, lent(half));
-        let mut copy = Side::new(|| lent(half), copy, first_copy, cap(half));
-        self.rounds(first_ours + first_theirs, || {
-            ours.time();
-            theirs.time();
-            copy.time();
+        let mut ours = Side::new(inputs, lend, |input, mut lent| {
+            (library(input, &mut lent), lent)
+        });
+        for (result, (answer, lent)) in results.iter().zip(ours.first()) {
+            assert!(
+                result.show().is(&answer.into(), &lent),
+                "the results are equal"
+            );
+        }
+        drop(results);
+        let halves = work
+            .iter()
+            .zip(written)
+            .map(|(work, written)| (work.read + written) / 2);
+        let halves: Vec<usize> = halves.collect();
+        let source: Vec<u8> = lent(halves.iter().copied().max().unwrap_or(0));
+        let mut copy = Side::new(
+            &halves,
+            |&half| lent(half),
+            |&half, mut copied: Vec<u8>| {
+                copied.copy_from_slice(&black_box(&source)[..half]);
+                copied
+            },
+        );
+        copy.first();
+        self.rounds(ours.best + theirs.best, || {
+            ours.time(most);
+            theirs.time(most);
+            copy.time(most);
         });
         self.times = vec![ours.best / units, theirs.best / units];
-        if half > 0 {
-            self.times.push(copy.best / units);
+        if !source.is_empty() {
+            self.times
+                .push(copy.best / of_all(|work| work.units) as f64);
         }
     }
 
-    /// Takes rounds after what has been `taken`, unless that is too long.
-    fn rounds(&self, taken: Duration, mut round: impl FnMut()) {
+    /// Takes rounds after so many nanoseconds, unless these are too many.
+    fn rounds(&self, taken: f64, mut round: impl FnMut()) {
         let start = Instant::now();
         for number in 0.. {
-            let elapsed = taken + start.elapsed();
+            let elapsed = Duration::from_secs_f64(taken / 1e9) + start.elapsed();
             let enough = number >= self.rounds && elapsed >= LEAST * self.rounds;
             if enough || elapsed >= MOST * self.rounds {
                 return;
@@ -130,49 +166,50 @@ impl Bench {
     }
 }
 
-/// A call of one side, with what it consumes.
-struct Side<M, C> {
+/// The calls of one side, one with each input in turn.
+struct Side<'a, I, M, C> {
+    inputs: &'a [I],
+    /// What makes, untimed, what a call consumes.
     given: M,
     call: C,
-    /// How many are timed at once at most.
-    most: usize,
-    /// The best time of a call, in nanoseconds.
+    /// The best time of a turn, in nanoseconds.
     best: f64,
 }
 
-impl<G, R, M: Fn() -> G, C: Fn(G) -> R> Side<M, C> {
-    /// Of a call that took `first`.
-    fn new(given: M, call: C, first: Duration, most: usize) -> Self {
+impl<'a, I, G, R, M: Fn(&'a I) -> G, C: Fn(&'a I, G) -> R> Side<'a, I, M, C> {
+    fn new(inputs: &'a [I], given: M, call: C) -> Self {
         Side {
+            inputs,
             given,
             call,
-            most,
-            best: nanoseconds(first),
+            best: f64::INFINITY,
         }
     }
 
-    /// Times calls. What they give back is dropped after that.
-    fn time(&mut self) {
-        let calls = (nanoseconds(TIMED) / self.best.max(1.0)).ceil() as usize;
-        let calls = calls.min(self.most);
-        let given: Vec<G> = (0..calls).map(|_| (self.given)()).collect();
-        let mut results = Vec::with_capacity(calls);
+    /// The results of a turn, which is timed.
+    fn first(&mut self) -> Vec<R> {
+        self.turns(1)
+    }
+
+    /// Times at most so many turns. What they give back is dropped after that.
+    fn time(&mut self, most: usize) {
+        let turns = (TIMED.as_nanos() as f64 / self.best.max(1.0)).ceil() as usize;
+        self.turns(turns.min(most));
+    }
+
+    fn turns(&mut self, turns: usize) -> Vec<R> {
+        let all = (0..turns).flat_map(|_| self.inputs);
+        let given: Vec<G> = all.map(&self.given).collect();
+        let mut results = Vec::with_capacity(given.len());
+        let mut given = given.into_iter();
         let start = Instant::now();
-        for given in given {
-            results.push(black_box((self.call)(black_box(given))));
+        for _ in 0..turns {
+            for (input, given) in self.inputs.iter().zip(&mut given) {
+                results.push(black_box((self.call)(black_box(input), black_box(given))));
+            }
         }
-        let all = nanoseconds(start.elapsed());
-        self.best = self.best.min(all / calls as f64);
+        let time = start.elapsed().as_secs_f64() * 1e9;
+        self.best = self.best.min(time / turns as f64);
+        results
     }
-}
-
-fn nanoseconds(time: Duration) -> f64 {
-    time.as_secs_f64() * 1e9
-}
-
-/// The result of a call, and how long it took.
-fn timed<G, R>(call: impl Fn(G) -> R, given: G) -> (R, Duration) {
-    let start = Instant::now();
-    let result = black_box(call(black_box(given)));
-    (result, start.elapsed())
 }

@@ -1,16 +1,22 @@
 //! The table, a row at a time, and the rows in which the library is behind.
 
-use crate::{Case, SIZES, cases};
+use crate::{Case, SIZES, WITH_THREADS, rows};
+use compare::call::CALLS;
 use std::env;
 use std::process::Command;
 
+/// What the library's time is divided by.
+const OTHERS: [&str; 3] = [
+    "of the Rust's, 1 thread",
+    "of the Rust's, default",
+    "of a copy's",
+];
+
 /// What one size of a row comes to; `None` where nothing is measured.
-#[derive(Clone, Copy, Default)]
 struct Figures {
     /// Of the library, in nanoseconds for a unit.
     time: Option<f64>,
-    /// The library's time divided by that of the original on one thread, on all, and of a copy.
-    ratios: [Option<f64>; 3],
+    ratios: [Option<f64>; OTHERS.len()],
 }
 
 struct Row {
@@ -24,22 +30,24 @@ fn times(rounds: u32, row: usize, runs: usize, threads: bool) -> Vec<f64> {
     let mut command = Command::new(program);
     command.args([rounds.to_string(), row.to_string(), runs.to_string()]);
     if threads {
-        command.arg("all").env_remove("RAYON_NUM_THREADS");
+        command.arg("default").env_remove("RAYON_NUM_THREADS");
     } else {
-        command.arg("one").env("RAYON_NUM_THREADS", "1");
+        command.arg("1").env("RAYON_NUM_THREADS", "1");
     }
     let output = command.output().expect("this program can be run");
     let errors = String::from_utf8_lossy(&output.stderr);
     assert!(output.status.success(), "row {row}, {runs} runs: {errors}");
-    let numbers = String::from_utf8(output.stdout).expect("numbers are text");
+    let numbers = String::from_utf8_lossy(&output.stdout);
     let numbers = numbers.split_whitespace().map(str::parse);
-    numbers.collect::<Result<_, _>>().expect("times are printed")
+    numbers
+        .collect::<Result<_, _>>()
+        .expect("times are printed")
 }
 
 impl Figures {
     fn measured(rounds: u32, row: usize, runs: usize, threads: bool) -> Self {
         let one = times(rounds, row, runs, false);
-        let all = match threads && !one.is_empty() {
+        let default = match threads {
             true => times(rounds, row, runs, true),
             false => Vec::new(),
         };
@@ -47,68 +55,109 @@ impl Figures {
         let ratio = |other: Option<&f64>| Some(time? / other?);
         Figures {
             time,
-            ratios: [one.get(1), all.first(), one.get(2)].map(ratio),
+            ratios: [one.get(1), default.first(), one.get(2)].map(ratio),
         }
     }
 }
 
 impl Row {
     fn measured(rounds: u32, number: usize, case: &'static Case) -> Self {
-        let figures = SIZES.map(|runs| Figures::measured(rounds, number, runs, case.threads));
+        let threads = WITH_THREADS.contains(&case.call);
+        let figures = SIZES.map(|runs| Figures::measured(rounds, number, runs, threads));
         Row { case, figures }
     }
 
-    fn cells(&self, figure: impl Fn(&Figures) -> Option<f64>) -> String {
-        let cells = self.figures.each_ref().map(|figures| {
-            let cell = figure(figures).map_or("-".to_string(), shown);
-            format!("{cell:>7}")
-        });
-        cells.join(" ")
+    fn cell(&self, figure: impl Fn(&Figures) -> Option<f64>) -> String {
+        let figures = self.figures.each_ref().map(figure);
+        if figures.iter().all(Option::is_none) {
+            return String::new();
+        }
+        let shown = figures.map(|figure| figure.map_or("-".to_string(), shown));
+        shown.map(|shown| format!("{shown:>6}")).join(" ")
+    }
+
+    fn ratios(&self, other: usize) -> String {
+        self.cell(|figures| figures.ratios[other])
     }
 
     fn print(&self) {
-        let ratios = [0, 1, 2].map(|i| self.cells(|figures| figures.ratios[i]));
-        let Case { call, input, unit, .. } = self.case;
-        print_row(call, input, unit, &self.cells(|figures| figures.time), ratios.each_ref().map(String::as_str));
+        let Case {
+            call, input, unit, ..
+        } = self.case;
+        let time = self.cell(|figures| figures.time);
+        let [one, default, copy] = [0, 1, 2].map(|other| self.ratios(other));
+        print_row([call, input, unit, &time, &one, &default, &copy]);
     }
 
-    /// The greatest of its ratios to the original on one thread.
-    fn greatest(&self) -> f64 {
-        let ratios = self.figures.iter().filter_map(|figures| figures.ratios[0]);
+    fn greatest(&self, other: usize) -> f64 {
+        let ratios = self
+            .figures
+            .iter()
+            .filter_map(|figures| figures.ratios[other]);
         ratios.fold(0.0, f64::max)
     }
 }
 
-/// With three digits, as far as they are behind the point.
+/// With three digits, in thousands or millions where there are more.
 fn shown(figure: f64) -> String {
+    let (figure, unit) = match figure {
+        999_500.0.. => (figure / 1e6, "M"),
+        9_995.0.. => (figure / 1e3, "k"),
+        _ => (figure, ""),
+    };
     let digits = match figure {
-        100.0.. => 0,
-        10.0.. => 1,
+        99.95.. => 0,
+        9.995.. => 1,
         _ => 2,
     };
-    format!("{figure:.digits$}")
+    format!("{figure:.digits$}{unit}")
 }
 
-fn print_row(call: &str, input: &str, unit: &str, time: &str, [one, all, copy]: [&str; 3]) {
-    println!("| {call:20} | {input:34} | {unit:8} | {time:23} | {one:23} | {all:23} | {copy:23} |");
+fn print_row([call, input, unit, time, one, default, copy]: [&str; 7]) {
+    println!(
+        "| {call:20} | {input:34} | {unit:8} | {time:20} | {one:23} | {default:22} | {copy:20} |"
+    );
 }
 
-pub fn print(rounds: u32, only: Option<&String>) {
-    print_row("call", "input", "ns per", "1k, 100k, 10M runs: ns", ["of the Rust's, 1 thread", "of its, all threads", "of a copy's"]);
-    print_row("---", "---", "---", "---", ["---"; 3]);
-    let mut rows = Vec::new();
-    for (number, case) in cases().enumerate() {
+/// The rows in which the library takes longer, by how much at the most.
+fn print_behind(rows: &mut [Row], other: usize) {
+    rows.sort_by(|a, b| b.greatest(other).total_cmp(&a.greatest(other)));
+    println!(
+        "\nFurthest behind ({}), at 1k, 100k and 10M runs:\n",
+        OTHERS[other]
+    );
+    for row in rows.iter().filter(|row| row.greatest(other) > 1.0) {
+        let Case { call, input, .. } = row.case;
+        let name = format!("{call} {}", input.trim());
+        println!("    {}  {}", row.ratios(other), name.trim());
+    }
+}
+
+/// All calls, or one.
+pub fn print(rounds: u32, only: Option<&str>) {
+    for call in CALLS {
+        let has_row = rows().any(|case| case.call == call.name);
+        assert!(has_row, "{} has a row", call.name);
+    }
+    let [one, default, copy] = OTHERS;
+    print_row([
+        "call",
+        "input",
+        "ns per",
+        "1k, 100k, 10M runs",
+        one,
+        default,
+        copy,
+    ]);
+    print_row(["---"; 7]);
+    let mut measured = Vec::new();
+    for (number, case) in rows().enumerate() {
         if only.is_none_or(|only| only == case.call) {
             let row = Row::measured(rounds, number, case);
             row.print();
-            rows.push(row);
+            measured.push(row);
         }
     }
-    rows.retain(|row| row.greatest() > 1.0);
-    rows.sort_by(|a, b| b.greatest().total_cmp(&a.greatest()));
-    println!("\nFurthest behind the Rust on one thread, of its time at 1k, 100k, 10M runs:\n");
-    for row in rows {
-        let ratios = row.cells(|figures| figures.ratios[0]);
-        println!("- {ratios}  {}: {}", row.case.call, row.case.input.trim());
-    }
+    print_behind(&mut measured, 0);
+    print_behind(&mut measured, 1);
 }
