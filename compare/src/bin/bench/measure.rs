@@ -63,13 +63,44 @@ pub struct Bench {
 
 /// What is timed with an input.
 pub struct Work {
-    /// How many calls.
+    /// How many calls, the same with each.
     pub calls: usize,
     /// Of a call: the units that its time is divided by, and the bytes of the lists that it reads.
     pub units: usize,
     pub read: usize,
     /// The bytes of the result that have stood in the buffers before.
     pub kept: usize,
+}
+
+/// What is timed with all inputs, a turn.
+struct Total {
+    /// Calls with one input, and units of all calls.
+    calls: f64,
+    units: f64,
+    /// Of each input, half of the bytes that a call reads and writes.
+    halves: Vec<usize>,
+    /// How many turns are timed at once at most.
+    turns: usize,
+}
+
+impl Total {
+    /// By what the original gives back, and whether it consumes what it reads.
+    fn new<R: Show>(work: impl Iterator<Item = Work>, results: &[R], consumes: bool) -> Self {
+        let (mut calls, mut units, mut halves, mut made) = (1, 0, Vec::new(), 0);
+        for (work, result) in work.zip(results) {
+            let written = result.show().bytes() - work.kept;
+            calls = work.calls;
+            units += work.calls * work.units;
+            halves.push((work.read + written) / 2);
+            made += written + if consumes { work.read } else { 0 };
+        }
+        Total {
+            calls: calls as f64,
+            units: units as f64,
+            halves,
+            turns: (MADE / made.max(1)).max(1),
+        }
+    }
 }
 
 impl Bench {
@@ -94,24 +125,11 @@ impl Bench {
             original(input, given).expect("the original answers")
         });
         let results = theirs.first();
-        let work: Vec<Work> = inputs.iter().map(work).collect();
-        let shown = work.iter().zip(results.iter().map(Show::show));
-        let written: Vec<usize> = shown
-            .map(|(work, shown)| shown.bytes() - work.kept)
-            .collect();
-        let of_all = |of_one: fn(&Work) -> usize| work.iter().map(of_one).sum::<usize>();
-        let consumed = if size_of::<G>() == 0 {
-            0
-        } else {
-            of_all(|work| work.read)
-        };
-        let made = consumed + written.iter().sum::<usize>();
-        let most = (MADE / made.max(1)).max(1);
-        let units = of_all(|work| work.calls * work.units) as f64;
+        let all = Total::new(inputs.iter().map(work), &results, size_of::<G>() > 0);
         if self.sides == Sides::DefaultThreads {
             drop(results);
-            self.rounds(theirs.best, || theirs.time(most));
-            self.times = vec![theirs.best / units];
+            self.rounds(theirs.best, || theirs.time(all.turns));
+            self.times = vec![theirs.best / all.units];
             return;
         }
 
@@ -119,36 +137,28 @@ impl Bench {
             (library(input, &mut lent), lent)
         });
         for (result, (answer, lent)) in results.iter().zip(ours.first()) {
-            assert!(
-                result.show().is(&answer.into(), &lent),
-                "the results are equal"
-            );
+            let equal = result.show().is(&answer.into(), &lent);
+            assert!(equal, "the results are equal");
         }
         drop(results);
-        let halves = work
-            .iter()
-            .zip(written)
-            .map(|(work, written)| (work.read + written) / 2);
-        let halves: Vec<usize> = halves.collect();
-        let source: Vec<u8> = lent(halves.iter().copied().max().unwrap_or(0));
+        let sources: Vec<Vec<u8>> = all.halves.iter().map(|&half| lent(half)).collect();
         let mut copy = Side::new(
-            &halves,
-            |&half| lent(half),
-            |&half, mut copied: Vec<u8>| {
-                copied.copy_from_slice(&black_box(&source)[..half]);
+            &sources,
+            |source| lent(source.len()),
+            |source, mut copied| {
+                copied.copy_from_slice(source);
                 copied
             },
         );
         copy.first();
         self.rounds(ours.best + theirs.best, || {
-            ours.time(most);
-            theirs.time(most);
-            copy.time(most);
+            ours.time(all.turns);
+            theirs.time(all.turns);
+            copy.time(all.turns);
         });
-        self.times = vec![ours.best / units, theirs.best / units];
-        if !source.is_empty() {
-            self.times
-                .push(copy.best / of_all(|work| work.units) as f64);
+        self.times = vec![ours.best / all.units, theirs.best / all.units];
+        if all.halves.iter().any(|&half| half > 0) {
+            self.times.push(copy.best * all.calls / all.units);
         }
     }
 
