@@ -119,6 +119,9 @@ fn print_row([call, input, unit, time, one, default, copy]: [&str; 7]) {
     );
 }
 
+/// What is shown as more than 1.00.
+const BEHIND: f64 = 1.005;
+
 /// The rows in which the library takes longer, by how much at the most.
 fn print_behind(rows: &mut [Row], other: usize) {
     rows.sort_by(|a, b| b.greatest(other).total_cmp(&a.greatest(other)));
@@ -126,7 +129,7 @@ fn print_behind(rows: &mut [Row], other: usize) {
         "\nFurthest behind ({}), at 1k, 100k and 10M runs:\n",
         OTHERS[other]
     );
-    for row in rows.iter().filter(|row| row.greatest(other) > 1.0) {
+    for row in rows.iter().filter(|row| row.greatest(other) >= BEHIND) {
         let Case { call, input, .. } = row.case;
         let name = format!("{call} {}", input.trim());
         println!("    {}  {}", row.ratios(other), name.trim());
