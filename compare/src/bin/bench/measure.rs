@@ -16,9 +16,11 @@ const VARIED: usize = 100_000;
 const TIMED: Duration = Duration::from_micros(200);
 const MADE: usize = 256 << 10;
 
-/// What a round adds to the time that is taken at least, and to that after which none is begun.
+/// What a round adds to the time that is taken at least, and to that after which none is begun, if
+/// there have been these few.
 const LEAST: Duration = Duration::from_millis(10);
 const MOST: Duration = Duration::from_millis(200);
+const FEW: u32 = 3;
 
 unsafe extern "C" {
     fn mallopt(parameter: c_int, value: c_int) -> c_int;
@@ -162,13 +164,17 @@ impl Bench {
         }
     }
 
-    /// Takes rounds after so many nanoseconds, unless these are too many.
-    fn rounds(&self, taken: f64, mut round: impl FnMut()) {
+    /// Takes rounds, but none where the first calls took too many nanoseconds alone.
+    fn rounds(&self, first: f64, mut round: impl FnMut()) {
+        let (least, most) = (LEAST * self.rounds, MOST * self.rounds);
+        if first >= most.as_nanos() as f64 {
+            return;
+        }
         let start = Instant::now();
         for number in 0.. {
-            let elapsed = Duration::from_secs_f64(taken / 1e9) + start.elapsed();
-            let enough = number >= self.rounds && elapsed >= LEAST * self.rounds;
-            if enough || elapsed >= MOST * self.rounds {
+            let elapsed = start.elapsed();
+            let enough = number >= self.rounds && elapsed >= least;
+            if enough || number >= FEW && elapsed >= most {
                 return;
             }
             round();
