@@ -283,6 +283,13 @@ impl Call {
         self.parameters.iter().any(|p| p.role == role)
     }
 
+    /// How many of its parameters stand before the buffers of which it reads nothing.
+    pub fn inputs(&self) -> usize {
+        let mut parameters = self.parameters.iter();
+        let room = parameters.position(|parameter| parameter.role.is_room());
+        room.unwrap_or(self.parameters.len())
+    }
+
     /// Where the buffers that it may write stand among its arguments.
     pub fn lent_at(&self) -> Vec<usize> {
         let lent = (0..self.parameters.len()).filter(|&i| self.parameters[i].lent);
@@ -299,6 +306,12 @@ impl Call {
     pub fn library(&self, args: &[Arg]) -> Outcome {
         let mut after = args.to_vec();
         let answer = self.answer(&mut after);
+        self.seen(args, after, answer)
+    }
+
+    /// What a caller sees of the library's answer and of the arguments after it.
+    #[cfg(feature = "library")]
+    pub fn seen(&self, args: &[Arg], mut after: Vec<Arg>, answer: Answer) -> Outcome {
         if answer.refusal == Refusal::default() {
             self.restore_free(args, &mut after);
         }

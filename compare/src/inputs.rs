@@ -73,6 +73,15 @@ pub enum Role {
 }
 
 impl Role {
+    /// Whether the parameter is a buffer of which the call reads nothing.
+    pub fn is_room(self) -> bool {
+        use Role::*;
+        matches!(
+            self,
+            Room | IndexRoom | KeyRoom | KindRoom | BitRoom | Scratch
+        )
+    }
+
     /// Whether the parameter says more of the sequences or intervals of the one `before` it.
     fn continues(self, before: Role) -> bool {
         use Role::*;

@@ -58,6 +58,21 @@ impl Tally {
         self.0.values().map(Seen::cases).sum()
     }
 
+    /// What no case has come to: each answer or refusal that a call gives.
+    pub fn missing(&self) -> Vec<String> {
+        let missing = |call: &Call| {
+            let seen = self.of(call).0.into_iter();
+            let numbers = seen
+                .filter(|(_, cases)| *cases == 0)
+                .map(|(number, _)| number);
+            let name = call.name;
+            numbers
+                .map(move |number| format!("{name} {number}"))
+                .collect::<Vec<_>>()
+        };
+        CALLS.iter().flat_map(missing).collect()
+    }
+
     /// The cases of a call, also with 0 of an answer and of each refusal that it gives.
     fn of(&self, call: &Call) -> Seen {
         let mut seen = self.0.get(&call.number).cloned().unwrap_or_default();

@@ -13,6 +13,8 @@ pub struct Function {
     pub name: String,
     /// Between its braces.
     pub body: Range<usize>,
+    /// Whether its result has a type that its body alone names, so that no other body can give it.
+    pub is_opaque: bool,
 }
 
 /// A word, a number, a lifetime, a string, or an operator or bracket.
@@ -198,9 +200,11 @@ impl Source {
                 "$" => fn_at + 2,
                 _ => fn_at + 1,
             };
+            let signature = &self.text[self.tokens[fn_at].start..self.tokens[open].start];
             Some(Function {
                 name: self.token(name).to_string(),
                 body: self.tokens[open].end..self.tokens[close].start,
+                is_opaque: signature.contains("-> impl"),
             })
         };
         fns.filter_map(function).collect()
@@ -291,10 +295,43 @@ impl Source {
 
     /// The text with these changes, of which none overlaps another.
     pub fn changed(&self, changes: &[Change]) -> String {
-        let mut text = self.text.clone();
+        self.changed_within(0..self.text.len(), changes)
+    }
+
+    fn changed_within(&self, part: Range<usize>, changes: &[Change]) -> String {
+        let mut text = self.text[part.clone()].to_string();
         for Change { place, new } in changes.iter().rev() {
-            text.replace_range(place.clone(), new);
+            text.replace_range(place.start - part.start..place.end - part.start, new);
         }
         text
     }
+
+    /// A body that has all of these changes, by their numbers, and does the one that is switched on.
+    pub fn switch(&self, body: &Range<usize>, changes: &[(usize, Change)]) -> Change {
+        let mut new = String::from(" match crate::mutant() {\n");
+        for (number, change) in changes {
+            let changed = self.changed_within(body.clone(), std::slice::from_ref(change));
+            new += &format!("{SWITCHED}{number}\n{number} => {{{changed}}}\n{SWITCHED_END}\n");
+        }
+        new += &format!("_ => {{{}}} }}", &self.text[body.clone()]);
+        Change {
+            place: body.clone(),
+            new,
+        }
+    }
+}
+
+/// What stands in a line before a change of a switch, with its number, and behind it.
+const SWITCHED: &str = "// change ";
+const SWITCHED_END: &str = "// end of change";
+
+/// The change of a switch in which this line of a text is.
+pub fn change_at_line(text: &str, line: usize) -> Option<usize> {
+    let marks = text.lines().take(line).filter_map(|line| match line {
+        SWITCHED_END => Some(None),
+        _ => line
+            .strip_prefix(SWITCHED)
+            .map(|number| number.parse().ok()),
+    });
+    marks.last().flatten()
 }
