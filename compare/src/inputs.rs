@@ -129,8 +129,13 @@ fn rooms(index: usize, role: Role, most: usize) -> Vec<Arg> {
 
 /// Every way to take one out of each of the choices.
 fn combinations<T: Clone>(choices: Vec<Vec<T>>) -> impl Iterator<Item = Vec<T>> {
+    some_combinations(choices, 1)
+}
+
+/// One in `share` of them.
+fn some_combinations<T: Clone>(choices: Vec<Vec<T>>, share: usize) -> impl Iterator<Item = Vec<T>> {
     let count: usize = choices.iter().map(Vec::len).product();
-    (0..count).map(move |mut number| {
+    (0..count).step_by(share).map(move |mut number| {
         let take = |choice: &Vec<T>| {
             let taken = choice[number % choice.len()].clone();
             number /= choice.len();
@@ -529,6 +534,11 @@ pub fn seams(call: &Call) -> Vec<Vec<Arg>> {
 /// Every combination of small arguments. Of buffers there are those of every small length; a call on
 /// batches, which has too many, gets such as fit, are longer, and are short of an entry.
 pub fn small(call: &Call) -> impl Iterator<Item = Vec<Arg>> {
+    some_small(call, 1)
+}
+
+/// One in `share` of the combinations of small arguments.
+pub fn some_small(call: &Call, share: usize) -> impl Iterator<Item = Vec<Arg>> {
     let on_batches = call.takes(Role::Keys);
     let parameters: Vec<(usize, &Parameter)> = call.parameters.iter().enumerate().collect();
     let groups = parameters.chunk_by(|(_, one), (_, next)| next.role.continues(one.role));
@@ -549,7 +559,7 @@ pub fn small(call: &Call) -> impl Iterator<Item = Vec<Arg>> {
         },
         [] => unreachable!("a group has a parameter"),
     });
-    let combinations = combinations(choices.collect()).map(|groups| groups.concat());
+    let combinations = some_combinations(choices.collect(), share).map(|groups| groups.concat());
     combinations.flat_map(move |args| match on_batches {
         true => fitted(call, args),
         false => vec![args],

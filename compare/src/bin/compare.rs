@@ -138,7 +138,7 @@ impl Run {
     fn worker(&self, worker: usize) -> Comparison {
         let mut comparison = Comparison::default();
         while let Some(call) = CALLS.get(self.given_out.fetch_add(1, Ordering::Relaxed)) {
-            let small = inputs::small(call).step_by(self.share);
+            let small = inputs::some_small(call, self.share);
             let inputs = inputs::seams(call).into_iter().chain(small);
             inputs.for_each(|args| comparison.compare(call, args));
         }

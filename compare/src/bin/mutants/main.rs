@@ -18,6 +18,15 @@ use std::sync::Mutex;
 use std::{env, fs};
 use tree::{Tree, Verdict};
 
+/// A file of the original's.
+struct File {
+    source: Source,
+    functions: Vec<Function>,
+}
+
+/// A mutant with its number.
+type Numbered<'a> = (usize, &'a Mutant<'a>);
+
 /// A change of a function of one of the sources.
 struct Mutant<'a> {
     source: &'a Source,
@@ -39,24 +48,28 @@ impl Mutant<'_> {
     }
 }
 
-fn sources(folder: &Path) -> Vec<Source> {
+fn files(folder: &Path) -> Vec<File> {
     let entries = fs::read_dir(folder).expect("RUNLENGTH_SRC names a folder");
     let paths = entries.map(|entry| entry.expect("the folder can be read").path());
     let is_rust = |path: &PathBuf| path.extension().is_some_and(|extension| extension == "rs");
     let mut paths: Vec<PathBuf> = paths.filter(is_rust).collect();
     paths.sort();
-    let source = |path: &PathBuf| {
+    let file = |path: &PathBuf| {
         let name = path.file_name().expect("a file has a name");
         let text = fs::read_to_string(path).expect("the file can be read");
-        Source::new(name.to_string_lossy().into_owned(), text)
+        let source = Source::new(name.to_string_lossy().into_owned(), text);
+        File {
+            functions: source.functions(),
+            source,
+        }
     };
-    paths.iter().map(source).collect()
+    paths.iter().map(file).collect()
 }
 
 /// The mutants of the functions that are entered. The others are named.
-fn mutants<'a>(files: &'a [(Source, Vec<Function>)], entered: &BTreeSet<usize>) -> Vec<Mutant<'a>> {
+fn mutants<'a>(files: &'a [File], entered: &BTreeSet<usize>) -> Vec<Mutant<'a>> {
     let (mut mutants, mut left, mut number) = (Vec::new(), 0, 0);
-    for (source, functions) in files {
+    for File { source, functions } in files {
         let mut names = Vec::new();
         for function in functions {
             let changes = source.changes(&function.body);
@@ -93,8 +106,8 @@ fn chosen<'a>(mut mutants: Vec<Mutant<'a>>, count: usize, rng: &mut Rng) -> Vec<
 }
 
 /// Writes the original with a switch for each function that has some of these mutants.
-fn write_switches(tree: &Tree, files: &[(Source, Vec<Function>)], mutants: &[(usize, &Mutant)]) {
-    for (source, functions) in files {
+fn write_switches(tree: &Tree, files: &[File], mutants: &[Numbered]) {
+    for File { source, functions } in files {
         let switch = |function: &Function| {
             let own = |mutant: &Mutant| std::ptr::eq(mutant.function, function);
             let own = mutants.iter().filter(|(_, mutant)| own(mutant));
@@ -109,11 +122,7 @@ fn write_switches(tree: &Tree, files: &[(Source, Vec<Function>)], mutants: &[(us
 }
 
 /// Builds the original with all of these mutants that compile, and gives the numbers of the others.
-fn build_switches(
-    tree: &Tree,
-    files: &[(Source, Vec<Function>)],
-    mutants: &[(usize, &Mutant)],
-) -> BTreeSet<usize> {
+fn build_switches(tree: &Tree, files: &[File], mutants: &[Numbered]) -> BTreeSet<usize> {
     let mut left_out = BTreeSet::new();
     loop {
         let built = mutants
@@ -179,7 +188,7 @@ impl Report {
 
 /// Does this with each of the mutants, by so many workers at once.
 fn for_each(
-    mutants: &[(usize, &Mutant)],
+    mutants: &[Numbered],
     cores: usize,
     judge: impl Fn(usize, usize, &Mutant) -> Option<Verdict> + Sync,
     report: &Mutex<Report>,
@@ -197,6 +206,28 @@ fn for_each(
     });
 }
 
+/// Judges mutants that one build has.
+fn judge_switched(trees: &[Tree], files: &[File], mutants: &[Numbered], report: &Mutex<Report>) {
+    let tree = &trees[0];
+    let not_built = build_switches(tree, files, mutants);
+    let judge = |_, number, _: &Mutant| {
+        let built = !not_built.contains(&number);
+        built.then(|| tree.verdict(number))
+    };
+    for_each(mutants, trees.len(), judge, report);
+}
+
+/// Judges mutants that are built one by one.
+fn judge_single(trees: &[Tree], files: &[File], mutants: &[Numbered], report: &Mutex<Report>) {
+    let judge = |worker: usize, number, mutant: &Mutant| {
+        let tree = &trees[worker];
+        files.iter().for_each(|file| tree.write(&file.source, &[]));
+        tree.write(mutant.source, std::slice::from_ref(&mutant.change));
+        tree.builds().then(|| tree.verdict(number))
+    };
+    for_each(mutants, trees.len(), judge, report);
+}
+
 fn main() -> ExitCode {
     let numbers: Result<Vec<u64>, _> = env::args().skip(1).map(|word| word.parse()).collect();
     let Ok([count, seed, cores @ (1..)]) = numbers.as_deref() else {
@@ -204,37 +235,18 @@ fn main() -> ExitCode {
         return ExitCode::from(2);
     };
     let folder = env::var_os("RUNLENGTH_SRC").expect("launch names the original's folder");
-    let sources = sources(Path::new(&folder));
-    let trees: Vec<Tree> = (0..*cores as usize)
-        .map(|number| Tree::new(number, &sources))
-        .collect();
-    let entered = trees[0].entered(&sources);
-    let functions = |source: Source| (source.functions(), source);
-    let files: Vec<(Source, Vec<Function>)> = sources
-        .into_iter()
-        .map(functions)
-        .map(|(f, s)| (s, f))
-        .collect();
-    let mutants = chosen(
-        mutants(&files, &entered),
-        *count as usize,
-        &mut Rng::new(*seed),
-    );
+    let files = files(Path::new(&folder));
+    let tree = |number| Tree::new(number, files.iter().map(|file| &file.source));
+    let trees: Vec<Tree> = (0..*cores as usize).map(tree).collect();
+    let entered = trees[0].entered(&files);
+    let mutants = mutants(&files, &entered);
+    let mutants = chosen(mutants, *count as usize, &mut Rng::new(*seed));
     let numbered = mutants.iter().enumerate();
-    let (single, switched): (Vec<_>, Vec<_>) =
-        numbered.partition(|(_, mutant)| mutant.function.is_opaque);
+    let is_single = |(_, mutant): &Numbered| mutant.function.is_opaque;
+    let (single, switched): (Vec<_>, Vec<_>) = numbered.partition(is_single);
     let report = Mutex::new(Report::default());
-    let not_built = build_switches(&trees[0], &files, &switched);
-    let judge =
-        |_, number, _: &Mutant| (!not_built.contains(&number)).then(|| trees[0].verdict(number));
-    for_each(&switched, *cores as usize, judge, &report);
-    let judge = |worker: usize, number, mutant: &Mutant| {
-        let tree: &Tree = &trees[worker];
-        files.iter().for_each(|(source, _)| tree.write(source, &[]));
-        tree.write(mutant.source, std::slice::from_ref(&mutant.change));
-        tree.builds().then(|| tree.verdict(number))
-    };
-    for_each(&single, *cores as usize, judge, &report);
+    judge_switched(&trees, &files, &switched, &report);
+    judge_single(&trees, &files, &single, &report);
     report.into_inner().expect("no worker panics").print();
     ExitCode::SUCCESS
 }

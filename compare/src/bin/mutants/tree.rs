@@ -1,5 +1,6 @@
 //! A copy of the original with the package that judges it.
 
+use crate::File;
 use crate::source::{Change, Function, Source, change_at_line};
 use std::collections::BTreeSet;
 use std::fs;
@@ -54,13 +55,13 @@ fn succeed(command: &mut Command) {
 }
 
 impl Tree {
-    pub fn new(number: usize, sources: &[Source]) -> Self {
+    pub fn new<'a>(number: usize, sources: impl Iterator<Item = &'a Source>) -> Self {
         let package = PathBuf::from(env!("CARGO_MANIFEST_DIR"));
         let folder = package.join(format!("../target/compare/mutants/{number}"));
         fs::create_dir_all(folder.join("src")).expect("the folder can be made");
         let folder = folder.canonicalize().expect("the folder is there");
         let tree = Tree { folder, package };
-        sources.iter().for_each(|source| tree.write(source, &[]));
+        sources.for_each(|source| tree.write(source, &[]));
         succeed(
             Command::new("ln")
                 .arg("-sfn")
@@ -150,19 +151,19 @@ impl Tree {
         }
     }
 
-    /// The functions that calls enter, by their number in these sources.
-    pub fn entered(&self, sources: &[Source]) -> BTreeSet<usize> {
+    /// The functions that calls enter, by their number in these files.
+    pub fn entered(&self, files: &[File]) -> BTreeSet<usize> {
         let mut numbers = 0..;
-        let mut tell = |function: Function| {
+        let mut tell = |function: &Function| {
             let number = numbers.next().expect("numbers do not end");
             Change {
                 place: function.body.start..function.body.start,
                 new: format!(" crate::entered({number});"),
             }
         };
-        for source in sources {
-            let tells: Vec<Change> = source.functions().into_iter().map(&mut tell).collect();
-            self.write(source, &tells);
+        for file in files {
+            let tells: Vec<Change> = file.functions.iter().map(&mut tell).collect();
+            self.write(&file.source, &tells);
         }
         assert!(self.builds(), "the original cannot be built");
         let judged = self.judge(usize::MAX);
@@ -170,7 +171,6 @@ impl Tree {
             judged.status.success(),
             "the original differs from the naive reading"
         );
-        sources.iter().for_each(|source| self.write(source, &[]));
         let told = String::from_utf8_lossy(&judged.stderr).into_owned();
         let numbers = told.lines().map(|line| line.parse());
         numbers
