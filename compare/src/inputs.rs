@@ -599,7 +599,7 @@ impl Rng {
         Rng(seed.wrapping_add((worker as u64) << 32))
     }
 
-    pub fn next(&mut self) -> u64 {
+    pub fn word(&mut self) -> u64 {
         self.0 = self.0.wrapping_add(0x9e37_79b9_7f4a_7c15);
         let mut z = self.0;
         z = (z ^ (z >> 30)).wrapping_mul(0xbf58_476d_1ce4_e5b9);
@@ -609,7 +609,7 @@ impl Rng {
 
     /// A number from 0 up to `bound`, not included.
     pub fn below(&mut self, bound: usize) -> usize {
-        (self.next() % bound as u64) as usize
+        (self.word() % bound as u64) as usize
     }
 
     pub fn one_in(&mut self, n: usize) -> bool {
@@ -624,7 +624,7 @@ impl Rng {
     fn number(&mut self) -> i64 {
         let near = self.below(7) as i64 - 3;
         match self.below(5) {
-            0 => self.next() as i64,
+            0 => self.word() as i64,
             1 => i64::MAX.wrapping_add(near),
             2 => {
                 // Floats from 2^53 * half on are 2 * half apart.
@@ -952,7 +952,7 @@ impl Drawn {
                 let runs = column.runs.len();
                 let one_in = rng.pick(&[1, 2, 2, 4, 8]);
                 let byte = |_| match rng.below(200) {
-                    0 => rng.next() as u8,
+                    0 => rng.word() as u8,
                     _ => rng.one_in(one_in).into(),
                 };
                 Arg::Bytes((1..runs).map(byte).collect())
@@ -1233,19 +1233,19 @@ fn damage(arg: &mut Arg, rng: &mut Rng) {
         Arg::Bytes(list) => match (rng.below(3), list.len()) {
             (0, _) => drop(list.pop()),
             (1, _) | (_, 0) => list.push(rng.pick(&[0, 1, 2])),
-            (_, length) => list[rng.below(length)] = rng.next() as u8,
+            (_, length) => list[rng.below(length)] = rng.word() as u8,
         },
         Arg::Number(number) => *number = damaged(*number, rng),
         Arg::Count(count) => {
             *count = match rng.below(3) {
                 0 => count.wrapping_sub(1),
                 1 => count.wrapping_add(1),
-                _ => rng.next() as usize,
+                _ => rng.word() as usize,
             }
         }
-        Arg::Key(key) => *key = rng.next() as u32,
+        Arg::Key(key) => *key = rng.word() as u32,
         Arg::Fill(fill) => fill.given = u64::from(fill.given == 0),
-        Arg::Code(code) => *code = rng.next() as u8,
+        Arg::Code(code) => *code = rng.word() as u8,
     }
 }
 

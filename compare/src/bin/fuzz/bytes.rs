@@ -11,14 +11,14 @@ fn words(rng: &mut Rng) -> Vec<u64> {
     let kind = rng.below(4);
     let mut sum: u64 = 0;
     let word = |_| match kind {
-        0 => rng.next(),
+        0 => rng.word(),
         1 => rng.below(4) as u64,
         2 => {
             sum = sum.wrapping_add(1 + rng.below(3) as u64);
             sum
         }
         _ => {
-            let any = rng.next();
+            let any = rng.word();
             rng.pick(&[0, 1, 2, u64::MAX, 1 << 63, (1 << 63) - 1, any])
         }
     };
@@ -28,7 +28,7 @@ fn words(rng: &mut Rng) -> Vec<u64> {
 /// Any argument of the same kind.
 fn any(arg: &Arg, rng: &mut Rng) -> Arg {
     let word = match rng.one_in(2) {
-        true => rng.next(),
+        true => rng.word(),
         false => rng.below(12) as u64,
     };
     let words = words(rng).into_iter();
@@ -43,7 +43,7 @@ fn any(arg: &Arg, rng: &mut Rng) -> Arg {
         Arg::Key(_) => Arg::Key(word as u32),
         Arg::Fill(_) => Arg::Fill(Fill {
             given: word,
-            value: rng.next() as i64,
+            value: rng.word() as i64,
         }),
         Arg::Code(_) => Arg::Code(word as u8),
     }
@@ -81,7 +81,7 @@ fn fill_room(room: &mut Arg, any_length: bool, rng: &mut Rng) {
             true => rng.below(list.len() + 9),
             false => list.len(),
         };
-        *list = (0..length).map(|_| word(rng.next())).collect();
+        *list = (0..length).map(|_| word(rng.word())).collect();
     }
     match room {
         Arg::List(list) => refill(list, any_length, rng, |word| word as i64),
