@@ -252,6 +252,8 @@ pub struct Call {
     pub parameters: &'static [Parameter],
     /// How many counts it answers.
     counts: usize,
+    /// The numbers of the refusals that it gives.
+    pub refusals: &'static [u64],
     #[cfg(feature = "library")]
     library: fn(&mut [Arg]) -> Answer,
     original: fn(&[Arg]) -> Option<Reading>,
@@ -268,9 +270,24 @@ impl Call {
         !self.parameters.is_empty()
     }
 
+    /// Its arguments, a line for each.
+    pub fn shown(&self, args: &[Arg]) -> String {
+        let named = self.parameters.iter().zip(args);
+        let line =
+            |(parameter, arg): (&Parameter, &Arg)| format!("    {} = {arg}\n", parameter.name);
+        named.map(line).collect()
+    }
+
     /// Whether one of its parameters stands for that.
     pub fn takes(&self, role: Role) -> bool {
         self.parameters.iter().any(|p| p.role == role)
+    }
+
+    /// How many of its parameters stand before the buffers of which it reads nothing.
+    pub fn inputs(&self) -> usize {
+        let mut parameters = self.parameters.iter();
+        let room = parameters.position(|parameter| parameter.role.is_room());
+        room.unwrap_or(self.parameters.len())
     }
 
     /// Where the buffers that it may write stand among its arguments.
@@ -279,10 +296,22 @@ impl Call {
         lent.collect()
     }
 
+    /// What the library answers. The arguments then stand as it has left them.
+    #[cfg(feature = "library")]
+    pub fn answer(&self, args: &mut [Arg]) -> Answer {
+        (self.library)(args)
+    }
+
     #[cfg(feature = "library")]
     pub fn library(&self, args: &[Arg]) -> Outcome {
         let mut after = args.to_vec();
-        let answer = (self.library)(&mut after);
+        let answer = self.answer(&mut after);
+        self.seen(args, after, answer)
+    }
+
+    /// What a caller sees of the library's answer and of the arguments after it.
+    #[cfg(feature = "library")]
+    pub fn seen(&self, args: &[Arg], mut after: Vec<Arg>, answer: Answer) -> Outcome {
         if answer.refusal == Refusal::default() {
             self.restore_free(args, &mut after);
         }
@@ -290,14 +319,22 @@ impl Call {
         Outcome { answer, lent }
     }
 
-    /// Puts back what the free entries of scratch held: an answer may leave anything there, in two
-    /// for each run handed in.
+    /// Where the parameters stand that are for that.
+    fn of_role(&self, role: Role) -> impl Iterator<Item = usize> {
+        (0..self.parameters.len()).filter(move |&i| self.parameters[i].role == role)
+    }
+
+    /// The entries of scratch in which an answer may leave anything: two for each run handed in.
+    pub fn free_scratch(&self, args: &[Arg]) -> usize {
+        let runs = self.of_role(Role::FlatEnds);
+        2 * runs.map(|i| <&[i64]>::from(&args[i]).len()).sum::<usize>()
+    }
+
+    /// Puts back what the free entries of scratch held.
     #[cfg(feature = "library")]
     fn restore_free(&self, before: &[Arg], after: &mut [Arg]) {
-        let of = |role| (0..before.len()).filter(move |&i| self.parameters[i].role == role);
-        let runs = of(Role::FlatEnds).map(|i| <&[i64]>::from(&before[i]).len());
-        let free = 2 * runs.sum::<usize>();
-        for i in of(Role::Scratch) {
+        let free = self.free_scratch(before);
+        for i in self.of_role(Role::Scratch) {
             let (held, scratch): (&[i64], &mut [i64]) =
                 ((&before[i]).into(), (&mut after[i]).into());
             let free = free.min(held.len());
@@ -318,6 +355,17 @@ impl Call {
 
     pub fn naive(&self, args: &[Arg]) -> Outcome {
         self.outcome(args, (self.naive)(args))
+    }
+
+    /// Document 01's answer, which is the original's in its domain, or how they differ.
+    pub fn agreed(&self, args: &[Arg]) -> Result<Outcome, String> {
+        let naive = self.naive(args);
+        match self.original(args, &naive) {
+            Some(original) if original != naive => {
+                Err(format!("{}: {original} is no {naive}", self.name))
+            }
+            _ => Ok(naive),
+        }
     }
 
     /// After an answer later entries keep what they held; a refused call has written nothing.
@@ -351,9 +399,9 @@ fn wrong_number() -> ! {
 macro_rules! calls {
     ($($number:literal $name:ident(
         $($(&$lent:tt)? $input:ident: $role:ident),*; $($output:ident: $room:ident),*
-    ) -> $counts:literal;)*) => {
-        /// Every call, with its inputs, then its outputs, and how many counts it answers. The
-        /// original takes inputs alone.
+    ) -> $counts:literal, $refusals:tt;)*) => {
+        /// Every call, with its inputs, then its outputs, how many counts it answers, and the refusals
+        /// that it gives. The original takes inputs alone.
         pub const CALLS: &[Call] = &[$(Call {
             number: $number,
             name: stringify!($name),
@@ -366,6 +414,7 @@ macro_rules! calls {
                 $(Parameter { name: stringify!($output), role: Role::$room, lent: true },)*
             ],
             counts: $counts,
+            refusals: &$refusals,
             #[cfg(feature = "library")]
             library: |args| {
                 let [$($input,)* $($output,)*] = args else { wrong_number() };
@@ -389,121 +438,121 @@ macro_rules! calls {
 }
 
 calls! {
-    1 empty(;) -> 1;
-    2 from_runs(runs: Runs, values: Values; out_ends: Room, out_values: Room) -> 1;
-    3 from_ends(ends: Ends, values: Values;) -> 1;
-    4 repeat(value: Value, length: Length; out_ends: Room, out_values: Room) -> 1;
-    5 push_run(&mut ends: Ends, &mut values: Values, used: Used, run: Run, value: Value;) -> 1;
+    1 empty(;) -> 1, [];
+    2 from_runs(runs: Runs, values: Values; out_ends: Room, out_values: Room) -> 1, [2, 6, 7, 12];
+    3 from_ends(ends: Ends, values: Values;) -> 1, [2, 4];
+    4 repeat(value: Value, length: Length; out_ends: Room, out_values: Room) -> 1, [6, 12];
+    5 push_run(&mut ends: Ends, &mut values: Values, used: Used, run: Run, value: Value;) -> 1, [2, 4, 6, 7, 12];
     6 extend_to(
         &mut ends: Ends, &mut values: Values, used: Used, length: Length, value: Value;
-    ) -> 1;
-    7 from_dense(values: Dense; out_ends: Room, out_values: Room) -> 1;
-    8 to_dense(ends: Ends, values: Values; out: Room) -> 1;
-    9 equals(a_ends: EndsA, a_values: ValuesA, b_ends: EndsB, b_values: ValuesB;) -> 1;
+    ) -> 1, [2, 4, 11, 12];
+    7 from_dense(values: Dense; out_ends: Room, out_values: Room) -> 1, [12];
+    8 to_dense(ends: Ends, values: Values; out: Room) -> 1, [2, 4, 12];
+    9 equals(a_ends: EndsA, a_values: ValuesA, b_ends: EndsB, b_values: ValuesB;) -> 1, [2, 4];
     10 plan(
         a: EndsA, b: EndsB; out_ends: Room, out_idx_a: IndexRoom, out_idx_b: IndexRoom
-    ) -> 1;
+    ) -> 1, [4, 12];
     11 zip_with(
         a_ends: EndsA, a_values: ValuesA, b_ends: EndsB, b_values: ValuesB,
         fill_a: Fill, fill_b: Fill, code: Code; out_ends: Room, out_values: Room
-    ) -> 1;
+    ) -> 1, [1, 2, 4, 10, 12];
     12 zip_with_raw(
         a_ends: EndsA, a_values: ValuesA, b_ends: EndsB, b_values: ValuesB,
         fill_a: Fill, fill_b: Fill, code: Code; out_ends: Room, out_values: Room
-    ) -> 1;
+    ) -> 1, [1, 2, 4, 10, 12];
     13 plan_many(
         offsets: Offsets, ends: FlatEnds, values: FlatValues; out_ends: Room, out_idx: IndexRoom
-    ) -> 2;
+    ) -> 2, [2, 3, 4, 5, 12];
     14 zip_many(
         offsets: Offsets, ends: FlatEnds, values: FlatValues, fill: Fill, code: Code;
         out_ends: Room, out_values: Room
-    ) -> 1;
-    15 run_index(ends: Ends, pos: Position;) -> 2;
+    ) -> 1, [1, 2, 3, 4, 5, 10, 12];
+    15 run_index(ends: Ends, pos: Position;) -> 2, [4];
     16 slice(
         ends: EndsA, values: ValuesA, start: Position, end: Position;
         out_ends: Room, out_values: Room
-    ) -> 1;
-    17 slice_view(ends: EndsA, values: ValuesA, start: Position, end: Position;) -> 3;
-    18 slice_view_values(ends: EndsA, values: ValuesA, start: Position, end: Position;) -> 2;
+    ) -> 1, [2, 4, 12];
+    17 slice_view(ends: EndsA, values: ValuesA, start: Position, end: Position;) -> 3, [2, 4];
+    18 slice_view_values(ends: EndsA, values: ValuesA, start: Position, end: Position;) -> 2, [];
     42 getitems(
         ends: EndsA, values: ValuesA, starts: Starts, stops: Stops;
         out_offsets: IndexRoom, out_ends: Room, out_values: Room
-    ) -> 2;
+    ) -> 2, [2, 4, 9, 12];
     19 concat(
         offsets: Offsets, ends: FlatEnds, values: FlatValues; out_ends: Room, out_values: Room
-    ) -> 1;
+    ) -> 1, [2, 3, 4, 7, 12];
     20 shift(
         ends: EndsA, values: ValuesA, distance: Distance, fill: Value;
         out_ends: Room, out_values: Room
-    ) -> 1;
-    21 reversed(ends: EndsA, values: ValuesA; out_ends: Room, out_values: Room) -> 1;
+    ) -> 1, [2, 4, 12];
+    21 reversed(ends: EndsA, values: ValuesA; out_ends: Room, out_values: Room) -> 1, [2, 4, 12];
     22 ranges_where(
         ends: EndsA, values: ValuesA, code: Comparison, number: Value;
         out_starts: Room, out_ends: Room
-    ) -> 1;
-    23 merge(ends: EndsA, values: ValuesA; out_ends: Room, out_values: Room) -> 1;
-    24 merged(ends: EndsA, values: ValuesA; out_ends: Room, out_values: Room) -> 1;
+    ) -> 1, [1, 2, 4, 12];
+    23 merge(ends: EndsA, values: ValuesA; out_ends: Room, out_values: Room) -> 1, [2, 4, 12];
+    24 merged(ends: EndsA, values: ValuesA; out_ends: Room, out_values: Room) -> 1, [2, 4, 12];
     25 merge_mask(
         ends: EndsA, values: ValuesA, mask: Mask, keep: Keep; out_ends: Room, out_values: Room
-    ) -> 1;
+    ) -> 1, [1, 2, 4, 12];
     26 merge_by(
         ends: EndsA, values: ValuesA, code: Comparison; out_ends: Room, out_values: Room
-    ) -> 1;
-    27 merge_plan(ends: Ends, mask: Mask; out_ends: Room, out_offsets: IndexRoom) -> 1;
-    28 group_ids(offsets: GroupOffsets; out_ids: IndexRoom) -> 1;
-    29 sum(ends: EndsA, values: ValuesA;) -> 1;
-    30 reduce(ends: EndsA, values: ValuesA, code: Reduction, ddof: Ddof;) -> 4;
+    ) -> 1, [1, 2, 4, 12];
+    27 merge_plan(ends: Ends, mask: Mask; out_ends: Room, out_offsets: IndexRoom) -> 1, [1, 2, 4, 12];
+    28 group_ids(offsets: GroupOffsets; out_ids: IndexRoom) -> 1, [3, 12];
+    29 sum(ends: EndsA, values: ValuesA;) -> 1, [2, 4];
+    30 reduce(ends: EndsA, values: ValuesA, code: Reduction, ddof: Ddof;) -> 4, [1, 2, 4];
     43 slice_reduce(
         ends: EndsA, values: ValuesA, starts: Starts, stops: Stops, code: Reduction, ddof: Ddof;
         out_kinds: KindRoom, out_bits: BitRoom
-    ) -> 1;
+    ) -> 1, [1, 2, 4, 9, 12];
     31 batch_from_parts(
         keys: Keys, offsets: Offsets, ends: FlatEnds, values: FlatValues;
-    ) -> 1;
-    32 batch_position(keys: Keys, key: Key;) -> 2;
+    ) -> 1, [2, 3, 4, 8];
+    32 batch_position(keys: Keys, key: Key;) -> 2, [];
     33 batch_get(
         keys: Keys, offsets: Offsets, ends: FlatEnds, values: FlatValues, key: Key;
         out_ends: Room, out_values: Room
-    ) -> 2;
+    ) -> 2, [2, 3, 4, 12];
     34 batch_getitems(
         keys: Keys, offsets: Offsets, ends: FlatEnds, values: FlatValues,
         get_keys: GetKeys, starts: Starts, stops: Stops;
         out_offsets: IndexRoom, out_ends: Room, out_values: Room
-    ) -> 2;
+    ) -> 2, [2, 3, 4, 9, 12];
     35 batch_slice_reduce(
         keys: Keys, offsets: Offsets, ends: FlatEnds, values: FlatValues,
         get_keys: GetKeys, starts: Starts, stops: Stops, code: Reduction, ddof: Ddof;
         out_kinds: KindRoom, out_bits: BitRoom
-    ) -> 1;
+    ) -> 1, [1, 2, 3, 4, 9, 12];
     36 batch_shift(
         keys: Keys, offsets: Offsets, ends: FlatEnds, values: FlatValues,
         distance: Distance, fill: Value;
         out_keys: KeyRoom, out_offsets: IndexRoom, out_ends: Room, out_values: Room
-    ) -> 2;
+    ) -> 2, [2, 3, 4, 12];
     37 batch_reversed(
         keys: Keys, offsets: Offsets, ends: FlatEnds, values: FlatValues;
         out_keys: KeyRoom, out_offsets: IndexRoom, out_ends: Room, out_values: Room
-    ) -> 2;
+    ) -> 2, [2, 3, 4, 12];
     38 batch_map_rles_slice(
         keys: Keys, offsets: Offsets, ends: FlatEnds, values: FlatValues,
         start: Position, end: Position;
         out_keys: KeyRoom, out_offsets: IndexRoom, out_ends: Room, out_values: Room
-    ) -> 2;
+    ) -> 2, [2, 3, 4, 12];
     39 batch_collapse(
         keys: Keys, offsets: Offsets, ends: FlatEnds, values: FlatValues,
         new_keys: NewKeys, fill: Fill, code: Code;
         out_keys: KeyRoom, out_offsets: IndexRoom, out_ends: Room, out_values: Room,
         scratch_ends: Scratch, scratch_values: Scratch
-    ) -> 2;
+    ) -> 2, [1, 2, 3, 4, 10, 12];
     40 batch_concat(
         a_keys: Keys, a_offsets: Offsets, a_ends: FlatEnds, a_values: FlatValues,
         b_keys: KeysB, b_offsets: OffsetsB, b_ends: FlatEndsB, b_values: FlatValuesB;
         out_keys: KeyRoom, out_offsets: IndexRoom, out_ends: Room, out_values: Room
-    ) -> 2;
+    ) -> 2, [2, 3, 4, 7, 12];
     41 batch_zip_with(
         a_keys: Keys, a_offsets: Offsets, a_ends: FlatEnds, a_values: FlatValues,
         b_keys: KeysB, b_offsets: OffsetsB, b_ends: FlatEndsB, b_values: FlatValuesB,
         how: How, fill_a: Fill, fill_b: Fill, code: Code;
         out_keys: KeyRoom, out_offsets: IndexRoom, out_ends: Room, out_values: Room
-    ) -> 2;
+    ) -> 2, [1, 2, 3, 4, 10, 12];
 }

@@ -73,6 +73,15 @@ pub enum Role {
 }
 
 impl Role {
+    /// Whether the parameter is a buffer of which the call reads nothing.
+    pub fn is_room(self) -> bool {
+        use Role::*;
+        matches!(
+            self,
+            Room | IndexRoom | KeyRoom | KindRoom | BitRoom | Scratch
+        )
+    }
+
     /// Whether the parameter says more of the sequences or intervals of the one `before` it.
     fn continues(self, before: Role) -> bool {
         use Role::*;
@@ -120,8 +129,13 @@ fn rooms(index: usize, role: Role, most: usize) -> Vec<Arg> {
 
 /// Every way to take one out of each of the choices.
 fn combinations<T: Clone>(choices: Vec<Vec<T>>) -> impl Iterator<Item = Vec<T>> {
+    some_combinations(choices, 1)
+}
+
+/// One in `share` of them.
+fn some_combinations<T: Clone>(choices: Vec<Vec<T>>, share: usize) -> impl Iterator<Item = Vec<T>> {
     let count: usize = choices.iter().map(Vec::len).product();
-    (0..count).map(move |mut number| {
+    (0..count).step_by(share).map(move |mut number| {
         let take = |choice: &Vec<T>| {
             let taken = choice[number % choice.len()].clone();
             number /= choice.len();
@@ -520,6 +534,11 @@ pub fn seams(call: &Call) -> Vec<Vec<Arg>> {
 /// Every combination of small arguments. Of buffers there are those of every small length; a call on
 /// batches, which has too many, gets such as fit, are longer, and are short of an entry.
 pub fn small(call: &Call) -> impl Iterator<Item = Vec<Arg>> {
+    some_small(call, 1)
+}
+
+/// One in `share` of the combinations of small arguments.
+pub fn some_small(call: &Call, share: usize) -> impl Iterator<Item = Vec<Arg>> {
     let on_batches = call.takes(Role::Keys);
     let parameters: Vec<(usize, &Parameter)> = call.parameters.iter().enumerate().collect();
     let groups = parameters.chunk_by(|(_, one), (_, next)| next.role.continues(one.role));
@@ -540,7 +559,7 @@ pub fn small(call: &Call) -> impl Iterator<Item = Vec<Arg>> {
         },
         [] => unreachable!("a group has a parameter"),
     });
-    let combinations = combinations(choices.collect()).map(|groups| groups.concat());
+    let combinations = some_combinations(choices.collect(), share).map(|groups| groups.concat());
     combinations.flat_map(move |args| match on_batches {
         true => fitted(call, args),
         false => vec![args],
@@ -575,7 +594,12 @@ impl Rng {
         Rng(seed)
     }
 
-    fn next(&mut self) -> u64 {
+    /// That of one of several workers: the first has the seed itself.
+    pub fn of_worker(seed: u64, worker: usize) -> Self {
+        Rng(seed.wrapping_add((worker as u64) << 32))
+    }
+
+    pub fn word(&mut self) -> u64 {
         self.0 = self.0.wrapping_add(0x9e37_79b9_7f4a_7c15);
         let mut z = self.0;
         z = (z ^ (z >> 30)).wrapping_mul(0xbf58_476d_1ce4_e5b9);
@@ -585,14 +609,14 @@ impl Rng {
 
     /// A number from 0 up to `bound`, not included.
     pub fn below(&mut self, bound: usize) -> usize {
-        (self.next() % bound as u64) as usize
+        (self.word() % bound as u64) as usize
     }
 
-    fn one_in(&mut self, n: usize) -> bool {
+    pub fn one_in(&mut self, n: usize) -> bool {
         self.below(n) == 0
     }
 
-    fn pick<T: Copy>(&mut self, choices: &[T]) -> T {
+    pub fn pick<T: Copy>(&mut self, choices: &[T]) -> T {
         choices[self.below(choices.len())]
     }
 
@@ -600,7 +624,7 @@ impl Rng {
     fn number(&mut self) -> i64 {
         let near = self.below(7) as i64 - 3;
         match self.below(5) {
-            0 => self.next() as i64,
+            0 => self.word() as i64,
             1 => i64::MAX.wrapping_add(near),
             2 => {
                 // Floats from 2^53 * half on are 2 * half apart.
@@ -928,7 +952,7 @@ impl Drawn {
                 let runs = column.runs.len();
                 let one_in = rng.pick(&[1, 2, 2, 4, 8]);
                 let byte = |_| match rng.below(200) {
-                    0 => rng.next() as u8,
+                    0 => rng.word() as u8,
                     _ => rng.one_in(one_in).into(),
                 };
                 Arg::Bytes((1..runs).map(byte).collect())
@@ -1209,19 +1233,19 @@ fn damage(arg: &mut Arg, rng: &mut Rng) {
         Arg::Bytes(list) => match (rng.below(3), list.len()) {
             (0, _) => drop(list.pop()),
             (1, _) | (_, 0) => list.push(rng.pick(&[0, 1, 2])),
-            (_, length) => list[rng.below(length)] = rng.next() as u8,
+            (_, length) => list[rng.below(length)] = rng.word() as u8,
         },
         Arg::Number(number) => *number = damaged(*number, rng),
         Arg::Count(count) => {
             *count = match rng.below(3) {
                 0 => count.wrapping_sub(1),
                 1 => count.wrapping_add(1),
-                _ => rng.next() as usize,
+                _ => rng.word() as usize,
             }
         }
-        Arg::Key(key) => *key = rng.next() as u32,
+        Arg::Key(key) => *key = rng.word() as u32,
         Arg::Fill(fill) => fill.given = u64::from(fill.given == 0),
-        Arg::Code(code) => *code = rng.next() as u8,
+        Arg::Code(code) => *code = rng.word() as u8,
     }
 }
 

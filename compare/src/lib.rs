@@ -6,6 +6,10 @@
 // A call takes as many as it takes.
 #![allow(clippy::too_many_arguments)]
 
+use rayon::ThreadPoolBuilder;
+use std::thread;
+use std::time::{Duration, Instant};
+
 pub mod answer;
 pub mod call;
 #[cfg(feature = "library")]
@@ -15,9 +19,32 @@ pub mod inputs;
 pub mod library;
 pub mod naive;
 pub mod original;
+pub mod tally;
 
-/// Runs this on a thread of rayon's pool. There the original does its work at once; from any other
-/// thread each of its calls on batches would hand it over and wait.
+/// Runs this on the one thread of a pool of rayon's. There the original does its work at once; from
+/// any other thread each of its calls on batches would hand it over and wait.
 pub fn in_pool<R: Send>(run: impl FnOnce() -> R + Send) -> R {
-    rayon::scope(|_| run())
+    let pool = ThreadPoolBuilder::new().num_threads(1).build();
+    pool.expect("a thread can be started").install(run)
+}
+
+/// Runs this for each of so many workers at once, in a pool of its own.
+pub fn in_workers<R: Send>(workers: usize, run: impl Fn(usize) -> R + Sync) -> Vec<R> {
+    let run = &run;
+    thread::scope(|scope| {
+        let start = |worker| scope.spawn(move || in_pool(|| run(worker)));
+        let threads: Vec<_> = (0..workers).map(start).collect();
+        let results = threads.into_iter().map(|thread| thread.join());
+        results
+            .map(|result| result.expect("no worker panics"))
+            .collect()
+    })
+}
+
+/// Goes on until the time is over.
+pub fn repeat_for(time: Duration, mut cases: impl FnMut()) {
+    let end = Instant::now() + time;
+    while Instant::now() < end {
+        cases();
+    }
 }

@@ -1,13 +1,18 @@
-//! The differential run: compare SECONDS SEED
+//! The differential run: compare SECONDS SEED CORES SHARE
+//!
+//! So many workers share the small inputs, of which one in SHARE is looked at; each then has random
+//! ones of its own seed.
 
 use compare::call::{Arg, CALLS, Call};
 use compare::cutting::{self, COMBINATIONS, Job, Joined, Side};
 use compare::inputs::{self, Rng};
+use compare::repeat_for;
+use compare::tally::{Seen, Tally};
 use std::collections::BTreeMap;
 use std::env;
-use std::fmt;
 use std::process::ExitCode;
-use std::time::{Duration, Instant};
+use std::sync::atomic::{AtomicUsize, Ordering};
+use std::time::Duration;
 
 /// The differences that are printed in full.
 const PRINTED: u64 = 10;
@@ -18,42 +23,13 @@ const BATCH: usize = 256;
 /// The part of the time in which jobs are cut: one in so many.
 const CUTTING: u32 = 5;
 
-/// Cases by document 01's refusal, 0 standing for an answer.
-#[derive(Default)]
-struct Seen(BTreeMap<u64, u64>);
-
-impl Seen {
-    fn add(&mut self, refusal: u64) {
-        *self.0.entry(refusal).or_default() += 1;
-    }
-}
-
-impl fmt::Display for Seen {
-    fn fmt(&self, f: &mut fmt::Formatter<'_>) -> fmt::Result {
-        self.0
-            .iter()
-            .try_for_each(|(refusal, cases)| match refusal {
-                0 => write!(f, " {cases} answers"),
-                _ => write!(f, ", {cases} of {refusal}"),
-            })
-    }
-}
-
 #[derive(Default)]
 struct Comparison {
-    cases: u64,
+    tally: Tally,
     cut_jobs: u64,
     differences: u64,
-    /// By call.
-    seen: BTreeMap<u8, Seen>,
     /// Jobs by their call, for each side.
     cut: BTreeMap<&'static str, [Seen; 2]>,
-}
-
-fn print_args(call: &Call, args: &[Arg]) {
-    for (parameter, arg) in call.parameters.iter().zip(args) {
-        println!("    {} = {arg}", parameter.name);
-    }
 }
 
 impl Comparison {
@@ -67,23 +43,21 @@ impl Comparison {
         let naive = call.naive(&args);
         let original = call.original(&args, &naive);
         let library = call.library(&args);
-        self.cases += 1;
-        let seen = self.seen.entry(call.number).or_default();
-        seen.add(naive.answer.refusal.number);
+        self.tally.add(call, naive.answer.refusal.number);
         if library == naive && original.as_ref().is_none_or(|original| *original == naive) {
             return;
         }
         if !self.print_difference() {
             return;
         }
-        println!("{} differs:", call.name);
-        print_args(call, &args);
         let outside = "outside its domain".to_string();
         let original = original.map_or(outside, |outcome| outcome.to_string());
-        println!("  refusal, values, position; counts; buffers:");
-        println!("    library  {library}");
-        println!("    original {original}");
-        println!("    naive    {naive}");
+        println!(
+            "{} differs:\n{}  refusal, values, position; counts; buffers:\n    library  {library}\n    \
+             original {original}\n    naive    {naive}",
+            call.name,
+            call.shown(&args)
+        );
     }
 
     /// Each side does the job, whole and in pieces. What they make of it is the same, and what is
@@ -109,24 +83,39 @@ impl Comparison {
         if differences.is_empty() || !self.print_difference() {
             return;
         }
-        println!("{} cut differs:", job.call.name);
-        print_args(job.call, &job.groups.concat());
-        println!("    cut points = {}", Arg::List(job.points.clone()));
-        for difference in differences {
-            println!("  {difference}");
+        println!(
+            "{} cut differs:\n{}    cut points = {}\n  {}",
+            job.call.name,
+            job.call.shown(&job.groups.concat()),
+            Arg::List(job.points.clone()),
+            differences.join("\n  ")
+        );
+    }
+
+    /// The comparisons of all workers as one.
+    fn added(mut self, other: Comparison) -> Self {
+        self.tally.add_all(&other.tally);
+        self.cut_jobs += other.cut_jobs;
+        self.differences += other.differences;
+        for (name, sides) in other.cut {
+            let seen = self.cut.entry(name).or_default();
+            seen.iter_mut()
+                .zip(&sides)
+                .for_each(|(seen, more)| seen.add_all(more));
         }
+        self
     }
 
     fn report(&self) -> ExitCode {
-        for call in CALLS {
-            println!("{}:{}", call.name, self.seen[&call.number]);
-        }
+        print!("{}", self.tally);
         for (name, [library, original]) in &self.cut {
             println!("{name}, cut: library{library}; original{original}");
         }
         println!(
             "{} cases, {} cut jobs, {} differences",
-            self.cases, self.cut_jobs, self.differences
+            self.tally.cases(),
+            self.cut_jobs,
+            self.differences
         );
         match self.differences {
             0 => ExitCode::SUCCESS,
@@ -135,46 +124,59 @@ impl Comparison {
     }
 }
 
+struct Run {
+    time: Duration,
+    seed: u64,
+    /// Of the small inputs one in so many.
+    share: usize,
+    /// How many calls have their small inputs given out.
+    given_out: AtomicUsize,
+}
+
+impl Run {
+    /// What one of the workers compares.
+    fn worker(&self, worker: usize) -> Comparison {
+        let mut comparison = Comparison::default();
+        while let Some(call) = CALLS.get(self.given_out.fetch_add(1, Ordering::Relaxed)) {
+            let small = inputs::some_small(call, self.share);
+            let inputs = inputs::seams(call).into_iter().chain(small);
+            inputs.for_each(|args| comparison.compare(call, args));
+        }
+        let cutting = self.time / CUTTING;
+        let mut rng = Rng::of_worker(self.seed, worker);
+        repeat_for(self.time - cutting, || {
+            for call in CALLS.iter().filter(|call| call.takes_arguments()) {
+                for _ in 0..BATCH {
+                    comparison.compare(call, inputs::random(call, &mut rng).0);
+                }
+            }
+        });
+        let (seam, joined) = cutting::seam();
+        comparison.cut(&seam, Some(joined));
+        // The same jobs for the same seed.
+        let mut rng = Rng::of_worker(self.seed, worker);
+        repeat_for(cutting, || {
+            for name in COMBINATIONS {
+                comparison.cut(&Job::random(Call::named(name), &mut rng), None);
+            }
+        });
+        comparison
+    }
+}
+
 fn main() -> ExitCode {
     let numbers: Result<Vec<u64>, _> = env::args().skip(1).map(|word| word.parse()).collect();
-    let Ok([seconds, seed]) = numbers.as_deref() else {
-        eprintln!("usage: compare SECONDS SEED");
+    let Ok([seconds, seed, cores @ (1..), share @ (1..)]) = numbers.as_deref() else {
+        eprintln!("usage: compare SECONDS SEED CORES SHARE");
         return ExitCode::from(2);
     };
-    compare::in_pool(|| compare(Duration::from_secs(*seconds), *seed))
-}
-
-/// Goes on until the time is over.
-fn repeat_for(time: Duration, mut cases: impl FnMut()) {
-    let end = Instant::now() + time;
-    while Instant::now() < end {
-        cases();
-    }
-}
-
-fn compare(time: Duration, seed: u64) -> ExitCode {
-    let mut comparison = Comparison::default();
-    for call in CALLS {
-        let inputs = inputs::seams(call).into_iter().chain(inputs::small(call));
-        inputs.for_each(|args| comparison.compare(call, args));
-    }
-    let cutting = time / CUTTING;
-    let mut rng = Rng::new(seed);
-    repeat_for(time - cutting, || {
-        for call in CALLS.iter().filter(|call| call.takes_arguments()) {
-            for _ in 0..BATCH {
-                comparison.compare(call, inputs::random(call, &mut rng).0);
-            }
-        }
-    });
-    let (seam, joined) = cutting::seam();
-    comparison.cut(&seam, Some(joined));
-    // The same jobs for the same seed.
-    let mut rng = Rng::new(seed);
-    repeat_for(cutting, || {
-        for name in COMBINATIONS {
-            comparison.cut(&Job::random(Call::named(name), &mut rng), None);
-        }
-    });
-    comparison.report()
+    let run = Run {
+        time: Duration::from_secs(*seconds),
+        seed: *seed,
+        share: *share as usize,
+        given_out: AtomicUsize::new(0),
+    };
+    let comparisons = compare::in_workers(*cores as usize, |worker| run.worker(worker));
+    let all = comparisons.into_iter().reduce(Comparison::added);
+    all.unwrap_or_default().report()
 }
