@@ -4,3 +4,4 @@ pub mod Doubles
 pub mod Once
 pub mod Shares
 pub mod Slots
+pub mod Indexing

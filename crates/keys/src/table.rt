@@ -13,7 +13,7 @@ const REACH: usize = 256;
 // A prime near 2^32 divided by the golden ratio.
 const FACTOR: u64 = 2_654_435_761;
 
-fn mixed(key: u32) -> u64
+pub fn mixed(key: u32) -> u64
     ensures { λ r. ⌜ r ≡ mixed key ⌝ }
 {
     (key as u64) * FACTOR % 0x1_0000_0000
