@@ -13,8 +13,9 @@ use borrow.Author.Tests.{eqb-true, eqb-false, ltb-true, ltb-false}
 use borrow.Author.Count.{below-more}
 use Rattle.num.proofs.Tests.{by-test}
 use Rattle.keys.specs.Keys.{lowest}
-use Rattle.keys.specs.Workers.{mixed, shareIn, homeIn, Empty, keyIn, Sought, Stored, Indexed, Entered, NextOfShare, FoundBefore, FoundAll, BlockEnd, BlockFound, Kept}
+use Rattle.keys.specs.Workers.{mixed, shareIn, homeIn, Slots, Empty, keyIn, Sought, Stored, Indexed, Entered, NextOfShare, FoundBefore, FoundAll, BlockEnd, BlockFound, Kept}
 use Rattle.keys.proofs.Lowest.{no-test, lowest-is}
+use Rattle.keys.proofs.Doubles.{among-none, among-at}
 
 -- ---- shares
 
@@ -59,6 +60,11 @@ module _ (ks table : List ℕ) (home key : ℕ) where
             other = below-more (λ x. keyIn ks table (home + x) ≡ key → ⊥) d (s .other) (λ x. k (rw e x));
           }
 
+-- ---- what the search requires
+
+pub index-slots : {ks : List ℕ} {shares part : ℕ} {table : List ℕ} {n : ℕ} → Indexed ks shares part table n → n ≤ length ks → Slots ks table
+index-slots x h = (x .room, λ s. omega (arith, x .slots s))
+
 -- ---- a key that the search did not find is not stored
 
 module _ {ks table : List ℕ} {home key r : ℕ} (s : Sought ks table home key r) (t : Stored ks table home key) where
@@ -93,7 +99,7 @@ module _ {ks : List ℕ} {shares : ℕ} (key : ℕ) {table : List ℕ} (x : Inde
     looked-found f n =
         let full : Empty table (home + r) → ⊥ = λ y. n (e ∙ y) in
         let k : getD ks (held - 1) 0 ≡ key = rw (← e) at (s .here (omega (arith, s .within)) full) in
-        lowest-is key ks (held - 1) (omega (arith, x .slots .1 (home + r)))
+        lowest-is key ks (held - 1) (omega (arith, x .slots (home + r)))
         (λ j l y. x .first (home + r) full j (omega arith) (rw (← e) (y ∙ sym k))) (λ l. k)
 
 -- ---- a key more
@@ -101,19 +107,24 @@ module _ {ks : List ℕ} {shares : ℕ} (key : ℕ) {table : List ℕ} (x : Inde
 module _ {ks : List ℕ} {shares i : ℕ} {table : List ℕ} (x : Indexed ks shares (shareIn shares (getD ks i 0)) table i) (h : i < length ks)
     {home r : ℕ} (eh : home ≡ homeIn shares (getD ks i 0)) (s : Sought ks table home (getD ks i 0) r) where
   pub entered-far : Entered ks shares i table (length ks)
-  entered-far = record { indexed = λ n. absurd (n refl) }
+  entered-far = record { new = λ n. absurd (n refl); old = λ n. absurd (n refl); indexed = λ n. absurd (n refl) }
 
   module _ (near : r ≡ 256 → ⊥) where
     pub slot-within : home + r < 33024
     slot-within = omega (arith, s .within, home-within shares (getD ks i 0) eh)
 
     -- it stands there
-    pub entered-old : {held : ℕ} → held ≡ getD table (home + r) 0 → 0 < held → {n : ℕ} → Entered ks shares i table n
-    entered-old e p =
+    pub entered-old : {held : ℕ} → held ≡ getD table (home + r) 0 → 0 < held → Entered ks shares i table (held - 1)
+    entered-old {held} e p =
         let full : Empty table (home + r) → ⊥ = λ y. omega arith in
+        let k : getD ks (held - 1) 0 ≡ getD ks i 0 = rw (← e) at (s .here (omega (arith, s .within)) full) in
+        let l : held ≤ i = omega (arith, x .slots (home + r)) in
         record {
+          new = λ m n. let v : ⊥ = omega arith in absurd v;
+          old = λ m n. among-at (getD ks i 0) ks i (held - 1) (omega arith) (omega arith) (sym k);
           indexed = λ m. record {
-            slots = x .slots;
+            room = x .room;
+            slots = λ t. omega (arith, x .slots t);
             stored = below-more (λ j. shareIn shares (getD ks j 0) ≡ shareIn shares (getD ks i 0) → Stored ks table (homeIn shares (getD ks j 0)) (getD ks j 0)) i (x .stored)
                 (λ y. rw (← eh) (record { distance = r; reach = omega (arith, s .within); slot = full; same = s .here (omega (arith, s .within)) full; full = s .taken }));
             first = x .first;
@@ -129,7 +140,7 @@ module _ {ks : List ℕ} {shares i : ℕ} {table : List ℕ} (x : Indexed ks sha
       after = set table (home + r) (i + 1)
 
       put : getD after (home + r) 0 ≡ i + 1
-      put = getD-set-same table (home + r) (i + 1) 0 (omega (arith, slot-within, x .slots .0))
+      put = getD-set-same table (home + r) (i + 1) 0 (omega (arith, slot-within, x .room))
 
       other : (t : ℕ) → (t ≡ home + r → ⊥) → getD after t 0 ≡ getD table t 0
       other t n = getD-set-other table (home + r) t (i + 1) 0 n
@@ -160,13 +171,13 @@ module _ {ks : List ℕ} {shares i : ℕ} {table : List ℕ} (x : Indexed ks sha
       pub entered-new : Entered ks shares i after i
       entered-new =
           record {
+            new = λ m n. among-none (getD ks i 0) ks i (omega arith) (λ j l y. unstored-empty s (rw (← y, ← eh) at (x .stored j l (rw y))) free);
+            old = λ m n. let v : ⊥ = omega arith in absurd v;
             indexed = λ m. record {
-              slots = (
-                length-set table (home + r) (i + 1) ∙ x .slots .0,
-                λ t. by-test (eqb t (home + r))
-                    (λ w. rw (eqb-true t (home + r) w, put) (omega arith))
-                    (λ w. rw (other t (eqb-false t (home + r) w)) (x .slots .1 t)),
-              );
+              room = length-set table (home + r) (i + 1) ∙ x .room;
+              slots = λ t. by-test (eqb t (home + r))
+                  (λ w. rw (eqb-true t (home + r) w, put) (omega arith))
+                  (λ w. rw (other t (eqb-false t (home + r) w)) (omega (arith, x .slots t)));
               stored = below-more (λ j. shareIn shares (getD ks j 0) ≡ shareIn shares (getD ks i 0) → Stored ks after (homeIn shares (getD ks j 0)) (getD ks j 0)) i
                   (λ j l y. kept (x .stored j l y)) (λ y. rw (← eh) new);
               first = λ t n j l y. by-test (eqb t (home + r))
@@ -219,7 +230,8 @@ none (suc n) (suc s) = none n s
 pub index-start : (ks : List ℕ) (shares part : ℕ) → Indexed ks shares part (replicate 33024 0) 0
 index-start ks shares part =
     record {
-      slots = (length-replicate {A = ℕ} 33024 0, λ s. omega (arith, none 33024 s));
+      room = length-replicate {A = ℕ} 33024 0;
+      slots = λ s. omega (arith, none 33024 s);
       stored = λ j h. let z : ⊥ = omega arith in absurd z;
       first = λ s n. absurd (n (none 33024 s));
     }
@@ -229,7 +241,8 @@ module _ (ks : List ℕ) (shares part : ℕ) where
   filling {table} {n} {i} x s =
       record {
         indexed = record {
-          slots = x .slots;
+          room = x .room;
+          slots = λ t. omega (arith, x .slots t, s .after);
           stored = λ j h e. by-test (ltb j n) (λ l. x .stored j (ltb-true j n l) e) (λ l. absurd (s .before j (ltb-false j n l) h e));
           first = x .first;
         };

@@ -49,31 +49,6 @@ every k = true
 abbrev pub mixed : ℕ → ℕ
 mixed key = key * 2654435761 % 2 ^ 32
 
--- the share of a key, where there are 2 ^ (32 - shift)
-abbrev pub shareOf : ℕ → ℕ → ℕ
-shareOf shift key = mixed key / 2 ^ shift
-
--- the slot at which the search for a key begins
-abbrev pub homeOf : ℕ → ℕ → ℕ
-homeOf shift key = mixed key / 2 ^ (shift - 13) % 8192
-
--- the slots from `home` on up to r hold neither the key nor nothing, and the slot there, if within reach, does
-pub record Probed (table : List ℕ) (home key empty r : ℕ) : Type 0 where
-  pub within : r ≤ 256
-  pub before : (d : ℕ) → d < r → (eqb (getD table (home + d) 0) key || eqb (getD table (home + d) 0) empty) ≡ false
-  pub here : r < 256 → (eqb (getD table (home + r) 0) key || eqb (getD table (home + r) 0) empty) ≡ true
-
--- r is the lowest position, from `from` up to `limit`, of a key of the share, or the limit
-pub record NextInShare (ks : List ℕ) (shift share from limit r : ℕ) : Type 0 where
-  pub after : from ≤ r
-  pub within : r ≤ limit
-  pub before : (i : ℕ) → from ≤ i → i < r → eqb (shareOf shift (getD ks i 0)) share ≡ false
-  pub here : r < limit → eqb (shareOf shift (getD ks r 0)) share ≡ true
-
--- the keys of a share up to a limit, if the table had room for them
-pub record PassedShare (ks : List ℕ) (shift share limit : ℕ) (r : Passed) : Type 0 where
-  pub found : r .full ≡ false → FirstDouble (λ k. eqb (shareOf shift k) share) ks limit (r .at)
-
 -- ---- the positions of the keys of a share, in a table
 
 -- the share of a key, where there are so many
@@ -112,12 +87,15 @@ pub record Stored (ks table : List ℕ) (home key : ℕ) : Type 0 where
 
 -- the keys of a share among the first n are in the table, each with its lowest position
 pub record Indexed (ks : List ℕ) (shares part : ℕ) (table : List ℕ) (n : ℕ) : Type 0 where
-  pub slots : Slots ks table
+  pub room : length table ≡ 33024
+  pub slots : (s : ℕ) → getD table s 0 ≤ n
   pub stored : (j : ℕ) → j < n → shareIn shares (getD ks j 0) ≡ part → Stored ks table (homeIn shares (getD ks j 0)) (getD ks j 0)
   pub first : (s : ℕ) → (Empty table s → ⊥) → (j : ℕ) → j < getD table s 0 - 1 → getD ks j 0 ≡ keyIn ks table s → ⊥
 
--- the key at i has been put into the table, if r is a position
+-- the key at i has been put into the table, if r is a position: its lowest
 pub record Entered (ks : List ℕ) (shares i : ℕ) (table : List ℕ) (r : ℕ) : Type 0 where
+  pub new : (r ≡ length ks → ⊥) → i ≤ r → doubled ks i ≡ false
+  pub old : (r ≡ length ks → ⊥) → r < i → doubled ks i ≡ true
   pub indexed : (r ≡ length ks → ⊥) → Indexed ks shares (shareIn shares (getD ks i 0)) table (i + 1)
 
 -- r is the lowest position from `from` on of a key of the share, or how many keys there are
@@ -126,6 +104,10 @@ pub record NextOfShare (ks : List ℕ) (shares part from r : ℕ) : Type 0 where
   pub within : r ≤ length ks
   pub before : (i : ℕ) → from ≤ i → i < r → shareIn shares (getD ks i 0) ≡ part → ⊥
   pub here : r < length ks → shareIn shares (getD ks r 0) ≡ part
+
+-- the keys of a share up to a limit, if the table had room for them
+pub record PassedShare (ks : List ℕ) (shares part limit : ℕ) (r : Passed) : Type 0 where
+  pub found : r .full ≡ false → FirstDouble (λ k. eqb (shareIn shares k) part) ks limit (r .at)
 
 -- the positions of the wanted keys of the shares before `part` are found
 pub record FoundBefore (ks ws : List ℕ) (shares part : ℕ) (fs : List ℕ) : Type 0 where

@@ -1,5 +1,5 @@
 // Searches for a key. Each finds its lowest position, or how many keys there are.
-mod index;
+pub mod index;
 
 use crate::Order;
 ghost use Prim.Native.Nat.{_+_, _<_, _^_};

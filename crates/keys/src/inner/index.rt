@@ -1,7 +1,6 @@
 // The positions of many keys at once. The keys are dealt out into shares by their bits, and a share at a time is put into a table on the stack,
 // in which each key that is looked for and of that share is found. A slot holds 0, or one more than a position.
 use crate::inner;
-use crate::table::mixed;
 ghost use Prim.Native.Nat.{_+_, _≤_, _<_, _^_, _*_};
 ghost use mathlib.Core.Bool.{true};
 ghost use mathlib.Core.Path.{_≡_};
@@ -14,6 +13,15 @@ const REACH: usize = 256;
 
 // How many keys of a share there are if they are dealt out evenly: half as many as the table has slots.
 const SHARE: usize = 16_384;
+
+// A prime near 2^32 divided by the golden ratio.
+const FACTOR: u64 = 2_654_435_761;
+
+fn mixed(key: u32) -> u64
+    ensures { λ r. ⌜ r ≡ mixed key ⌝ }
+{
+    (key as u64) * FACTOR % 0x1_0000_0000
+}
 
 // A key's share and its home are the two halves of this number.
 fn spread(shares: usize, key: u32) -> usize
@@ -64,7 +72,7 @@ fn seek(table: &[u32], keys: &[u32], home: usize, key: u32) -> usize
 
 // Puts the position of the key at i into the table, unless the key stands there; its lowest position, or how many keys there are if there is
 // no room.
-fn enter(table: &mut [u32], keys: &[u32], shares: usize, i: usize) -> usize
+pub fn enter(table: &mut [u32], keys: &[u32], shares: usize, i: usize) -> usize
     requires { ⌜ (shares < 2 ^ 32) × (length (now keys) < 2 ^ 32) × (i < length (now keys)) × Indexed (now keys) shares (shareIn shares (getD (now keys) i 0)) (now table) i ⌝ }
     ensures { λ r. ⌜ Entered (now (keys .entry)) shares i (now (table .exit)) r ⌝ }
 {
@@ -100,7 +108,7 @@ fn look_up(table: &[u32], keys: &[u32], shares: usize, key: u32) -> usize
 }
 
 // The lowest position from `from` on of a key of the share, or how many keys there are.
-fn next_in_share(keys: &[u32], shares: usize, part: usize, from: usize) -> usize
+pub fn next_in_share(keys: &[u32], shares: usize, part: usize, from: usize) -> usize
     requires { ⌜ (shares < 2 ^ 32) × (from ≤ length (now keys)) ⌝ }
     ensures { λ r. ⌜ NextOfShare (now (keys .entry)) shares part from r ⌝ }
 {

@@ -1,4 +1,5 @@
-use Rattle.keys.proofs.Indexing.{entered-far, entered-old, entered-new}
+use native.Mathlib.Omega.{arith}
+use Rattle.keys.proofs.Indexing.{home-within, index-slots, entered-far, entered-old, entered-new}
 use borrow.Author.Needs.{needs}
 use Rattle.keys.proofs.inner.index.enter.Statement.{statement}
 use Rattle.keys.proofs.inner.index.enter.Tie as tie
@@ -13,7 +14,7 @@ home-requires : tie.Need-home-requires
 home-requires c κs = search needs
 
 seek-requires : tie.Need-seek-requires
-seek-requires c κs = search needs
+seek-requires c κs = let s = c .before .before .before .before .before in (index-slots (s .pre .3) (omega (arith, s .pre .2)), home-within _ _ (c .before .home .ensures))
 
 same-length : tie.Need-same-length
 same-length c = search needs

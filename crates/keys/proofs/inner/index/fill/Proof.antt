@@ -42,7 +42,7 @@ loop-again : tie.Need-loop-again Inv-loop μ-loop
 loop-again c = filling-next _ _ _ (c .before .before .before .before .before .before .before .loop .inv) (c .before .before .before .before .before .before .loop-test .taken) (c .before .before .before .before .enter .ensures) (c .before .if1 .left) (c .next-in-share2 .ensures)
 
 same-length-2 : tie.Need-same-length-2 Inv-loop μ-loop
-same-length-2 c = c .before .loop .inv .indexed .slots .0 ∙ sym (c .before .before .before .before .before .pre .2 .slots .0)
+same-length-2 c = c .before .loop .inv .indexed .room ∙ sym (c .before .before .before .before .before .pre .2 .room)
 
 returns-2 : tie.Need-returns-2 Inv-loop μ-loop
 returns-2 c = λ e. filling-end _ _ _ (c .before .loop .inv) (c .loop-test .left)

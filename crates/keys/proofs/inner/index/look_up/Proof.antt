@@ -1,4 +1,5 @@
-use Rattle.keys.proofs.Indexing.{looked-far, looked-empty, looked-found}
+use native.Mathlib.Omega.{arith}
+use Rattle.keys.proofs.Indexing.{home-within, index-slots, looked-far, looked-empty, looked-found}
 use borrow.Author.Needs.{needs}
 use Rattle.keys.proofs.inner.index.look_up.Statement.{statement}
 use Rattle.keys.proofs.inner.index.look_up.Tie as tie
@@ -7,7 +8,7 @@ home-requires : tie.Need-home-requires
 home-requires c κs = search needs
 
 seek-requires : tie.Need-seek-requires
-seek-requires c κs = search needs
+seek-requires c κs = (index-slots (c .before .before .before .pre .1) (omega arith), home-within _ _ (c .home .ensures))
 
 returns : tie.Need-returns
 returns c = looked-far _ (c .before .before .before .before .before .pre .1) (c .before .before .home .ensures) (c .before .seek .ensures) (c .if1 .taken)
