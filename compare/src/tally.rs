@@ -88,15 +88,15 @@ impl fmt::Display for Tally {
     fn fmt(&self, f: &mut fmt::Formatter<'_>) -> fmt::Result {
         writeln!(
             f,
-            "{:22}{:>10}{:>10}  refused, by number",
+            "{:21}{:>9}{:>9}  refused, by number",
             "call", "cases", "answered"
         )?;
         for call in CALLS {
             let mut seen = self.of(call);
             let (cases, answers) = (seen.cases(), seen.0.remove(&0).unwrap_or(0));
-            write!(f, "{:22}{cases:>10}{answers:>10}", call.name)?;
+            write!(f, "{:21}{cases:>9}{answers:>9}", call.name)?;
             for (refusal, cases) in &seen.0 {
-                write!(f, "{:>4}: {cases:<8}", refusal)?;
+                write!(f, "{:>4}: {cases:<7}", refusal)?;
             }
             writeln!(f)?;
         }

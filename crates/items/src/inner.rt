@@ -31,13 +31,14 @@ pub fn count_items(
         (entries (batch (now (keys .entry)) (now (offsets .entry)) (now (ends .entry)) (now (values .entry))))))) ⌝ }
 {
     let mut total: usize = 0;
+    let indexed = keys::inner::index_pays(order, keys.len(), get_keys.len());
+    let mut block = [0u32; 4096];
     let mut at: usize = 0;
     let mut i: usize = 0;
     while i < starts.len() {
-        let key = get_keys[i];
         let start = starts[i];
         let stop = stops[i];
-        at = keys::inner::find(keys, order, at, key);
+        at = keys::inner::find_next(keys, order, at, get_keys, i, indexed, &mut block);
         let touched = search::touched(part_at(offsets, ends, at), start, stop);
         total = num::saturating_add(total, touched.count);
         i += 1;
@@ -65,13 +66,14 @@ pub fn getitems(
 {
     out_offsets[0] = 0;
     let mut used: usize = 0;
+    let indexed = keys::inner::index_pays(order, keys.len(), get_keys.len());
+    let mut block = [0u32; 4096];
     let mut at: usize = 0;
     let mut i: usize = 0;
     while i < starts.len() {
-        let key = get_keys[i];
         let start = starts[i];
         let stop = stops[i];
-        at = keys::inner::find(keys, order, at, key);
+        at = keys::inner::find_next(keys, order, at, get_keys, i, indexed, &mut block);
         let part = part_at(offsets, ends, at);
         let touched = search::touched(part, start, stop);
         used += slice::inner::slice(
@@ -106,13 +108,14 @@ pub fn slice_reduce(
     ensures { λ r. ⌜ FilledReductions (map (reduction code ddof) (itemRuns (now («get_keys» .entry)) (now (starts .entry)) (now (stops .entry)) (entries (batch (now (keys .entry)) (now (offsets .entry)) (now (ends .entry)) (now (values .entry))))))
         (now («out_kinds» .entry)) (now («out_kinds» .exit)) (now («out_bits» .entry)) (now («out_bits» .exit)) r ⌝ }
 {
+    let indexed = keys::inner::index_pays(order, keys.len(), get_keys.len());
+    let mut block = [0u32; 4096];
     let mut at: usize = 0;
     let mut i: usize = 0;
     while i < starts.len() {
-        let key = get_keys[i];
         let start = starts[i];
         let stop = stops[i];
-        at = keys::inner::find(keys, order, at, key);
+        at = keys::inner::find_next(keys, order, at, get_keys, i, indexed, &mut block);
         let reduction = reduce::inner::reduce_slice(
             part_at(offsets, ends, at),
             part_at(offsets, values, at),

@@ -5,9 +5,10 @@ use mathlib.Core.Option.{none}
 use mathlib.Core.List.{List, [], _∷_}
 use mathlib.Core.Path.{_≡_}
 use lib.Dec.{eqb, ltb}
-use lib.ListN.{getD, take}
+use lib.ListN.{length, getD, take}
 use Rattle.column.specs.Lists.{any}
 use Rattle.column.specs.Questions.{distinctKeys}
+use Rattle.keys.specs.Keys.{lowest}
 use Rattle.keys.specs.declared.Order.{Order}
 use Rattle.keys.specs.declared.Order.the-variants.{Ascending, Distinct, Unknown}
 use Rattle.keys.specs.declared.table.Passed.{Passed}
@@ -48,27 +49,88 @@ every k = true
 abbrev pub mixed : ℕ → ℕ
 mixed key = key * 2654435761 % 2 ^ 32
 
--- the share of a key, where there are 2 ^ (32 - shift)
-abbrev pub shareOf : ℕ → ℕ → ℕ
-shareOf shift key = mixed key / 2 ^ shift
+-- ---- the positions of the keys of a share, in a table
 
--- the slot at which the search for a key begins
-abbrev pub homeOf : ℕ → ℕ → ℕ
-homeOf shift key = mixed key / 2 ^ (shift - 13) % 8192
+-- the share of a key, where there are so many
+abbrev pub shareIn : ℕ → ℕ → ℕ
+shareIn shares key = mixed key * shares / 2 ^ 32
 
--- the slots from `home` on up to r hold neither the key nor nothing, and the slot there, if within reach, does
-pub record Probed (table : List ℕ) (home key empty r : ℕ) : Type 0 where
+-- the slot at which the search for its position begins
+abbrev pub homeIn : ℕ → ℕ → ℕ
+homeIn shares key = mixed key * shares % 2 ^ 32 / 131072
+
+-- a slot is empty, or holds one more than a position
+abbrev pub Slots : List ℕ → List ℕ → Type 0
+Slots ks table = (length table ≡ 33024) × ((s : ℕ) → getD table s 0 ≤ length ks)
+
+abbrev pub Empty : List ℕ → ℕ → Type 0
+Empty table s = getD table s 0 ≡ 0
+
+-- the key whose position a slot holds
+abbrev pub keyIn : List ℕ → List ℕ → ℕ → ℕ
+keyIn ks table s = getD ks (getD table s 0 - 1) 0
+
+-- the slots from `home` on up to r hold positions of other keys, and the slot there, if within reach, does not
+pub record Sought (ks table : List ℕ) (home key r : ℕ) : Type 0 where
   pub within : r ≤ 256
-  pub before : (d : ℕ) → d < r → (eqb (getD table (home + d) 0) key || eqb (getD table (home + d) 0) empty) ≡ false
-  pub here : r < 256 → (eqb (getD table (home + r) 0) key || eqb (getD table (home + r) 0) empty) ≡ true
+  pub taken : (d : ℕ) → d < r → Empty table (home + d) → ⊥
+  pub other : (d : ℕ) → d < r → keyIn ks table (home + d) ≡ key → ⊥
+  pub here : r < 256 → (Empty table (home + r) → ⊥) → keyIn ks table (home + r) ≡ key
 
--- r is the lowest position, from `from` up to `limit`, of a key of the share, or the limit
-pub record NextInShare (ks : List ℕ) (shift share from limit r : ℕ) : Type 0 where
+-- a key's position stands behind its home, with no empty slot between
+pub record Stored (ks table : List ℕ) (home key : ℕ) : Type 0 where
+  pub distance : ℕ
+  pub reach : distance < 256
+  pub slot : Empty table (home + distance) → ⊥
+  pub same : keyIn ks table (home + distance) ≡ key
+  pub full : (d : ℕ) → d < distance → Empty table (home + d) → ⊥
+
+-- the keys of a share among the first n are in the table, each with its lowest position
+pub record Indexed (ks : List ℕ) (shares part : ℕ) (table : List ℕ) (n : ℕ) : Type 0 where
+  pub room : length table ≡ 33024
+  pub slots : (s : ℕ) → getD table s 0 ≤ n
+  pub stored : (j : ℕ) → j < n → shareIn shares (getD ks j 0) ≡ part → Stored ks table (homeIn shares (getD ks j 0)) (getD ks j 0)
+  pub first : (s : ℕ) → (Empty table s → ⊥) → (j : ℕ) → j < getD table s 0 - 1 → getD ks j 0 ≡ keyIn ks table s → ⊥
+
+-- the key at i has been put into the table, if r is a position: its lowest
+pub record Entered (ks : List ℕ) (shares i : ℕ) (table : List ℕ) (r : ℕ) : Type 0 where
+  pub new : (r ≡ length ks → ⊥) → i ≤ r → doubled ks i ≡ false
+  pub old : (r ≡ length ks → ⊥) → r < i → doubled ks i ≡ true
+  pub indexed : (r ≡ length ks → ⊥) → Indexed ks shares (shareIn shares (getD ks i 0)) table (i + 1)
+
+-- r is the lowest position from `from` on of a key of the share, or how many keys there are
+pub record NextOfShare (ks : List ℕ) (shares part from r : ℕ) : Type 0 where
   pub after : from ≤ r
-  pub within : r ≤ limit
-  pub before : (i : ℕ) → from ≤ i → i < r → eqb (shareOf shift (getD ks i 0)) share ≡ false
-  pub here : r < limit → eqb (shareOf shift (getD ks r 0)) share ≡ true
+  pub within : r ≤ length ks
+  pub before : (i : ℕ) → from ≤ i → i < r → shareIn shares (getD ks i 0) ≡ part → ⊥
+  pub here : r < length ks → shareIn shares (getD ks r 0) ≡ part
 
 -- the keys of a share up to a limit, if the table had room for them
-pub record PassedShare (ks : List ℕ) (shift share limit : ℕ) (r : Passed) : Type 0 where
-  pub found : r .full ≡ false → FirstDouble (λ k. eqb (shareOf shift k) share) ks limit (r .at)
+pub record PassedShare (ks : List ℕ) (shares part limit : ℕ) (r : Passed) : Type 0 where
+  pub found : r .full ≡ false → FirstDouble (λ k. eqb (shareIn shares k) part) ks limit (r .at)
+
+-- the positions of the wanted keys of the shares before `part` are found
+pub record FoundBefore (ks ws : List ℕ) (shares part : ℕ) (fs : List ℕ) : Type 0 where
+  pub room : length ws ≤ length fs
+  pub found : (j : ℕ) → j < length ws → shareIn shares (getD ws j 0) < part → getD fs j 0 ≡ lowest (getD ws j 0) ks
+
+abbrev pub FoundAll : List ℕ → List ℕ → List ℕ → Type 0
+FoundAll ks ws fs = (j : ℕ) → j < length ws → getD fs j 0 ≡ lowest (getD ws j 0) ks
+
+-- ---- wanted keys in blocks, each found at once
+
+pub record BlockEnd (i wanted r : ℕ) : Type 0 where
+  pub after : i < r
+  pub within : r ≤ wanted
+  pub short : r ≤ i + 4096
+  pub whole : (r ≡ wanted → ⊥) → r ≡ i + 4096
+
+pub record BlockFound (ks ws : List ℕ) (i : ℕ) (bs : List ℕ) (r : ℕ) : Type 0 where
+  pub first : r ≡ lowest (getD ws i 0) ks
+  pub found : (d : ℕ) → d < 4096 → i + d < length ws → getD bs d 0 ≡ lowest (getD ws (i + d) 0) ks
+
+-- before the wanted key at i is looked for: those of its block are found, unless it is the first of the block
+pub record Kept (ks ws : List ℕ) (indexed : Bool) (bs : List ℕ) (i : ℕ) : Type 0 where
+  pub room : length bs ≡ 4096
+  pub few : indexed ≡ true → length ks < 2 ^ 32
+  pub kept : indexed ≡ true → (i % 4096 ≡ 0 → ⊥) → (d : ℕ) → d < 4096 → i / 4096 * 4096 + d < length ws → getD bs d 0 ≡ lowest (getD ws (i / 4096 * 4096 + d) 0) ks

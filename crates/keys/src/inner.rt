@@ -1,4 +1,6 @@
 // Searches for a key. Each finds its lowest position, or how many keys there are.
+pub mod index;
+
 use crate::Order;
 ghost use Prim.Native.Nat.{_+_, _<_, _^_};
 ghost use mathlib.Core.Bool.{true, _&&_, cond};
@@ -6,7 +8,7 @@ ghost use mathlib.Core.Path.{_≡_};
 ghost use lib.Dec.{eqb, ltb};
 ghost use lib.ListN.{length, getD};
 ghost use Rattle.keys.specs.Keys.{lowest};
-ghost use Rattle.keys.specs.Workers.{ascends, Known};
+ghost use Rattle.keys.specs.Workers.{ascends, Known, BlockEnd, BlockFound, Kept};
 
 // One key after another.
 pub fn scan(keys: &[u32], key: u32) -> usize
@@ -81,4 +83,68 @@ pub fn find(keys: &[u32], order: Order, near: usize, key: u32) -> usize
         }
         Order::Unknown => scan(keys, key),
     }
+}
+
+// How many wanted keys are looked for at once.
+const BLOCK: usize = 4096;
+
+// Where it is quicker to put the keys into a table than to search for each wanted one.
+pub fn index_pays(order: Order, keys: usize, wanted: usize) -> bool
+    ensures { λ r. ⌜ (r ≡ true → keys < 2 ^ 32) ⌝ }
+{
+    match order {
+        Order::Ascending => return false,
+        Order::Distinct | Order::Unknown => {}
+    }
+    if keys < 128 {
+        return false;
+    }
+    if wanted < 64 {
+        return false;
+    }
+    keys < 0x1_0000_0000
+}
+
+fn block_end(i: usize, wanted: usize) -> usize
+    requires { ⌜ i < wanted ⌝ }
+    ensures { λ r. ⌜ BlockEnd i wanted r ⌝ }
+{
+    if wanted - i < BLOCK {
+        wanted
+    } else {
+        i + BLOCK
+    }
+}
+
+// Finds the wanted keys of the block at i; the lowest position of the first.
+fn find_block(keys: &[u32], wanted: &[u32], i: usize, block: &mut [u32]) -> usize
+    requires { ⌜ (length (now keys) < 2 ^ 32) × (i < length (now wanted)) × (length (now block) ≡ 4096) ⌝ }
+    ensures { λ r. ⌜ BlockFound (now (keys .entry)) (now (wanted .entry)) i (now (block .exit)) r ⌝ }
+{
+    let end = block_end(i, wanted.len());
+    index::find_all(keys, &wanted[i..end], &mut *block);
+    index::widened(block[0])
+}
+
+// The lowest position of the wanted key at i, those before it having been looked for. With an index, a block of them is found at once and kept.
+pub fn find_next(
+    keys: &[u32],
+    order: Order,
+    near: usize,
+    wanted: &[u32],
+    i: usize,
+    indexed: bool,
+    block: &mut [u32],
+) -> usize
+    requires { ⌜ Known order (now keys) × (i < length (now wanted)) × Kept (now keys) (now wanted) indexed (now block) i ⌝ }
+    ensures { λ r. ⌜ (r ≡ lowest (getD (now (wanted .entry)) i 0) (now (keys .entry))) × Kept (now (keys .entry)) (now (wanted .entry)) indexed (now (block .exit)) (i + 1) ⌝ }
+{
+    if indexed {
+        let slot = i % BLOCK;
+        if slot == 0 {
+            return find_block(keys, wanted, i, block);
+        }
+        return index::widened(block[slot]);
+    }
+    find(keys, order, near, wanted[i])
 }

@@ -1,11 +1,13 @@
-use Prim.Native.Nat.{_+_, _-_, _≤_}
+use Prim.Native.Nat.{ℕ, _+_, _-_, _≤_}
 use mathlib.Core.List.{[]}
-use mathlib.Core.Path.{refl}
+use mathlib.Core.Path.{refl, sym}
 use native.Mathlib.Omega.{arith}
 use denote.Ref.{now}
-use lib.ListN.{length, getD, take, drop, length-set}
+use lib.ListN.{length, getD, take, drop, length-set, length-replicate}
 use Rattle.num.proofs.Bits.{back}
 use Rattle.column.specs.Runs.{Filled}
+use Rattle.keys.specs.Workers.{Kept}
+use Rattle.keys.proofs.Indexing.{kept-start}
 use Rattle.slice.proofs.Items.{Laying}
 use Rattle.batch.specs.Batch.{batch, entries}
 use Rattle.items.specs.Items.{itemRuns}
@@ -15,43 +17,35 @@ use Rattle.items.proofs.inner.getitems.Statement.{statement}
 use Rattle.items.proofs.inner.getitems.Tie as tie
 
 abbrev Inv-loop : tie.InvT-loop
-Inv-loop keys offsets ends values order get-keys starts stops out-offsets₀ out-ends₀ out-values₀ used₀ at₀ i₀ out-offsets out-ends out-values used at i =
+Inv-loop keys offsets ends values order get-keys starts stops out-offsets₀ out-ends₀ out-values₀ used₀ indexed block₀ at₀ i₀ out-offsets out-ends out-values used block at i =
     Laying (itemRuns get-keys starts stops (entries (batch keys offsets ends values))) out-offsets₀ out-offsets out-ends₀ out-ends out-values₀ out-values used i
+    × Kept keys get-keys indexed block i
 
 abbrev μ-loop : tie.MeasureT-loop
-μ-loop keys offsets ends values order get-keys starts stops out-offsets₀ out-ends₀ out-values₀ used₀ at₀ i₀ out-offsets out-ends out-values used at i = length starts - i
+μ-loop keys offsets ends values order get-keys starts stops out-offsets₀ out-ends₀ out-values₀ used₀ indexed block₀ at₀ i₀ out-offsets out-ends out-values used block at i = length starts - i
 
 -- the room for the next slice
-room : (c : tie.In-loop Inv-loop μ-loop) → let l = c .before in let a = l .before .before .before .before .before .args in
+room : (c : tie.In-loop Inv-loop μ-loop) → let l = c .before in let a = c .before .before .before .before .before .before .before .args in
     let n = l .loop .used + length (getD (itemRuns (now (a .get-keys)) (now (a .starts)) (now (a .stops)) (entries (batch (now (a .keys)) (now (a .offsets)) (now (a .ends)) (now (a .values))))) (l .loop .i) []) in
     (n ≤ length (l .loop .out-ends)) × (n ≤ length (l .loop .out-values))
-room c = let l = c .before in laid-room (l .before .before .before .before .before .pre .0) (l .loop .inv) (c .loop-test .taken)
+room c = laid-room (c .before .before .before .before .before .before .before .pre .0) (c .before .loop .inv .0) (c .loop-test .taken)
 
 -- what the worker left in the rest of the buffers
-wrote : (c : tie.After-slice Inv-loop μ-loop) → let l = c .before .before .before .before .before .before .before .before .before .before .before in let a = l .before .before .before .before .before .args in
+wrote : (c : tie.After-slice Inv-loop μ-loop) → let l = c .before .before .before .before .before .before .before .before .before .before .before .before in let a = c .before .before .before .before .before .before .before .before .before .before .before .before .before .before .before .before .before .before .args in
     Filled (getD (itemRuns (now (a .get-keys)) (now (a .starts)) (now (a .stops)) (entries (batch (now (a .keys)) (now (a .offsets)) (now (a .ends)) (now (a .values))))) (l .loop .i) [])
     (take (length (l .loop .out-ends) - l .loop .used) (drop (l .loop .used) (l .loop .out-ends))) (c .slice .last .1 .1 .1 .0)
     (take (length (l .loop .out-values) - l .loop .used) (drop (l .loop .used) (l .loop .out-values))) (c .slice .last .1 .1 .1 .1 .0) (c .slice .result)
-wrote c = let v = c .before .before .before in
-    let d = v .before in
-    let p = d .before in
-    let f = p .before in
-    let t = f .before in
-    let n = t .before .before .before in
-    item-filled (n .before .before .before .before .before .before .pre .0 .intervals) (n .loop-test .taken) (back _ (t .before .start .given)) (back _ (t .stop .given)) refl
-    (f .find .ensures) (p .part-at .ensures) (d .touched .ensures) (v .part-at2 .ensures) (c .slice .ensures)
+wrote c = item-filled (c .before .before .before .before .before .before .before .before .before .before .before .before .before .before .before .before .before .before .pre .0 .intervals) (c .before .before .before .before .before .before .before .before .before .before .before .loop-test .taken) (back _ (c .before .before .before .before .before .before .before .before .before .before .start .given)) (back _ (c .before .before .before .before .before .before .before .before .before .stop .given)) refl
+    (c .before .before .before .before .before .before .before .find-next .ensures .0) (c .before .before .before .before .before .part-at .ensures) (c .before .before .before .before .touched .ensures) (c .before .before .before .part-at2 .ensures) (c .slice .ensures)
 
 slice-write-out-offsets : tie.Need-slice-write-out-offsets Inv-loop μ-loop
 slice-write-out-offsets c = omega (arith, c .before .before .before .before .pre .0 .room-offsets)
 
+index-pays-requires : tie.Need-index-pays-requires Inv-loop μ-loop
+index-pays-requires c κs = search needs
+
 loop-holds : tie.Need-loop-holds Inv-loop μ-loop
-loop-holds c = laid-start (c .before .before .before .before .pre .0)
-
-mul-key : tie.Need-mul-key Inv-loop μ-loop
-mul-key c = search needs
-
-shared-slice-read-key : tie.Need-shared-slice-read-key Inv-loop μ-loop
-shared-slice-read-key c = omega (arith, c .before .loop-test .taken, c .before .before .before .before .before .before .before .pre .0 .intervals .keyed)
+loop-holds c = (laid-start (c .before .before .before .before .before .pre .0), kept-start (length-replicate {A = ℕ} 4096 0) (c .index-pays .ensures))
 
 mul-start : tie.Need-mul-start Inv-loop μ-loop
 mul-start c = search needs
@@ -63,10 +57,13 @@ mul-stop : tie.Need-mul-stop Inv-loop μ-loop
 mul-stop c = search needs
 
 shared-slice-copy-out-stop : tie.Need-shared-slice-copy-out-stop Inv-loop μ-loop
-shared-slice-copy-out-stop c = omega (arith, c .before .before .loop-test .taken, c .before .before .before .before .before .before .before .before .pre .0 .intervals .paired)
+shared-slice-copy-out-stop c = omega (arith, c .before .loop-test .taken, c .before .before .before .before .before .before .before .before .pre .0 .intervals .paired)
 
-find-requires : tie.Need-find-requires Inv-loop μ-loop
-find-requires c κs = search needs
+slice-aggregate-find-next : tie.Need-slice-aggregate-find-next Inv-loop μ-loop
+slice-aggregate-find-next c = sym (c .before .before .before .before .loop .inv .1 .room)
+
+find-next-requires : tie.Need-find-next-requires Inv-loop μ-loop
+find-next-requires c κs = (c .before .before .before .before .before .before .before .before .before .before .pre .1, omega (arith, c .before .before .before .loop-test .taken, c .before .before .before .before .before .before .before .before .before .before .pre .0 .intervals .keyed), c .before .before .before .before .loop .inv .1)
 
 part-at-requires : tie.Need-part-at-requires Inv-loop μ-loop
 part-at-requires c κs = search needs
@@ -78,76 +75,65 @@ part-at-requires-2 : tie.Need-part-at-requires-2 Inv-loop μ-loop
 part-at-requires-2 c κs = search needs
 
 mul-slice : tie.Need-mul-slice Inv-loop μ-loop
-mul-slice c = let n = c .before .before .before .before .before .before .before in omega (arith, room n .0, n .before .loop .inv .long-ends, n .before .before .before .before .before .before .good)
+mul-slice c = let n = c .before .before .before .before .before .before .before .before in omega (arith, room n .0, n .before .loop .inv .0 .long-ends, c .before .before .before .before .before .before .before .before .before .before .before .before .before .before .before .good)
 
 sub-slice : tie.Need-sub-slice Inv-loop μ-loop
-sub-slice c = let r = room (c .before .before .before .before .before .before .before) in omega (arith, r .0, r .1)
+sub-slice c = let r = room (c .before .before .before .before .before .before .before .before) in omega (arith, r .0, r .1)
 
 part-slice-start : tie.Need-part-slice-start Inv-loop μ-loop
-part-slice-start c = let r = room (c .before .before .before .before .before .before .before) in omega (arith, r .0, r .1)
+part-slice-start c = let r = room (c .before .before .before .before .before .before .before .before) in omega (arith, r .0, r .1)
 
 part-slice-end : tie.Need-part-slice-end Inv-loop μ-loop
-part-slice-end c = let r = room (c .before .before .before .before .before .before .before) in omega (arith, r .0, r .1)
+part-slice-end c = let r = room (c .before .before .before .before .before .before .before .before) in omega (arith, r .0, r .1)
 
 mul-slice-2 : tie.Need-mul-slice-2 Inv-loop μ-loop
-mul-slice-2 c = let n = c .before .before .before .before .before .before .before .before in omega (arith, room n .0, n .before .loop .inv .long-ends, n .before .before .before .before .before .before .good)
+mul-slice-2 c = let n = c .before .before .before .before .before .before .before .before .before in omega (arith, room n .0, n .before .loop .inv .0 .long-ends, c .before .before .before .before .before .before .before .before .before .before .before .before .before .before .before .before .good)
 
 sub-slice-2 : tie.Need-sub-slice-2 Inv-loop μ-loop
-sub-slice-2 c = let r = room (c .before .before .before .before .before .before .before .before) in omega (arith, r .0, r .1)
+sub-slice-2 c = let r = room (c .before .before .before .before .before .before .before .before .before) in omega (arith, r .0, r .1)
 
 part-slice-start-2 : tie.Need-part-slice-start-2 Inv-loop μ-loop
-part-slice-start-2 c = let r = room (c .before .before .before .before .before .before .before .before) in omega (arith, r .0, r .1)
+part-slice-start-2 c = let r = room (c .before .before .before .before .before .before .before .before .before) in omega (arith, r .0, r .1)
 
 part-slice-end-2 : tie.Need-part-slice-end-2 Inv-loop μ-loop
-part-slice-end-2 c = let r = room (c .before .before .before .before .before .before .before .before) in omega (arith, r .0, r .1)
+part-slice-end-2 c = let r = room (c .before .before .before .before .before .before .before .before .before) in omega (arith, r .0, r .1)
 
 slice-requires : tie.Need-slice-requires Inv-loop μ-loop
-slice-requires c κs = let v = c .before .before in
-    let d = v .before in
-    let p = d .before in
-    let f = p .before in
-    let t = f .before in
-    let n = t .before .before .before in
+slice-requires c κs = let n = c .before .before .before .before .before .before .before .before .before .before in
     let l = n .before in
-    item-touches (l .before .before .before .before .before .pre .0 .intervals) (n .loop-test .taken) (back _ (t .before .start .given)) (back _ (t .stop .given)) refl
-    (f .find .ensures) (p .part-at .ensures) (d .touched .ensures) (v .part-at2 .ensures) (l .loop .out-ends) (l .loop .out-values) (l .loop .used) (room n .0) (room n .1)
+    item-touches (c .before .before .before .before .before .before .before .before .before .before .before .before .before .before .before .before .before .pre .0 .intervals) (n .loop-test .taken) (back _ (c .before .before .before .before .before .before .before .before .before .start .given)) (back _ (c .before .before .before .before .before .before .before .before .stop .given)) refl
+    (c .before .before .before .before .before .before .find-next .ensures .0) (c .before .before .before .before .part-at .ensures) (c .before .before .before .touched .ensures) (c .before .before .part-at2 .ensures) (l .loop .out-ends) (l .loop .out-values) (l .loop .used) (room n .0) (room n .1)
 
 add-used : tie.Need-add-used Inv-loop μ-loop
-add-used c = let w = c .before .before in
-    let n = w .before .before .before .before .before .before .before .before .before .before in
-    omega (arith, room n .0, wrote w .count, n .before .loop .inv .long-ends, n .before .before .before .before .before .before .good)
+add-used c = let n = c .before .before .before .before .before .before .before .before .before .before .before .before .before in omega (arith, room n .0, wrote (c .before .before) .count, n .before .loop .inv .0 .long-ends, c .before .before .before .before .before .before .before .before .before .before .before .before .before .before .before .before .before .before .before .before .good)
 
 add-i : tie.Need-add-i Inv-loop μ-loop
-add-i c = let n = c .before .before .before .before .before .before .before .before .before .before .before .before in omega (arith, n .loop-test .taken, n .before .before .before .before .before .before .good)
+add-i c = omega (arith, c .before .before .before .before .before .before .before .before .before .before .before .before .before .loop-test .taken, c .before .before .before .before .before .before .before .before .before .before .before .before .before .before .before .before .before .before .before .before .good)
 
 mul-out-offsets : tie.Need-mul-out-offsets Inv-loop μ-loop
-mul-out-offsets c = let n = c .before .before .before .before .before .before .before .before .before .before .before .before in omega (arith, n .loop-test .taken, n .before .before .before .before .before .before .good)
+mul-out-offsets c = omega (arith, c .before .before .before .before .before .before .before .before .before .before .before .before .before .loop-test .taken, c .before .before .before .before .before .before .before .before .before .before .before .before .before .before .before .before .before .before .before .before .good)
 
 slice-write-out-offsets-2 : tie.Need-slice-write-out-offsets-2 Inv-loop μ-loop
-slice-write-out-offsets-2 c = let n = c .before .before .before .before .before .before .before .before .before .before .before .before in
-    let l = n .before in
-    let s = l .before .before .before .before .before in
-    omega (arith, n .loop-test .taken, s .pre .0 .room-offsets, l .loop .inv .long-offsets, length-set (now (s .args .out-offsets)) 0 0)
+slice-write-out-offsets-2 c = let s = c .before .before .before .before .before .before .before .before .before .before .before .before .before .before .before .before .before .before .before .before in omega (arith, c .before .before .before .before .before .before .before .before .before .before .before .before .before .loop-test .taken, s .pre .0 .room-offsets, c .before .before .before .before .before .before .before .before .before .before .before .before .before .before .loop .inv .0 .long-offsets, length-set (now (s .args .out-offsets)) 0 0)
 
 loop-less : tie.Need-loop-less Inv-loop μ-loop
 loop-less c = search needs
 
 loop-again : tie.Need-loop-again Inv-loop μ-loop
-loop-again c = let w = c .before .before in
-    let n = w .before .before .before .before .before .before .before .before .before .before in
-    laid-next (n .before .before .before .before .before .before .pre .0) (n .before .loop .inv) (n .loop-test .taken) (wrote w)
+loop-again c = let n = c .before .before .before .before .before .before .before .before .before .before .before .before .before in
+    (laid-next (c .before .before .before .before .before .before .before .before .before .before .before .before .before .before .before .before .before .before .before .before .pre .0) (n .before .loop .inv .0) (n .loop-test .taken) (wrote (c .before .before)), c .before .before .before .before .before .before .before .before .before .find-next .ensures .1)
 
 same-length : tie.Need-same-length Inv-loop μ-loop
-same-length c = rw length-set at (c .before .loop .inv .long-offsets)
+same-length c = rw length-set at (c .before .loop .inv .0 .long-offsets)
 
 same-length-2 : tie.Need-same-length-2 Inv-loop μ-loop
-same-length-2 c = c .before .loop .inv .long-ends
+same-length-2 c = c .before .loop .inv .0 .long-ends
 
 same-length-3 : tie.Need-same-length-3 Inv-loop μ-loop
-same-length-3 c = c .before .loop .inv .long-values
+same-length-3 c = c .before .loop .inv .0 .long-values
 
 returns : tie.Need-returns Inv-loop μ-loop
-returns c = laid-end (c .before .before .before .before .before .before .pre .0) (c .before .loop .inv) (c .loop-test .left)
+returns c = laid-end (c .before .before .before .before .before .before .before .pre .0) (c .before .loop .inv .0) (c .loop-test .left)
 
 pub getitems-spec : {M : Type 1} → statement M
 getitems-spec =
@@ -156,14 +142,14 @@ getitems-spec =
     Inv-loop
     μ-loop
     slice-write-out-offsets
+    index-pays-requires
     loop-holds
-    mul-key
-    shared-slice-read-key
     mul-start
     shared-slice-copy-out-start
     mul-stop
     shared-slice-copy-out-stop
-    find-requires
+    slice-aggregate-find-next
+    find-next-requires
     part-at-requires
     touched-requires
     part-at-requires-2

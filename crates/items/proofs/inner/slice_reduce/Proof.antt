@@ -1,12 +1,14 @@
-use Prim.Native.Nat.{_-_}
+use Prim.Native.Nat.{ℕ, _-_}
 use mathlib.Core.List.{map}
-use mathlib.Core.Path.{refl}
+use mathlib.Core.Path.{refl, sym}
 use native.Mathlib.Omega.{arith}
-use lib.ListN.{length}
+use lib.ListN.{length, length-replicate}
 use mir.Facts.{toZ-ofZ}
 use mir.Syntax.{w64}
 use mir.Val.{toZ, ofZ}
 use Rattle.num.proofs.Bits.{back}
+use Rattle.keys.specs.Workers.{Kept}
+use Rattle.keys.proofs.Indexing.{kept-start}
 use Rattle.reduce.specs.Reduce.{reduction}
 use Rattle.reduce.proofs.Intervals.{Filling, filling-start, filling-next, filling-end}
 use Rattle.batch.specs.Batch.{batch, entries}
@@ -17,20 +19,18 @@ use Rattle.items.proofs.inner.slice_reduce.Statement.{statement}
 use Rattle.items.proofs.inner.slice_reduce.Tie as tie
 
 abbrev Inv-loop : tie.InvT-loop
-Inv-loop keys offsets ends values order get-keys starts stops code ddof out-kinds₀ out-bits₀ at₀ i₀ out-kinds out-bits at i =
+Inv-loop keys offsets ends values order get-keys starts stops code ddof out-kinds₀ out-bits₀ indexed block₀ at₀ i₀ out-kinds out-bits block at i =
     Filling (map (reduction code (toZ w64 ddof)) (itemRuns get-keys starts stops (entries (batch keys offsets ends values)))) out-kinds₀ out-kinds out-bits₀ out-bits i
+    × Kept keys get-keys indexed block i
 
 abbrev μ-loop : tie.MeasureT-loop
-μ-loop keys offsets ends values order get-keys starts stops code ddof out-kinds₀ out-bits₀ at₀ i₀ out-kinds out-bits at i = length starts - i
+μ-loop keys offsets ends values order get-keys starts stops code ddof out-kinds₀ out-bits₀ indexed block₀ at₀ i₀ out-kinds out-bits block at i = length starts - i
+
+index-pays-requires : tie.Need-index-pays-requires Inv-loop μ-loop
+index-pays-requires c κs = search needs
 
 loop-holds : tie.Need-loop-holds Inv-loop μ-loop
-loop-holds c = filling-start _ _ _
-
-mul-key : tie.Need-mul-key Inv-loop μ-loop
-mul-key c = search needs
-
-shared-slice-read-key : tie.Need-shared-slice-read-key Inv-loop μ-loop
-shared-slice-read-key c = omega (arith, c .before .loop-test .taken, c .before .before .before .before .before .before .before .before .pre .0 .intervals .keyed)
+loop-holds c = (filling-start _ _ _, kept-start (length-replicate {A = ℕ} 4096 0) (c .index-pays .ensures))
 
 mul-start : tie.Need-mul-start Inv-loop μ-loop
 mul-start c = search needs
@@ -42,10 +42,13 @@ mul-stop : tie.Need-mul-stop Inv-loop μ-loop
 mul-stop c = search needs
 
 shared-slice-copy-out-stop : tie.Need-shared-slice-copy-out-stop Inv-loop μ-loop
-shared-slice-copy-out-stop c = omega (arith, c .before .before .loop-test .taken, c .before .before .before .before .before .before .before .before .before .pre .0 .intervals .paired)
+shared-slice-copy-out-stop c = omega (arith, c .before .loop-test .taken, c .before .before .before .before .before .before .before .before .before .pre .0 .intervals .paired)
 
-find-requires : tie.Need-find-requires Inv-loop μ-loop
-find-requires c κs = search needs
+slice-aggregate-find-next : tie.Need-slice-aggregate-find-next Inv-loop μ-loop
+slice-aggregate-find-next c = sym (c .before .before .before .before .loop .inv .1 .room)
+
+find-next-requires : tie.Need-find-next-requires Inv-loop μ-loop
+find-next-requires c κs = (c .before .before .before .before .before .before .before .before .before .before .before .pre .1, omega (arith, c .before .before .before .loop-test .taken, c .before .before .before .before .before .before .before .before .before .before .before .pre .0 .intervals .keyed), c .before .before .before .before .loop .inv .1)
 
 part-at-requires : tie.Need-part-at-requires Inv-loop μ-loop
 part-at-requires c κs = search needs
@@ -54,64 +57,52 @@ part-at-requires-2 : tie.Need-part-at-requires-2 Inv-loop μ-loop
 part-at-requires-2 c κs = search needs
 
 reduce-slice-requires : tie.Need-reduce-slice-requires Inv-loop μ-loop
-reduce-slice-requires c κs = let p = c .before in
-    let f = p .before in
-    let t = f .before in
-    let n = t .before .before .before in
-    item-asked (n .before .before .before .before .before .before .before .pre .0 .intervals) (n .loop-test .taken) (back _ (t .before .start .given)) (back _ (t .stop .given)) refl
-    (f .find .ensures) (p .part-at .ensures) (c .part-at2 .ensures)
+reduce-slice-requires c κs = item-asked (c .before .before .before .before .before .before .before .before .before .before .before .before .before .before .before .pre .0 .intervals) (c .before .before .before .before .before .before .before .loop-test .taken) (back _ (c .before .before .before .before .before .before .start .given)) (back _ (c .before .before .before .before .before .stop .given)) refl
+    (c .before .before .before .find-next .ensures .0) (c .before .part-at .ensures) (c .part-at2 .ensures)
 
 kind-requires : tie.Need-kind-requires Inv-loop μ-loop
 kind-requires c κs = search needs
 
 slice-write-out-kinds : tie.Need-slice-write-out-kinds Inv-loop μ-loop
-slice-write-out-kinds c = let n = c .before .before .before .before .before .before .before .before in
-    let l = n .before in
-    omega (arith, l .loop .inv .kinds .long, l .before .before .before .before .before .before .pre .0 .room-kinds, n .loop-test .taken)
+slice-write-out-kinds c = omega (arith, c .before .before .before .before .before .before .before .before .before .before .loop .inv .0 .kinds .long, c .before .before .before .before .before .before .before .before .before .before .before .before .before .before .before .before .before .pre .0 .room-kinds, c .before .before .before .before .before .before .before .before .before .loop-test .taken)
 
 bits-requires : tie.Need-bits-requires Inv-loop μ-loop
 bits-requires c κs = c .before .reduce-slice .ensures .1
 
 mul-out-bits : tie.Need-mul-out-bits Inv-loop μ-loop
-mul-out-bits c = let n = c .before .before .before .before .before .before .before .before .before in omega (arith, n .loop-test .taken, n .before .before .before .before .before .before .before .good)
+mul-out-bits c = omega (arith, c .before .before .before .before .before .before .before .before .before .before .loop-test .taken, c .before .before .before .before .before .before .before .before .before .before .before .before .before .before .before .before .before .before .good)
 
 slice-write-out-bits : tie.Need-slice-write-out-bits Inv-loop μ-loop
-slice-write-out-bits c = let n = c .before .before .before .before .before .before .before .before .before in
-    let l = n .before in
-    omega (arith, l .loop .inv .bits .long, l .before .before .before .before .before .before .pre .0 .room-bits, n .loop-test .taken)
+slice-write-out-bits c = omega (arith, c .before .before .before .before .before .before .before .before .before .before .before .loop .inv .0 .bits .long, c .before .before .before .before .before .before .before .before .before .before .before .before .before .before .before .before .before .before .pre .0 .room-bits, c .before .before .before .before .before .before .before .before .before .before .loop-test .taken)
 
 add-i : tie.Need-add-i Inv-loop μ-loop
-add-i c = let n = c .before .before .before .before .before .before .before .before .before in omega (arith, n .loop-test .taken, n .before .before .before .before .before .before .before .good)
+add-i c = omega (arith, c .before .before .before .before .before .before .before .before .before .before .loop-test .taken, c .before .before .before .before .before .before .before .before .before .before .before .before .before .before .before .before .before .before .good)
 
 loop-less : tie.Need-loop-less Inv-loop μ-loop
 loop-less c = search needs
 
 loop-again : tie.Need-loop-again Inv-loop μ-loop
-loop-again c = let w = c .before .before in
-    let v = w .before in
-    let p = v .before in
-    let f = p .before in
-    let t = f .before in
-    let n = t .before .before .before in
-    let l = n .before in
-    let s = l .before .before .before .before .before .before in
+loop-again c = let n = c .before .before .before .before .before .before .before .before .before .before in
+    let s = c .before .before .before .before .before .before .before .before .before .before .before .before .before .before .before .before .before .before in
     let q = s .pre .0 in
-    let m = reductions-many (q .intervals) (s .args .code) (toZ w64 (ofZ w64 (s .args .ddof))) in
-    filling-next (l .loop .inv) (rw m (n .loop-test .taken)) (rw m (q .room-kinds)) (rw m (q .room-bits)) _
-    (item-reduced (q .intervals) (n .loop-test .taken) (back _ (t .before .start .given)) (back _ (t .stop .given)) refl
-    (f .find .ensures) (p .part-at .ensures) (v .part-at2 .ensures) (s .args .code) _ (w .reduce-slice .ensures .0))
-    (c .before .kind .ensures) (c .bits .ensures)
+    let m = reductions-many (q .intervals) (s .args .code) (toZ w64 (ofZ w64 (s .args .ddof))) in (
+      filling-next (n .before .loop .inv .0) (rw m (n .loop-test .taken)) (rw m (q .room-kinds)) (rw m (q .room-bits)) _
+          (item-reduced (q .intervals) (c .before .before .before .before .before .before .before .before .before .before .loop-test .taken) (back _ (c .before .before .before .before .before .before .before .before .before .start .given)) (back _ (c .before .before .before .before .before .before .before .before .stop .given)) refl
+          (c .before .before .before .before .before .before .find-next .ensures .0) (c .before .before .before .before .part-at .ensures) (c .before .before .before .part-at2 .ensures) (s .args .code) _ (c .before .before .reduce-slice .ensures .0))
+          (c .before .kind .ensures) (c .bits .ensures),
+      c .before .before .before .before .before .before .find-next .ensures .1,
+    )
 
 same-length : tie.Need-same-length Inv-loop μ-loop
-same-length c = c .before .loop .inv .kinds .long
+same-length c = c .before .loop .inv .0 .kinds .long
 
 same-length-2 : tie.Need-same-length-2 Inv-loop μ-loop
-same-length-2 c = c .before .loop .inv .bits .long
+same-length-2 c = c .before .loop .inv .0 .bits .long
 
 returns : tie.Need-returns Inv-loop μ-loop
-returns c = let s = c .before .before .before .before .before .before .before in
+returns c = let s = c .before .before .before .before .before .before .before .before in
     let m = reductions-many (s .pre .0 .intervals) (s .args .code) (toZ w64 (ofZ w64 (s .args .ddof))) in
-    rw (toZ-ofZ (s .fits .ddof)) at (filling-end (c .before .loop .inv) (rw m (c .loop-test .left)))
+    rw (toZ-ofZ (s .fits .ddof)) at (filling-end (c .before .loop .inv .0) (rw m (c .loop-test .left)))
 
 pub slice-reduce-spec : {M : Type 1} → statement M
 slice-reduce-spec =
@@ -119,14 +110,14 @@ slice-reduce-spec =
     (tie.spec
     Inv-loop
     μ-loop
+    index-pays-requires
     loop-holds
-    mul-key
-    shared-slice-read-key
     mul-start
     shared-slice-copy-out-start
     mul-stop
     shared-slice-copy-out-stop
-    find-requires
+    slice-aggregate-find-next
+    find-next-requires
     part-at-requires
     part-at-requires-2
     reduce-slice-requires
