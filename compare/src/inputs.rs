@@ -387,10 +387,10 @@ fn small_batches(call: &Call) -> Vec<Vec<Arg>> {
     }
 }
 
-/// More keys than are worth looking at one by one, descending or scattered, with none twice, and
+/// More keys than an index of the library takes at once, descending or scattered, with none twice, and
 /// with one that is, near or far.
 fn many_keys() -> impl Iterator<Item = Vec<u32>> {
-    const COUNT: usize = 9000;
+    const COUNT: usize = 20_000;
     const STEPS: [u32; 3] = [1, 1 << 16, 0x9e37_79b9];
     const DOUBLES: [[usize; 2]; 3] = [[0, 0], [0, COUNT - 1], [COUNT / 2, COUNT / 2 + 1]];
     STEPS.into_iter().flat_map(|step| {
@@ -586,6 +586,9 @@ fn fitted(call: &Call, mut args: Vec<Arg>) -> Vec<Vec<Arg>> {
     fitted
 }
 
+/// So many intervals that the library makes an index of the keys, if these are many as well.
+const MANY: usize = 100;
+
 /// SplitMix64.
 pub struct Rng(u64);
 
@@ -780,15 +783,19 @@ impl Column {
     fn intervals(&self, rng: &mut Rng) -> Vec<[i64; 2]> {
         let careless = rng.one_in(8);
         let number = rng.pick(&[0, 1, 2, 3, 8]);
-        let interval = |_| {
-            let mut pair = [self.position(rng), self.position(rng)];
-            if !careless {
-                pair = pair.map(|position| position.max(0));
-                pair.sort();
-            }
-            pair
+        let interval = |_| match careless {
+            true => [self.position(rng), self.position(rng)],
+            false => self.interval(rng),
         };
         (0..number).map(interval).collect()
+    }
+
+    /// A valid interval, at times past the length.
+    fn interval(&self, rng: &mut Rng) -> [i64; 2] {
+        let mut pair = [self.position(rng), self.position(rng)];
+        pair = pair.map(|position| position.max(0));
+        pair.sort();
+        pair
     }
 
     /// Offsets of groups of this sequence's runs.
@@ -1019,7 +1026,7 @@ fn keys(count: usize, rng: &mut Rng) -> Vec<u32> {
     let step = rng.pick(&[1, 1, 7, u32::MAX / 130]);
     let first = rng.pick(&[0, 1, u32::MAX - 1]);
     let mut keys: Vec<u32> = (0..count as u32)
-        .map(|k| first.wrapping_add(k * step))
+        .map(|k| first.wrapping_add(k.wrapping_mul(step)))
         .collect();
     match rng.below(4) {
         0 => keys.sort(),
@@ -1145,6 +1152,23 @@ pub enum Fit {
     Exact,
     Spare,
     Short,
+}
+
+/// Arguments of a call on batches, with so many keys and wanted keys that an index is made of them.
+pub fn large_batch(call: &Call, number: usize, rng: &mut Rng) -> Vec<Arg> {
+    let column = Column::random(rng);
+    let keys = keys(number, rng);
+    let columns = keys.iter().map(|_| column.related(3, false, rng)).collect();
+    let drawn = Drawn {
+        second: column.related_batch(&keys, rng),
+        first: Keyed { keys, columns },
+        intervals: (0..MANY).map(|_| column.interval(rng)).collect(),
+        column,
+    };
+    let parameters = call.parameters.iter();
+    let mut args: Vec<Arg> = parameters.map(|p| drawn.arg(p.role, rng)).collect();
+    lengthen_to_need(call, &call.lent_at(), &mut args);
+    args
 }
 
 /// Arguments of a call that takes some, made from random sequences and half the time damaged.

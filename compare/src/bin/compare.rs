@@ -5,7 +5,7 @@
 
 use compare::call::{Arg, CALLS, Call};
 use compare::cutting::{self, COMBINATIONS, Job, Joined, Side};
-use compare::inputs::{self, Rng};
+use compare::inputs::{self, Rng, Role};
 use compare::repeat_for;
 use compare::tally::{Seen, Tally};
 use std::collections::BTreeMap;
@@ -19,6 +19,12 @@ const PRINTED: u64 = 10;
 
 /// Cases between two looks at the clock.
 const BATCH: usize = 256;
+
+/// Cases of each call on batches with many keys, between two looks at the clock.
+const LARGE_BATCHES: usize = 4;
+
+/// More keys than an index of the library takes at once.
+const SHARES: usize = 20_000;
 
 /// The part of the time in which jobs are cut: one in so many.
 const CUTTING: u32 = 5;
@@ -144,10 +150,20 @@ impl Run {
         }
         let cutting = self.time / CUTTING;
         let mut rng = Rng::of_worker(self.seed, worker);
+        for name in ["batch_getitems", "batch_slice_reduce"] {
+            let call = Call::named(name);
+            comparison.compare(call, inputs::large_batch(call, SHARES, &mut rng));
+        }
         repeat_for(self.time - cutting, || {
             for call in CALLS.iter().filter(|call| call.takes_arguments()) {
                 for _ in 0..BATCH {
                     comparison.compare(call, inputs::random(call, &mut rng).0);
+                }
+            }
+            for call in CALLS.iter().filter(|call| call.takes(Role::Keys)) {
+                for _ in 0..LARGE_BATCHES {
+                    let number = rng.below(300);
+                    comparison.compare(call, inputs::large_batch(call, number, &mut rng));
                 }
             }
         });
