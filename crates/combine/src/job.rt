@@ -7,35 +7,53 @@
 //
 // Words stand apart by blanks. END and VALUE are decimal, from -2^63 to 2^63 - 1. A name has up to 32 letters, digits, `.`, `_` and `-`.
 // Whether ends rise, and lengths agree, is for the library to say.
-use crate::output;
+use crate::output::say;
+use crate::words;
 use column::answer::Asked;
 use column::sequence;
 use libc::STDIN_FILENO;
 use rle::Rle;
+ghost use mathlib.Core.Path.{_≡_};
+ghost use lib.ListN.{length};
 
 // The most runs of a job.
-pub const RUNS: usize = 131_072;
-
-// The most bytes of a line, its comment left out.
-pub const LINE: usize = 256;
-
-// The most bytes of a name; a shorter one ends with a 0.
-const NAME: usize = 32;
-
-// The bytes of all names.
-pub const NAMES: usize = NAME * Rle::MAX_COLUMNS;
+const RUNS: usize = 131_072;
 
 // The table of a job has the ends of all runs from 0 on, their values from here on, ..
 pub const VALUES: usize = RUNS;
 
-// .. and from here on the number of each line that starts a column or holds a run.
+// .. from here on the number of each line that starts a column or holds a run, ..
 const LINES: usize = RUNS * 2;
 
-// The entries of the table.
-pub const TABLE: usize = LINES + RUNS + Rle::MAX_COLUMNS;
+// .. and from here on where each column's runs start, and where the last one's end.
+const OFFSETS: usize = LINES + RUNS + Rle::MAX_COLUMNS;
 
-// The entries of offsets: where each column starts, and where the last one ends.
-pub const OFFSETS: usize = Rle::MAX_COLUMNS + 1;
+const TABLE: usize = OFFSETS + Rle::MAX_COLUMNS + 1;
+
+// The most bytes of a name; a shorter one ends with a 0.
+const NAME: usize = 32;
+
+// The bytes of a job are those of all names, and from here on those of the line that is read, its comment left out.
+const LINE: usize = NAME * Rle::MAX_COLUMNS;
+
+// The most bytes of a line.
+const LONGEST: usize = 256;
+
+pub const BYTES: usize = LINE + LONGEST;
+
+// Made by a function, so that of so many zeros a caller's proof sees only how many they are.
+pub fn new_table() -> [i64; TABLE]
+    ensures { λ r. ⌜ 393473 ≡ length r ⌝ }
+{
+    [0; TABLE]
+}
+
+// A buffer for the runs of a combination.
+pub fn new_runs() -> [i64; RUNS]
+    ensures { λ r. ⌜ 131072 ≡ length r ⌝ }
+{
+    [0; RUNS]
+}
 
 // What has been read of a job, and where reading stands: the number of the line, its bytes so far, and whether they are a comment.
 pub struct Job {
@@ -50,26 +68,23 @@ pub struct Job {
     pub valid: bool,
 }
 
-// An entry of offsets; 0 past the last.
-pub fn offset(offsets: &[usize], at: usize) -> usize {
-    if at < offsets.len() { offsets[at] } else { 0 }
+// Where the runs of a column start; of the column behind the last, where the last one's end.
+fn offset(table: &[i64], column: usize) -> usize {
+    let at = num::saturating_add(OFFSETS, column);
+    sequence::magnitude(sequence::entry_or(table, at, 0))
 }
 
-// The ends of a column.
-pub fn ends_of<'a>(table: &'a [i64], offsets: &[usize], column: usize) -> &'a [i64] {
-    let to = offset(offsets, num::saturating_add(column, 1));
-    sequence::part(table, offset(offsets, column), to)
+// The offsets of the columns, as the library takes them.
+pub fn put_offsets(table: &[i64], offsets: &mut [usize]) {
+    let mut c = 0;
+    while c < offsets.len() {
+        offsets[c] = offset(table, c);
+        c += 1;
+    }
 }
 
-// The values of a column.
-pub fn values_of<'a>(table: &'a [i64], offsets: &[usize], column: usize) -> &'a [i64] {
-    let from = num::saturating_add(VALUES, offset(offsets, column));
-    let to = offset(offsets, num::saturating_add(column, 1));
-    sequence::part(table, from, num::saturating_add(VALUES, to))
-}
-
-// The offsets of so many columns.
-pub fn offsets_of(offsets: &[usize], columns: usize) -> &[usize] {
+// Those of so many columns.
+pub fn used_offsets(offsets: &[usize], columns: usize) -> &[usize] {
     let used = num::saturating_add(columns, 1);
     if used < offsets.len() {
         return &offsets[0..used];
@@ -77,29 +92,24 @@ pub fn offsets_of(offsets: &[usize], columns: usize) -> &[usize] {
     offsets
 }
 
-// The number of the line with a run of a column, or of the line that starts the column, which counts as run 0 of it.
-pub fn line_at(table: &[i64], offsets: &[usize], column: usize, run: usize) -> i64 {
-    let before = num::saturating_add(offset(offsets, column), column);
+// The ends of a column.
+pub fn ends_of(table: &[i64], column: usize) -> &[i64] {
+    let to = offset(table, num::saturating_add(column, 1));
+    sequence::part(table, offset(table, column), to)
+}
+
+// The values of a column.
+pub fn values_of(table: &[i64], column: usize) -> &[i64] {
+    let from = num::saturating_add(VALUES, offset(table, column));
+    let to = offset(table, num::saturating_add(column, 1));
+    sequence::part(table, from, num::saturating_add(VALUES, to))
+}
+
+// The number of the line with a run of a column, its runs counted from 1, or at 0 of the line that starts the column.
+pub fn line_at(table: &[i64], column: usize, run: usize) -> i64 {
+    let before = num::saturating_add(offset(table, column), column);
     let at = num::saturating_add(before, run);
     sequence::entry_or(table, num::saturating_add(LINES, at), 0)
-}
-
-// Where a name stops: at a 0.
-fn name_end(names: &[u8], from: usize) -> usize {
-    let mut end = from;
-    while end < names.len() {
-        if names[end] == 0 {
-            return end;
-        }
-        end += 1;
-    }
-    end
-}
-
-pub fn name_of(names: &[u8], column: usize) -> &[u8] {
-    let from = num::saturating_mul(column, NAME);
-    let most = num::saturating_add(from, NAME);
-    text::part(names, from, num::smaller_count(name_end(names, from), most))
 }
 
 fn is_name_byte(byte: u8) -> bool {
@@ -107,6 +117,24 @@ fn is_name_byte(byte: u8) -> bool {
         b'a'..=b'z' | b'A'..=b'Z' | b'0'..=b'9' | b'.' | b'_' | b'-' => true,
         _ => false,
     }
+}
+
+// Where a name stops.
+fn name_end(bytes: &[u8], from: usize) -> usize {
+    let mut end = from;
+    while end < bytes.len() {
+        if !is_name_byte(bytes[end]) {
+            return end;
+        }
+        end += 1;
+    }
+    end
+}
+
+pub fn name_of(bytes: &[u8], column: usize) -> &[u8] {
+    let from = num::saturating_mul(column, NAME);
+    let most = num::saturating_add(from, NAME);
+    words::part(bytes, from, num::smaller_count(name_end(bytes, from), most))
 }
 
 fn is_name(word: &[u8]) -> bool {
@@ -132,11 +160,21 @@ fn put_byte(bytes: &mut [u8], at: usize, byte: u8) {
     }
 }
 
-fn put_name(names: &mut [u8], column: usize, name: &[u8]) {
-    let from = num::saturating_mul(column, NAME);
+// The line that is read, if it has so many bytes.
+fn line_of(bytes: &[u8], length: usize) -> &[u8] {
+    words::part(bytes, LINE, num::saturating_add(LINE, length))
+}
+
+// Keeps the name of a column: the second word of the line that is read. What stands behind it is no byte of a name.
+fn put_name(bytes: &mut [u8], column: usize, length: usize) {
+    let start = words::word_start(line_of(bytes, length), 1);
+    let from = num::saturating_add(LINE, start);
+    let to = num::saturating_mul(column, NAME);
+    put_byte(bytes, num::saturating_add(LINE, length), 0);
     let mut i = 0;
-    while i < name.len() {
-        put_byte(names, num::saturating_add(from, i), name[i]);
+    while i < NAME {
+        let byte = words::byte_at(bytes, num::saturating_add(from, i));
+        put_byte(bytes, num::saturating_add(to, i), byte);
         i += 1;
     }
 }
@@ -147,161 +185,194 @@ pub fn put_entry(table: &mut [i64], at: usize, number: i64) {
     }
 }
 
-fn put_offset(offsets: &mut [usize], at: usize, offset: usize) {
-    if at < offsets.len() {
-        offsets[at] = offset;
+// Keeps where the runs of a column start, or those of the last one end.
+fn put_offset(job: Job, table: &mut [i64]) {
+    let at = num::saturating_add(OFFSETS, job.columns);
+    put_entry(table, at, num::as_signed(job.runs as u64));
+}
+
+// Keeps the number of the line.
+fn put_line(job: Job, table: &mut [i64]) {
+    let at = num::saturating_add(job.runs, job.columns);
+    put_entry(table, num::saturating_add(LINES, at), job.line);
+}
+
+// What can be wrong with a line.
+enum Problem {
+    Line,
+    Column,
+    Columns,
+    Fill,
+    SecondFill,
+    Run,
+    NoColumn,
+    Runs,
+}
+
+fn say_problem(problem: Problem, line: i64) {
+    match problem {
+        Problem::Line => say(b"combine: line @: more than 256 bytes\n", line),
+        Problem::Column => say(
+            b"combine: line @: expected column NAME, of at most 32 letters, digits, . _ and -\n",
+            line,
+        ),
+        Problem::Columns => say(
+            b"combine: line @: TooMany (5): a job has at most 128 columns\n",
+            line,
+        ),
+        Problem::Fill => say(
+            b"combine: line @: expected fill VALUE, a number of 64 bits\n",
+            line,
+        ),
+        Problem::SecondFill => say(b"combine: line @: a second fill\n", line),
+        Problem::Run => say(
+            b"combine: line @: expected END VALUE, two numbers of 64 bits, or column NAME, or fill VALUE\n",
+            line,
+        ),
+        Problem::NoColumn => say(b"combine: line @: a run before the first column\n", line),
+        Problem::Runs => say(b"combine: line @: a job has at most 131072 runs\n", line),
     }
 }
 
 // Says what is wrong with the line, and ends the reading.
-fn refused(mut job: Job, form: &[u8]) -> Job {
-    let numbers = [job.line];
-    output::say(b"combine: line @: ", b"", &numbers);
-    output::say(form, b"", &numbers);
+fn refused(mut job: Job, problem: Problem) -> Job {
+    say_problem(problem, job.line);
     job.valid = false;
     job.more = false;
     job
 }
 
-// Whether a line has so many words.
-fn has_words(line: &[u8], count: usize) -> bool {
-    text::word(line, count).len() == 0
+// What a line says.
+enum Entry {
+    Nothing,
+    Column,
+    Fill(i64),
+    Run { end: i64, value: i64 },
+    Wrong(Problem),
 }
 
-fn take_fill(mut job: Job, line: &[u8]) -> Job {
-    let read = text::number_of(text::word(line, 1));
-    if !read.valid {
-        return refused(job, b"expected fill VALUE\n");
-    }
+// Whether a line has no more than so many words.
+fn has_words(line: &[u8], count: usize) -> bool {
+    words::word(line, count).len() == 0
+}
+
+fn column_entry(line: &[u8]) -> Entry {
     if !has_words(line, 2) {
-        return refused(job, b"expected fill VALUE\n");
+        return Entry::Wrong(Problem::Column);
     }
+    if is_name(words::word(line, 1)) {
+        return Entry::Column;
+    }
+    Entry::Wrong(Problem::Column)
+}
+
+fn fill_entry(line: &[u8]) -> Entry {
+    let fill = words::value_of(words::word(line, 1));
+    if !has_words(line, 2) {
+        return Entry::Wrong(Problem::Fill);
+    }
+    if fill.valid {
+        return Entry::Fill(fill.number);
+    }
+    Entry::Wrong(Problem::Fill)
+}
+
+fn run_entry(line: &[u8]) -> Entry {
+    let end = words::value_of(words::word(line, 0));
+    let value = words::value_of(words::word(line, 1));
+    if !has_words(line, 2) {
+        return Entry::Wrong(Problem::Run);
+    }
+    if !end.valid {
+        return Entry::Wrong(Problem::Run);
+    }
+    if value.valid {
+        return Entry::Run {
+            end: end.number,
+            value: value.number,
+        };
+    }
+    Entry::Wrong(Problem::Run)
+}
+
+fn entry_of(line: &[u8]) -> Entry {
+    let first = words::word(line, 0);
+    if first.len() == 0 {
+        return Entry::Nothing;
+    }
+    if words::same(first, b"column") {
+        return column_entry(line);
+    }
+    if words::same(first, b"fill") {
+        return fill_entry(line);
+    }
+    run_entry(line)
+}
+
+fn take_fill(mut job: Job, fill: i64) -> Job {
     if job.filled {
-        return refused(job, b"a second fill\n");
+        return refused(job, Problem::SecondFill);
     }
     job.filled = true;
-    job.fill = read.value;
+    job.fill = fill;
     job
 }
 
-fn start_column(
-    mut job: Job,
-    name: &[u8],
-    table: &mut [i64],
-    offsets: &mut [usize],
-    names: &mut [u8],
-) -> Job {
-    let column = job.columns;
-    let runs = job.runs;
-    put_offset(offsets, column, runs);
-    put_name(names, column, name);
-    put_entry(
-        table,
-        num::saturating_add(LINES, num::saturating_add(runs, column)),
-        job.line,
-    );
-    job.columns = num::saturating_add(column, 1);
-    job
-}
-
-fn take_column(
-    job: Job,
-    line: &[u8],
-    table: &mut [i64],
-    offsets: &mut [usize],
-    names: &mut [u8],
-) -> Job {
-    let name = text::word(line, 1);
-    if !is_name(name) {
-        return refused(
-            job,
-            b"expected column NAME, of up to 32 letters, digits, . _ and -\n",
-        );
-    }
-    if !has_words(line, 2) {
-        return refused(job, b"expected column NAME, and nothing behind it\n");
-    }
-    let asked = questions::ask_columns(Rle::MAX_COLUMNS, num::saturating_add(job.columns, 1));
+fn take_column(mut job: Job, length: usize, bytes: &mut [u8], table: &mut [i64]) -> Job {
+    let columns = num::saturating_add(job.columns, 1);
+    let asked = questions::ask_columns(Rle::MAX_COLUMNS, columns);
     match asked {
-        Asked::Yes => start_column(job, name, table, offsets, names),
-        Asked::No(_) => refused(job, b"TooMany (5): at most 128 columns are combined\n"),
+        Asked::Yes => {
+            put_name(bytes, job.columns, length);
+            put_offset(job, table);
+            put_line(job, table);
+            job.columns = columns;
+            job
+        }
+        Asked::No(_) => refused(job, Problem::Columns),
     }
 }
 
-fn push_run(mut job: Job, end: i64, value: i64, table: &mut [i64]) -> Job {
-    let at = job.runs;
-    let line = num::saturating_add(LINES, num::saturating_add(at, job.columns));
-    put_entry(table, at, end);
-    put_entry(table, num::saturating_add(VALUES, at), value);
-    put_entry(table, line, job.line);
-    job.runs = num::saturating_add(at, 1);
+fn take_run(mut job: Job, end: i64, value: i64, table: &mut [i64]) -> Job {
+    let runs = job.runs;
+    if job.columns == 0 {
+        return refused(job, Problem::NoColumn);
+    }
+    if runs >= RUNS {
+        return refused(job, Problem::Runs);
+    }
+    put_entry(table, runs, end);
+    put_entry(table, num::saturating_add(VALUES, runs), value);
+    put_line(job, table);
+    job.runs = runs + 1;
     job
 }
 
-fn take_run(job: Job, line: &[u8], table: &mut [i64]) -> Job {
-    let end = text::number_of(text::word(line, 0));
-    let value = text::number_of(text::word(line, 1));
-    if !end.valid {
-        return refused(
-            job,
-            b"expected column NAME, fill VALUE, or a run: END VALUE, two numbers of 64 bits\n",
-        );
+fn take_line(job: Job, length: usize, bytes: &mut [u8], table: &mut [i64]) -> Job {
+    let entry = entry_of(line_of(bytes, length));
+    match entry {
+        Entry::Nothing => job,
+        Entry::Column => take_column(job, length, bytes, table),
+        Entry::Fill(fill) => take_fill(job, fill),
+        Entry::Run { end, value } => take_run(job, end, value, table),
+        Entry::Wrong(problem) => refused(job, problem),
     }
-    if !value.valid {
-        return refused(job, b"expected a run: END VALUE, two numbers of 64 bits\n");
-    }
-    if !has_words(line, 2) {
-        return refused(job, b"expected a run: END VALUE, and nothing behind it\n");
-    }
-    if job.columns == 0 {
-        return refused(job, b"a run before the first column\n");
-    }
-    if job.runs >= RUNS {
-        return refused(job, b"more than 131072 runs\n");
-    }
-    push_run(job, end.value, value.value, table)
-}
-
-fn take_line(
-    job: Job,
-    line: &[u8],
-    table: &mut [i64],
-    offsets: &mut [usize],
-    names: &mut [u8],
-) -> Job {
-    let first = text::word(line, 0);
-    if first.len() == 0 {
-        return job;
-    }
-    if text::same(first, b"column") {
-        return take_column(job, line, table, offsets, names);
-    }
-    if text::same(first, b"fill") {
-        return take_fill(job, line);
-    }
-    take_run(job, line, table)
 }
 
 // The line is at its end.
-fn end_line(
-    mut job: Job,
-    line: &[u8],
-    table: &mut [i64],
-    offsets: &mut [usize],
-    names: &mut [u8],
-) -> Job {
+fn end_line(mut job: Job, bytes: &mut [u8], table: &mut [i64]) -> Job {
     let length = job.length;
     job.line = num::wrapping_add(job.line, 1);
     job.length = 0;
     job.comment = false;
-    if length > LINE {
-        return refused(job, b"more than 256 bytes\n");
+    if length > LONGEST {
+        return refused(job, Problem::Line);
     }
-    take_line(job, text::part(line, 0, length), table, offsets, names)
+    take_line(job, length, bytes, table)
 }
 
 // One more byte of the line, no line break.
-fn keep_byte(mut job: Job, byte: u8, line: &mut [u8]) -> Job {
+fn keep_byte(mut job: Job, byte: u8, bytes: &mut [u8]) -> Job {
     if job.comment {
         return job;
     }
@@ -310,85 +381,64 @@ fn keep_byte(mut job: Job, byte: u8, line: &mut [u8]) -> Job {
         return job;
     }
     let length = job.length;
-    put_byte(line, length, byte);
+    put_byte(bytes, num::saturating_add(LINE, length), byte);
     job.length = num::saturating_add(length, 1);
     job
 }
 
-fn take_byte(
-    job: Job,
-    byte: u8,
-    line: &mut [u8],
-    table: &mut [i64],
-    offsets: &mut [usize],
-    names: &mut [u8],
-) -> Job {
+fn take_byte(job: Job, byte: u8, bytes: &mut [u8], table: &mut [i64]) -> Job {
     if byte == b'\n' {
-        return end_line(job, line, table, offsets, names);
+        return end_line(job, bytes, table);
     }
-    keep_byte(job, byte, line)
+    keep_byte(job, byte, bytes)
 }
 
-fn take_bytes(
-    job: Job,
-    bytes: &[u8],
-    line: &mut [u8],
-    table: &mut [i64],
-    offsets: &mut [usize],
-    names: &mut [u8],
-) -> Job {
+fn take_bytes(job: Job, input: &[u8], bytes: &mut [u8], table: &mut [i64]) -> Job {
     let mut next = job;
     let mut i = 0;
-    while i < bytes.len() {
+    while i < input.len() {
         if !next.valid {
             return next;
         }
-        next = take_byte(next, bytes[i], line, table, offsets, names);
+        next = take_byte(next, input[i], bytes, table);
         i += 1;
     }
     next
 }
 
 // The text is at its end: its last line may have no line break.
-fn end_text(
-    job: Job,
-    line: &[u8],
-    table: &mut [i64],
-    offsets: &mut [usize],
-    names: &mut [u8],
-) -> Job {
-    let mut last = end_line(job, line, table, offsets, names);
-    put_offset(offsets, last.columns, last.runs);
+fn end_text(job: Job, bytes: &mut [u8], table: &mut [i64]) -> Job {
+    let mut last = end_line(job, bytes, table);
+    put_offset(last, table);
     last.more = false;
     last
 }
 
+// Standard input cannot be read.
+fn unread(mut job: Job) -> Job {
+    os::fail(b"combine: standard input");
+    job.valid = false;
+    job.more = false;
+    job
+}
+
 // Reads once.
-fn read_some(
-    mut job: Job,
-    line: &mut [u8],
-    table: &mut [i64],
-    offsets: &mut [usize],
-    names: &mut [u8],
-) -> Job {
+fn read_some(job: Job, bytes: &mut [u8], table: &mut [i64]) -> Job {
     let mut buffer = io::large_buffer();
     let got = libc::read(STDIN_FILENO, &mut buffer);
     if got < 0 {
-        os::fail(b"combine: standard input");
-        job.valid = false;
-        job.more = false;
-        return job;
+        return unread(job);
     }
     if got == 0 {
-        return end_text(job, line, table, offsets, names);
+        return end_text(job, bytes, table);
     }
     let n = io::count(got, &buffer);
-    take_bytes(job, &buffer[..n], line, table, offsets, names)
+    take_bytes(job, &buffer[..n], bytes, table)
 }
 
 // Reads a job from standard input. Where it is not valid, a message has said why. The turns are counted down from a number that no
 // input uses up, since nothing says that the input ends.
-pub fn read(line: &mut [u8], table: &mut [i64], offsets: &mut [usize], names: &mut [u8]) -> Job {
+pub fn read(bytes: &mut [u8], table: &mut [i64]) -> Job {
     let mut job = Job {
         line: 0,
         length: 0,
@@ -405,7 +455,7 @@ pub fn read(line: &mut [u8], table: &mut [i64], offsets: &mut [usize], names: &m
         if !job.more {
             return job;
         }
-        job = read_some(job, line, table, offsets, names);
+        job = read_some(job, bytes, table);
         turns -= 1;
     }
     job

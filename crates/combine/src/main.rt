@@ -11,34 +11,37 @@ mod output;
 mod refusal;
 mod seams;
 mod svg;
+mod words;
 
 use column::answer::Asked;
 use column::answer::Counted;
 use column::answer::Fill;
 use column::sequence;
 use job::Job;
-use libc::STDOUT_FILENO;
-use output::Out;
 use output::put_form;
+use output::put_named;
 use output::say;
+use output::say_named;
+use rle::Rle;
 use seams::Window;
+use words::Value;
 
 // A code; 255, which the library refuses, for a word that is none.
 fn code_of(codes: &[u8], word: &[u8]) -> u8 {
     let mut code: u8 = 0;
     while code < 10 {
-        if text::same(text::word(codes, code as usize), word) {
+        if words::same(words::word(codes, code as usize), word) {
             return code;
         }
         code += 1;
     }
-    byte_of(text::number_of(word))
+    byte_of(words::value_of(word))
 }
 
 // A number as a code.
-fn byte_of(number: text::Number) -> u8 {
-    let bits = num::as_unsigned(number.value);
-    if !number.valid {
+fn byte_of(value: Value) -> u8 {
+    let bits = num::as_unsigned(value.number);
+    if !value.valid {
         return 255;
     }
     if bits > 255 {
@@ -50,7 +53,7 @@ fn byte_of(number: text::Number) -> u8 {
 fn is_argument(index: usize, name: &[u8]) -> bool {
     let mut word = [0u8; 64];
     let n = os::arg(index, &mut word);
-    text::same(&word[..n], name)
+    words::same(&word[..n], name)
 }
 
 fn code_argument(index: usize, codes: &[u8]) -> u8 {
@@ -59,10 +62,10 @@ fn code_argument(index: usize, codes: &[u8]) -> u8 {
     code_of(codes, &word[..n])
 }
 
-fn number_argument(index: usize) -> text::Number {
+fn value_argument(index: usize) -> Value {
     let mut word = [0u8; 64];
     let n = os::arg(index, &mut word);
-    text::number_of(&word[..n])
+    words::value_of(&word[..n])
 }
 
 fn fill_of(job: Job) -> Fill {
@@ -75,7 +78,6 @@ fn fill_of(job: Job) -> Fill {
 fn combine(
     job: Job,
     table: &[i64],
-    offsets: &[usize],
     code: u8,
     out_ends: &mut [i64],
     out_values: &mut [i64],
@@ -83,19 +85,19 @@ fn combine(
     let runs = job.runs;
     let ends = sequence::part(table, 0, runs);
     let values = sequence::part(table, job::VALUES, num::saturating_add(job::VALUES, runs));
-    let used = job::offsets_of(offsets, job.columns);
+    let mut offsets = [0usize; Rle::MAX_COLUMNS + 1];
+    job::put_offsets(table, &mut offsets);
+    let used = job::used_offsets(&offsets, job.columns);
     many::zip_many(used, ends, values, fill_of(job), code, out_ends, out_values)
 }
 
-fn put_runs(out: Out, buffer: &mut [u8], ends: &[i64], values: &[i64]) -> Out {
+fn put_runs(out: usize, buffer: &mut [u8], ends: &[i64], values: &[i64]) -> usize {
     let mut next = out;
     let mut r = 0;
     while r < ends.len() {
-        let numbers = [
-            sequence::entry_or(ends, r, 0),
-            sequence::entry_or(values, r, 0),
-        ];
-        next = put_form(next, buffer, b"@ @\n", b"", &numbers);
+        let end = sequence::entry_or(ends, r, 0);
+        let value = sequence::entry_or(values, r, 0);
+        next = put_form(next, buffer, b"@ @\n", [end, value, 0, 0, 0, 0]);
         r += 1;
     }
     next
@@ -103,21 +105,19 @@ fn put_runs(out: Out, buffer: &mut [u8], ends: &[i64], values: &[i64]) -> Out {
 
 // The combined runs, as a column of a job.
 fn put_column(
-    out: Out,
+    out: usize,
     buffer: &mut [u8],
     job: Job,
     code: &[u8],
     ends: &[i64],
     values: &[i64],
-) -> Out {
-    let numbers = [
-        num::as_signed(job.columns as u64),
-        num::as_signed(job.runs as u64),
-        num::as_signed(ends.len() as u64),
-        sequence::length(ends),
-    ];
+) -> usize {
     let form = b"# $ of @ columns with @ runs: @ runs, up to @\ncolumn $\n";
-    let begun = put_form(out, buffer, form, code, &numbers);
+    let columns = num::as_signed(job.columns as u64);
+    let given = num::as_signed(job.runs as u64);
+    let runs = num::as_signed(ends.len() as u64);
+    let numbers = [columns, given, runs, sequence::length(ends), 0, 0];
+    let begun = put_named(out, buffer, form, code, numbers);
     put_runs(begun, buffer, ends, values)
 }
 
@@ -127,20 +127,14 @@ fn write(
     window: Window,
     job: Job,
     table: &[i64],
-    offsets: &[usize],
-    names: &[u8],
+    bytes: &[u8],
     code: &[u8],
     ends: &[i64],
     values: &[i64],
 ) {
     let mut buffer = io::large_buffer();
-    let out = Out {
-        fd: STDOUT_FILENO,
-        at: 0,
-        open: true,
-    };
     if !drawn {
-        let end = put_column(out, &mut buffer, job, code, ends, values);
+        let end = put_column(0, &mut buffer, job, code, ends, values);
         output::flush(end, &buffer);
         return;
     }
@@ -148,108 +142,71 @@ fn write(
         from: window.from,
         to: num::smaller(window.to, sequence::length(ends)),
     };
-    let end = svg::draw(
-        out,
-        &mut buffer,
-        shown,
-        job,
-        table,
-        offsets,
-        names,
-        code,
-        ends,
-        values,
-    );
+    let end = svg::draw(0, &mut buffer, shown, job, table, bytes, code, ends, values);
     output::flush(end, &buffer);
 }
 
 // Combines the columns of a job that has been read. The code is an argument of the program.
-fn finish(
-    drawn: bool,
-    window: Window,
-    argument: usize,
-    job: Job,
-    table: &[i64],
-    offsets: &[usize],
-    names: &[u8],
-) {
+fn finish(drawn: bool, window: Window, argument: usize, job: Job, table: &[i64], bytes: &[u8]) {
     let codes = b"add subtract multiply smaller larger first second equal less midpoint";
     let code = code_argument(argument, codes);
-    let mut ends = [0i64; job::RUNS];
-    let mut values = [0i64; job::RUNS];
-    let combined = combine(job, table, offsets, code, &mut ends, &mut values);
+    let mut ends = job::new_runs();
+    let mut values = job::new_runs();
+    let combined = combine(job, table, code, &mut ends, &mut values);
     match combined {
         Counted::Count(n) => {
-            let name = text::word(codes, code as usize);
+            let name = words::word(codes, code as usize);
             let ends = sequence::part(&ends, 0, n);
             let values = sequence::part(&values, 0, n);
-            write(
-                drawn,
-                window,
-                job,
-                table,
-                offsets,
-                names,
-                name,
-                ends,
-                values,
-            );
+            write(drawn, window, job, table, bytes, name, ends, values);
         }
         Counted::Refused(refused) => {
-            refusal::say_refusal(refused, argument, table, offsets, names, job.columns);
+            refusal::say_refusal(refused, argument, table, bytes, job.columns);
         }
     }
 }
 
 fn run(drawn: bool, window: Window, argument: usize) {
-    let mut line = [0u8; job::LINE];
-    let mut table = [0i64; job::TABLE];
-    let mut offsets = [0usize; job::OFFSETS];
-    let mut names = [0u8; job::NAMES];
-    let job = job::read(&mut line, &mut table, &mut offsets, &mut names);
+    let mut bytes = [0u8; job::BYTES];
+    let mut table = job::new_table();
+    let job = job::read(&mut bytes, &mut table);
     if job.valid {
-        finish(drawn, window, argument, job, &table, &offsets, &names);
+        finish(drawn, window, argument, job, &table, &bytes);
     }
 }
 
 fn say_usage() {
     say(
         b"usage: combine CODE, or combine svg CODE, or combine svg CODE FROM TO; the job is standard input\n",
-        b"",
-        &[],
+        0,
     );
 }
 
-// Draws the positions that arguments 3 and 4 name.
-fn run_window() {
-    let from = number_argument(3);
-    let to = number_argument(4);
+// Draws the positions from one up to another.
+fn run_window(from: i64, to: i64) {
+    let starts = [from];
+    let ends = [to];
+    let asked = questions::ask_intervals(&starts, &ends);
+    match asked {
+        Asked::Yes => run(true, Window { from, to }, 2),
+        Asked::No(_) => {
+            let form = b"combine: InvalidInterval (9): FROM @ and TO @ are not 0 <= FROM <= TO\n";
+            say_named(form, b"", [from, to, 0, 0, 0, 0]);
+        }
+    }
+}
+
+// The same, of the positions that arguments 3 and 4 name.
+fn run_arguments() {
+    let from = value_argument(3);
+    let to = value_argument(4);
     if !from.valid {
         return say_usage();
     }
-    if !to.valid {
-        return say_usage();
+    if to.valid {
+        return run_window(from.number, to.number);
     }
-    let starts = [from.value];
-    let ends = [to.value];
-    let asked = questions::ask_intervals(&starts, &ends);
-    match asked {
-        Asked::Yes => {
-            let window = Window {
-                from: from.value,
-                to: to.value,
-            };
-            run(true, window, 2);
-        }
-        Asked::No(_) => {
-            let numbers = [from.value, to.value];
-            say(
-                b"combine: InvalidInterval (9): from @ up to @ is not 0 <= FROM <= TO\n",
-                b"",
-                &numbers,
-            );
-        }
-    }
+    say_usage()
 }
 
 fn main() {
@@ -261,7 +218,7 @@ fn main() {
     if is_argument(1, b"svg") {
         match arguments {
             3 => run(true, whole, 2),
-            5 => run_window(),
+            5 => run_arguments(),
             _ => say_usage(),
         }
         return;

@@ -1,53 +1,42 @@
 // Output through a buffer, and text with numbers and a name filled in.
+use crate::words;
 use column::sequence;
+use libc::STDERR_FILENO;
+use libc::STDOUT_FILENO;
 
-// Where a buffer is written to, how far it is filled, and whether every write has succeeded.
-pub struct Out {
-    pub fd: i32,
-    pub at: usize,
-    pub open: bool,
-}
+// How far the buffer of standard output is filled: this far once a write has failed, and then nothing more is written.
+const CLOSED: usize = usize::MAX;
 
-// Writes what the buffer holds. After a write that failed nothing more is written.
-pub fn flush(out: Out, buffer: &[u8]) -> Out {
-    let fd = out.fd;
-    if !out.open {
-        return Out {
-            fd,
-            at: 0,
-            open: false,
-        };
+// Writes what the buffer holds.
+pub fn flush(out: usize, buffer: &[u8]) -> usize {
+    if out == CLOSED {
+        return CLOSED;
     }
-    let open = io::write_all(fd, text::part(buffer, 0, out.at));
-    if !open {
-        os::fail(b"combine: write");
+    if io::write_all(STDOUT_FILENO, words::part(buffer, 0, out)) {
+        return 0;
     }
-    Out { fd, at: 0, open }
+    os::fail(b"combine: standard output");
+    CLOSED
 }
 
 // The buffer with room for a byte, if it can have any.
-fn with_room(out: Out, buffer: &[u8]) -> Out {
-    if out.at < buffer.len() {
+fn with_room(out: usize, buffer: &[u8]) -> usize {
+    if out < buffer.len() {
         return out;
     }
     flush(out, buffer)
 }
 
-fn put_byte(out: Out, buffer: &mut [u8], byte: u8) -> Out {
-    let ready = with_room(out, buffer);
-    let at = ready.at;
+fn put_byte(out: usize, buffer: &mut [u8], byte: u8) -> usize {
+    let at = with_room(out, buffer);
     if at < buffer.len() {
         buffer[at] = byte;
-        return Out {
-            fd: ready.fd,
-            at: at + 1,
-            open: ready.open,
-        };
+        return at + 1;
     }
-    ready
+    at
 }
 
-fn put(out: Out, buffer: &mut [u8], bytes: &[u8]) -> Out {
+fn put(out: usize, buffer: &mut [u8], bytes: &[u8]) -> usize {
     let mut next = out;
     let mut i = 0;
     while i < bytes.len() {
@@ -57,22 +46,23 @@ fn put(out: Out, buffer: &mut [u8], bytes: &[u8]) -> Out {
     next
 }
 
-fn put_magnitude(out: Out, buffer: &mut [u8], magnitude: u64) -> Out {
+fn put_magnitude(out: usize, buffer: &mut [u8], magnitude: u64) -> usize {
     let mut digits = [0u8; 20];
     let n = io::decimal(magnitude, &mut digits);
     put(out, buffer, &digits[..n])
 }
 
-fn put_number(out: Out, buffer: &mut [u8], number: i64) -> Out {
+fn put_number(out: usize, buffer: &mut [u8], number: i64) -> usize {
+    let magnitude = num::unsigned_abs(number);
     if number < 0 {
         let signed = put_byte(out, buffer, b'-');
-        return put_magnitude(signed, buffer, num::unsigned_abs(number));
+        return put_magnitude(signed, buffer, magnitude);
     }
-    put_magnitude(out, buffer, num::unsigned_abs(number))
+    put_magnitude(out, buffer, magnitude)
 }
 
 // A byte of a form: `@` stands for a number, `$` for a name, any other for itself.
-fn put_filled(out: Out, buffer: &mut [u8], byte: u8, name: &[u8], number: i64) -> Out {
+fn put_filled(out: usize, buffer: &mut [u8], byte: u8, name: &[u8], number: i64) -> usize {
     match byte {
         b'@' => put_number(out, buffer, number),
         b'$' => put(out, buffer, name),
@@ -85,28 +75,39 @@ fn taken(byte: u8) -> usize {
     if byte == b'@' { 1 } else { 0 }
 }
 
-// A form, with the name for each `$` and the numbers, one after the other, for each `@`.
-pub fn put_form(out: Out, buffer: &mut [u8], form: &[u8], name: &[u8], numbers: &[i64]) -> Out {
+// A form, with the name for each `$`, and the numbers, one after the other, for each `@`.
+pub fn put_named(
+    out: usize,
+    buffer: &mut [u8],
+    form: &[u8],
+    name: &[u8],
+    numbers: [i64; 6],
+) -> usize {
     let mut next = out;
     let mut n = 0;
     let mut i = 0;
     while i < form.len() {
         let byte = form[i];
-        next = put_filled(next, buffer, byte, name, sequence::entry_or(numbers, n, 0));
+        let number = sequence::entry_or(&numbers, n, 0);
+        next = put_filled(next, buffer, byte, name, number);
         n = num::saturating_add(n, taken(byte));
         i += 1;
     }
     next
 }
 
-// Writes a filled form to standard error.
-pub fn say(form: &[u8], name: &[u8], numbers: &[i64]) {
-    let mut buffer = [0u8; 256];
-    let out = Out {
-        fd: libc::STDERR_FILENO,
-        at: 0,
-        open: true,
-    };
-    let end = put_form(out, &mut buffer, form, name, numbers);
-    flush(end, &buffer);
+// A form with no name in it.
+pub fn put_form(out: usize, buffer: &mut [u8], form: &[u8], numbers: [i64; 6]) -> usize {
+    put_named(out, buffer, form, b"", numbers)
+}
+
+// Writes a filled form to standard error. It is shorter than its buffer.
+pub fn say_named(form: &[u8], name: &[u8], numbers: [i64; 6]) {
+    let mut buffer = [0u8; 512];
+    let n = put_named(0, &mut buffer, form, name, numbers);
+    io::write_all(STDERR_FILENO, words::part(&buffer, 0, n));
+}
+
+pub fn say(form: &[u8], line: i64) {
+    say_named(form, b"", [line, 0, 0, 0, 0, 0]);
 }

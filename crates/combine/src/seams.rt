@@ -144,16 +144,10 @@ fn mark_column(marks: &mut [i64], window: Window, ends: &[i64]) {
     }
 }
 
-pub fn mark_columns(
-    marks: &mut [i64],
-    window: Window,
-    table: &[i64],
-    offsets: &[usize],
-    columns: usize,
-) {
+pub fn mark_columns(marks: &mut [i64], window: Window, table: &[i64], columns: usize) {
     let mut c = 0;
     while c < columns {
-        mark_column(marks, window, job::ends_of(table, offsets, c));
+        mark_column(marks, window, job::ends_of(table, c));
         c += 1;
     }
 }

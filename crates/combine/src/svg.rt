@@ -3,8 +3,8 @@
 // them apart.
 use crate::job;
 use crate::job::Job;
-use crate::output::Out;
 use crate::output::put_form;
+use crate::output::put_named;
 use crate::seams;
 use crate::seams::Seam;
 use crate::seams::Window;
@@ -33,7 +33,7 @@ fn half(width: i64) -> i64 {
 fn print_width(number: i64) -> i64 {
     let mut digits = [0u8; 20];
     let n = io::decimal(num::unsigned_abs(number), &mut digits);
-    num::wrapping_add(num::wrapping_mul(num::as_signed(n as u64), 8), 12)
+    num::wrapping_add(num::wrapping_mul(num::as_signed(n as u64), 8), 4)
 }
 
 // The y of the strip of a column.
@@ -47,25 +47,24 @@ fn result_y(columns: usize) -> i64 {
 }
 
 // The value of a run, if the run is wide enough for it.
-fn draw_value(out: Out, buffer: &mut [u8], x: i64, width: i64, value: i64) -> Out {
+fn draw_value(out: usize, buffer: &mut [u8], x: i64, width: i64, value: i64) -> usize {
     if width < print_width(value) {
         return out;
     }
-    let numbers = [num::wrapping_add(x, half(width)), value];
+    let middle = num::wrapping_add(x, half(width));
     let form = b"<text x=\"@\" y=\"21\" class=\"value\">@</text>\n";
-    put_form(out, buffer, form, b"", &numbers)
+    put_form(out, buffer, form, [middle, value, 0, 0, 0, 0])
 }
 
 // Where a run starts behind another one, with a dot if other columns break there too.
-fn draw_break(out: Out, buffer: &mut [u8], x: i64, seam: Seam) -> Out {
-    let numbers = [x];
-    let form = b"<path d=\"M@ -2v36\" class=\"break\"/>\n";
-    let broken = put_form(out, buffer, form, b"", &numbers);
-    if !seam.is_of_several() {
-        return broken;
+fn draw_break(out: usize, buffer: &mut [u8], x: i64, seam: Seam) -> usize {
+    if seam.is_of_several() {
+        let dotted =
+            b"<path d=\"M@ -2v36\" class=\"break\"/><circle cx=\"@\" cy=\"16\" r=\"5\" class=\"dot\"/>\n";
+        return put_form(out, buffer, dotted, [x, x, 0, 0, 0, 0]);
     }
-    let dot = b"<circle cx=\"@\" cy=\"16\" r=\"5\" class=\"dot\"/>\n";
-    put_form(broken, buffer, dot, b"", &numbers)
+    let form = b"<path d=\"M@ -2v36\" class=\"break\"/>\n";
+    put_form(out, buffer, form, [x, 0, 0, 0, 0, 0])
 }
 
 // What of a run is drawn: where it starts and ends, and its value.
@@ -76,14 +75,14 @@ struct Run {
 }
 
 fn draw_run(
-    out: Out,
+    out: usize,
     buffer: &mut [u8],
     window: Window,
     marks: &[i64],
     form: &[u8],
     name: &[u8],
     run: Run,
-) -> Out {
+) -> usize {
     let x = window.x_of(run.start);
     let width = num::wrapping_sub(window.x_of(run.end), x);
     if width == 0 {
@@ -91,7 +90,7 @@ fn draw_run(
     }
     let value = run.value;
     let numbers = [x, width, colour_of(value), run.start, run.end, value];
-    let drawn = put_form(out, buffer, form, name, &numbers);
+    let drawn = put_named(out, buffer, form, name, numbers);
     let valued = draw_value(drawn, buffer, x, width, value);
     if run.start <= window.from {
         return valued;
@@ -100,14 +99,14 @@ fn draw_run(
 }
 
 fn draw_runs(
-    out: Out,
+    out: usize,
     buffer: &mut [u8],
     window: Window,
     marks: &[i64],
     name: &[u8],
     ends: &[i64],
     values: &[i64],
-) -> Out {
+) -> usize {
     let form =
         b"<rect x=\"@\" width=\"@\" height=\"32\" class=\"c@\"><title>$: @ up to @ shows @</title></rect>\n";
     let mut next = out;
@@ -126,14 +125,14 @@ fn draw_runs(
 
 // The fill, where a column has ended.
 fn draw_fill(
-    out: Out,
+    out: usize,
     buffer: &mut [u8],
     window: Window,
     marks: &[i64],
     name: &[u8],
     length: i64,
     fill: i64,
-) -> Out {
+) -> usize {
     let form =
         b"<rect x=\"@\" width=\"@\" height=\"32\" class=\"fill c@\"><title>$: @ up to @ is filled with @</title></rect>\n";
     let run = Run {
@@ -144,9 +143,9 @@ fn draw_fill(
     draw_run(out, buffer, window, marks, form, name, run)
 }
 
-// A strip: its name, its runs and the fill behind them.
+// A strip: its name, its runs and the fill behind them. Each strip is a group, and ends the group before it.
 fn draw_strip(
-    out: Out,
+    out: usize,
     buffer: &mut [u8],
     window: Window,
     marks: &[i64],
@@ -155,33 +154,38 @@ fn draw_strip(
     ends: &[i64],
     values: &[i64],
     fill: i64,
-) -> Out {
-    let start =
-        b"<g transform=\"translate(0,@)\">\n<text x=\"-12\" y=\"21\" class=\"name\">$</text>\n";
-    let named = put_form(out, buffer, start, name, &[y]);
+) -> usize {
+    let form =
+        b"</g>\n<g transform=\"translate(0,@)\">\n<text x=\"-12\" y=\"21\" class=\"name\">$</text>\n";
+    let named = put_named(out, buffer, form, name, [y, 0, 0, 0, 0, 0]);
     let runs = draw_runs(named, buffer, window, marks, name, ends, values);
-    let length = sequence::length(ends);
-    let filled = draw_fill(runs, buffer, window, marks, name, length, fill);
-    put_form(filled, buffer, b"</g>\n", b"", &[])
+    draw_fill(
+        runs,
+        buffer,
+        window,
+        marks,
+        name,
+        sequence::length(ends),
+        fill,
+    )
 }
 
 fn draw_columns(
-    out: Out,
+    out: usize,
     buffer: &mut [u8],
     window: Window,
     marks: &[i64],
     table: &[i64],
-    offsets: &[usize],
-    names: &[u8],
+    bytes: &[u8],
     columns: usize,
     fill: i64,
-) -> Out {
+) -> usize {
     let mut next = out;
     let mut c = 0;
     while c < columns {
-        let name = job::name_of(names, c);
-        let ends = job::ends_of(table, offsets, c);
-        let values = job::values_of(table, offsets, c);
+        let name = job::name_of(bytes, c);
+        let ends = job::ends_of(table, c);
+        let values = job::values_of(table, c);
         next = draw_strip(
             next,
             buffer,
@@ -207,10 +211,13 @@ struct Room {
 // How wide the print of a seam is.
 fn seam_width(seam: Seam) -> i64 {
     let width = print_width(seam.last);
-    if seam.is_near() {
-        return num::wrapping_add(width, width);
+    if seam.is_single() {
+        return width;
     }
-    num::larger(width, 64)
+    if seam.is_near() {
+        return num::wrapping_add(num::wrapping_mul(width, 2), 32);
+    }
+    num::larger(width, 72)
 }
 
 // Where the print of a seam starts.
@@ -246,39 +253,49 @@ fn room_after(room: Room, x: i64, seam: Seam) -> Room {
 }
 
 // A seam where one column breaks.
-fn draw_single(out: Out, buffer: &mut [u8], x: i64, seam: Seam, bottom: i64, room: i64) -> Out {
-    let form = b"<path d=\"M@ 84V@\" class=\"single\"><title>@: one column breaks</title></path>\n";
-    let drawn = put_form(out, buffer, form, b"", &[x, bottom, seam.last]);
+fn draw_single(out: usize, buffer: &mut [u8], x: i64, seam: Seam, bottom: i64, room: i64) -> usize {
+    let at = seam.last;
+    let line = b"<path d=\"M@ 84V@\" class=\"single\"><title>@: one column breaks</title></path>\n";
+    let drawn = put_form(out, buffer, line, [x, bottom, at, 0, 0, 0]);
     if print_start(x, seam) < room {
         return drawn;
     }
     let print = b"<text x=\"@\" y=\"@\" class=\"at\">@</text>\n";
-    let numbers = [x, num::wrapping_add(bottom, 14), seam.last];
-    put_form(drawn, buffer, print, b"", &numbers)
+    let y = num::wrapping_add(bottom, 14);
+    put_form(drawn, buffer, print, [x, y, at, 0, 0, 0])
 }
 
 // A seam where several columns break.
-fn draw_several(out: Out, buffer: &mut [u8], x: i64, seam: Seam, bottom: i64, room: i64) -> Out {
-    let form = b"<path d=\"M@ 84V@\" class=\"several\"><title>@: @ columns break</title></path>\n";
-    let drawn = put_form(out, buffer, form, b"", &[x, bottom, seam.last, seam.count]);
+fn draw_several(
+    out: usize,
+    buffer: &mut [u8],
+    x: i64,
+    seam: Seam,
+    bottom: i64,
+    room: i64,
+) -> usize {
+    let at = seam.last;
+    let count = seam.count;
+    let line = b"<path d=\"M@ 84V@\" class=\"several\"><title>@: @ columns break</title></path>\n";
+    let drawn = put_form(out, buffer, line, [x, bottom, at, count, 0, 0]);
     if print_start(x, seam) < room {
         return drawn;
     }
     let print =
         b"<g class=\"at several\"><text x=\"@\" y=\"64\">@</text><text x=\"@\" y=\"79\">@ columns</text></g>\n";
-    put_form(drawn, buffer, print, b"", &[x, seam.last, x, seam.count])
+    put_form(drawn, buffer, print, [x, at, x, count, 0, 0])
 }
 
 // Seams at several positions, on one x.
-fn draw_near(out: Out, buffer: &mut [u8], x: i64, seam: Seam, bottom: i64, room: i64) -> Out {
-    let form =
-        b"<path d=\"M@ 84V@\" class=\"near\"><title>@ breaks from @ up to @, not all on one position</title></path>\n";
+fn draw_near(out: usize, buffer: &mut [u8], x: i64, seam: Seam, bottom: i64, room: i64) -> usize {
+    let count = seam.count;
+    let line =
+        b"<path d=\"M@ 84V@\" class=\"near\"><title>@ breaks, from @ up to @</title></path>\n";
     let drawn = put_form(
         out,
         buffer,
-        form,
-        b"",
-        &[x, bottom, seam.count, seam.first, seam.last],
+        line,
+        [x, bottom, count, seam.first, seam.last, 0],
     );
     if print_start(x, seam) < room {
         return drawn;
@@ -289,12 +306,11 @@ fn draw_near(out: Out, buffer: &mut [u8], x: i64, seam: Seam, bottom: i64, room:
         drawn,
         buffer,
         print,
-        b"",
-        &[x, seam.first, seam.last, x, seam.count],
+        [x, seam.first, seam.last, x, count, 0],
     )
 }
 
-fn draw_seam(out: Out, buffer: &mut [u8], x: i64, seam: Seam, bottom: i64, room: Room) -> Out {
+fn draw_seam(out: usize, buffer: &mut [u8], x: i64, seam: Seam, bottom: i64, room: Room) -> usize {
     if seam.count == 0 {
         return out;
     }
@@ -307,7 +323,7 @@ fn draw_seam(out: Out, buffer: &mut [u8], x: i64, seam: Seam, bottom: i64, room:
     draw_single(out, buffer, x, seam, bottom, room.below)
 }
 
-fn draw_seams(out: Out, buffer: &mut [u8], marks: &[i64], bottom: i64) -> Out {
+fn draw_seams(out: usize, buffer: &mut [u8], marks: &[i64], bottom: i64) -> usize {
     let mut next = out;
     let mut room = Room {
         above: -100,
@@ -324,100 +340,100 @@ fn draw_seams(out: Out, buffer: &mut [u8], marks: &[i64], bottom: i64) -> Out {
     next
 }
 
-fn draw_style(out: Out, buffer: &mut [u8]) -> Out {
-    let print =
-        b"<style>text{font-family:sans-serif;font-size:13px;fill:#222}.head{font-size:16px}.name{text-anchor:end;font-size:14px}.value,.at,.at text{text-anchor:middle}.at,.at text{font-size:12px;fill:#666}.at.several text{fill:#14479e;font-weight:bold}.at.near text{fill:#b3261e;font-weight:bold}\n";
-    let lines =
-        b"path{fill:none}path.single{stroke:#888;stroke-dasharray:3 3}path.several{stroke:#14479e;stroke-width:4}path.near{stroke:#b3261e;stroke-width:4;stroke-dasharray:7 3}.break{stroke:#222;stroke-width:2}.dot{fill:#14479e;stroke:#fff;stroke-width:1.5}rect.fill{opacity:.35;stroke:#222;stroke-dasharray:4 3}\n";
-    let colours =
-        b".c0{fill:#cfd8dc}.c1{fill:#ffe0a3}.c2{fill:#bfe3b4}.c3{fill:#f6c1c1}.c4{fill:#c9d7f8}.c5{fill:#e6cdf2}.c6{fill:#b8e6e1}.c7{fill:#fbd0b0}.c8{fill:#e4e8a6}.c9{fill:#d8cbb9}.c10{fill:#aed9f2}</style>\n";
-    let printed = put_form(out, buffer, print, b"", &[]);
-    let lined = put_form(printed, buffer, lines, b"", &[]);
-    put_form(lined, buffer, colours, b"", &[])
-}
-
+// The start of the drawing, up to the group of its seams.
 fn draw_head(
-    out: Out,
+    out: usize,
     buffer: &mut [u8],
     window: Window,
     code: &[u8],
     columns: usize,
     bottom: i64,
-) -> Out {
+) -> usize {
+    let form =
+        b"<svg xmlns=\"http://www.w3.org/2000/svg\" width=\"1320\" height=\"@\" viewBox=\"0 0 1320 @\">
+<style>
+text { font: 13px sans-serif; fill: #222 }
+text.head { font-size: 16px }
+text.name { font-size: 14px; text-anchor: end }
+text.value, .at, .at text { text-anchor: middle }
+text.at, .at text { font-size: 12px; fill: #666 }
+.at.several text { font-weight: bold; fill: #14479e }
+.at.near text { font-weight: bold; fill: #b3261e }
+path.single { stroke: #888; stroke-dasharray: 3 3 }
+path.several { stroke: #14479e; stroke-width: 4 }
+path.near { stroke: #b3261e; stroke-width: 4; stroke-dasharray: 7 3 }
+path.break { stroke: #222; stroke-width: 2 }
+.dot { fill: #14479e; stroke: #fff; stroke-width: 1.5 }
+rect.fill { fill: #fff; stroke: #888; stroke-dasharray: 4 3 }
+.c0 { fill: #cfd8dc } .c1 { fill: #ffe0a3 } .c2 { fill: #bfe3b4 } .c3 { fill: #f6c1c1 }
+.c4 { fill: #c9d7f8 } .c5 { fill: #e6cdf2 } .c6 { fill: #b8e6e1 } .c7 { fill: #fbd0b0 }
+.c8 { fill: #e4e8a6 } .c9 { fill: #d8cbb9 } .c10 { fill: #aed9f2 }
+</style>
+<rect width=\"100%\" height=\"100%\" fill=\"#fff\"/>
+<g transform=\"translate(250,0)\">
+<text y=\"32\" class=\"head\">$ of @ columns, positions @ up to @</text>
+<g>
+";
     let height = num::wrapping_add(bottom, 76);
-    let start =
-        b"<svg xmlns=\"http://www.w3.org/2000/svg\" width=\"1220\" height=\"@\" viewBox=\"0 0 1220 @\">\n";
-    let numbers = [num::as_signed(columns as u64), window.from, window.to];
-    let opened = put_form(out, buffer, start, b"", &[height, height]);
-    let styled = draw_style(opened, buffer);
-    let text =
-        b"<title>$ of @ columns</title>\n<rect width=\"100%\" height=\"100%\" fill=\"#fff\"/>\n<g transform=\"translate(160,0)\">\n";
-    let begun = put_form(styled, buffer, text, code, &numbers);
-    let head =
-        b"<text x=\"0\" y=\"32\" class=\"head\">$ of @ columns, positions @ up to @</text>\n";
-    put_form(begun, buffer, head, code, &numbers)
+    let count = num::as_signed(columns as u64);
+    let numbers = [height, height, count, window.from, window.to, 0];
+    put_named(out, buffer, form, code, numbers)
 }
 
-// What the lines mean.
-fn draw_legend(out: Out, buffer: &mut [u8], bottom: i64) -> Out {
-    let start =
-        b"<g transform=\"translate(0,@)\"><path d=\"M0 0h36\" class=\"single\"/><text x=\"44\" y=\"4\">one column breaks</text>\n";
-    let several =
-        b"<path d=\"M190 0h36\" class=\"several\"/><circle cx=\"208\" cy=\"0\" r=\"5\" class=\"dot\"/><text x=\"234\" y=\"4\">columns with a dot break on this position</text>\n";
-    let near =
-        b"<path d=\"M520 0h36\" class=\"near\"/><text x=\"564\" y=\"4\">breaks on several positions, too close to be drawn apart</text></g>\n</g>\n</svg>\n";
-    let begun = put_form(out, buffer, start, b"", &[num::wrapping_add(bottom, 46)]);
-    let next = put_form(begun, buffer, several, b"", &[]);
-    put_form(next, buffer, near, b"", &[])
+// What the lines mean, and the end of the drawing.
+fn draw_legend(out: usize, buffer: &mut [u8], bottom: i64) -> usize {
+    let form = b"</g>
+<g transform=\"translate(0,@)\">
+<path d=\"M0 0h36\" class=\"single\"/><text x=\"44\" y=\"4\">one column breaks</text>
+<path d=\"M190 0h36\" class=\"several\"/><circle cx=\"208\" r=\"5\" class=\"dot\"/><text x=\"234\" y=\"4\">columns with a dot break on this position</text>
+<path d=\"M520 0h36\" class=\"near\"/><text x=\"564\" y=\"4\">breaks on several positions, too close to be drawn apart</text>
+</g>
+</g>
+</svg>
+";
+    put_form(
+        out,
+        buffer,
+        form,
+        [num::wrapping_add(bottom, 46), 0, 0, 0, 0, 0],
+    )
 }
 
 // The seams, and the strips over them.
 fn draw_strips(
-    out: Out,
+    out: usize,
     buffer: &mut [u8],
     window: Window,
     job: Job,
     table: &[i64],
-    offsets: &[usize],
-    names: &[u8],
+    bytes: &[u8],
     code: &[u8],
     ends: &[i64],
     values: &[i64],
     bottom: i64,
-) -> Out {
+) -> usize {
     let columns = job.columns;
     let fill = job.fill;
     let mut marks = [0i64; seams::MARKS];
-    seams::mark_columns(&mut marks, window, table, offsets, columns);
+    seams::mark_columns(&mut marks, window, table, columns);
     let seamed = draw_seams(out, buffer, &marks, bottom);
-    let drawn = draw_columns(
-        seamed,
-        buffer,
-        window,
-        &marks,
-        table,
-        offsets,
-        names,
-        columns,
-        fill,
-    );
+    let drawn = draw_columns(seamed, buffer, window, &marks, table, bytes, columns, fill);
     let y = result_y(columns);
-    draw_strip(drawn, buffer, window, &[], y, code, ends, values, 0)
+    draw_strip(drawn, buffer, window, &marks, y, code, ends, values, 0)
 }
 
 // The columns of a job, and the combination by a code below them.
 pub fn draw(
-    out: Out,
+    out: usize,
     buffer: &mut [u8],
     window: Window,
     job: Job,
     table: &[i64],
-    offsets: &[usize],
-    names: &[u8],
+    bytes: &[u8],
     code: &[u8],
     ends: &[i64],
     values: &[i64],
-) -> Out {
+) -> usize {
     let bottom = num::wrapping_add(result_y(job.columns), 40);
     let begun = draw_head(out, buffer, window, code, job.columns, bottom);
     let drawn = draw_strips(
@@ -426,8 +442,7 @@ pub fn draw(
         window,
         job,
         table,
-        offsets,
-        names,
+        bytes,
         code,
         ends,
         values,

@@ -1,4 +1,4 @@
-// Words and numbers in lines of text, for the programs.
+// Numbers in lines of text, for the programs.
 ghost use Prim.Native.Nat.{_<_, _≤_};
 ghost use lib.ListN.{length};
 ghost use Rattle.text.specs.Counts.{Counts};
@@ -17,72 +17,11 @@ pub fn line_end(text: &[u8], at: usize) -> usize
     end
 }
 
-// The bytes from one place up to another, as far as there are any.
-pub fn part(text: &[u8], from: usize, to: usize) -> &[u8] {
-    let n = text.len();
-    if n < from {
-        return &text[n..];
-    }
-    if to < from {
-        return &text[from..from];
-    }
-    if n < to {
-        return &text[from..];
-    }
-    &text[from..to]
-}
-
-// Whether two texts have the same bytes.
-pub fn same(a: &[u8], b: &[u8]) -> bool {
-    if a.len() != b.len() {
-        return false;
-    }
-    let mut i = 0;
-    while i < a.len() {
-        if a[i] != b[i] {
-            return false;
-        }
-        i += 1;
-    }
-    true
-}
-
-// Blanks are spaces, tabs and the carriage return before a line break.
-fn is_blank(byte: u8) -> bool {
-    match byte {
-        b' ' | b'\t' | b'\r' => true,
-        _ => false,
-    }
-}
-
-// Where a stretch of blanks, or of other bytes, ends.
-fn stretch_end(line: &[u8], at: usize, blank: bool) -> usize {
-    let mut end = at;
-    while end < line.len() {
-        if is_blank(line[end]) != blank {
-            return end;
-        }
-        end += 1;
-    }
-    end
-}
-
-// A word of a line, its words counted from 0; empty where there is none.
-pub fn word(line: &[u8], index: usize) -> &[u8] {
-    let mut from = stretch_end(line, 0, true);
-    let mut i = 0;
-    while i < index {
-        from = stretch_end(line, stretch_end(line, from, false), true);
-        i += 1;
-    }
-    part(line, from, stretch_end(line, from, false))
-}
-
 // A number of the text and the place behind it. It is not valid without a digit, or beyond i64.
-pub struct Number {
-    pub value: i64,
-    pub next: usize,
-    pub valid: bool,
+struct Number {
+    value: i64,
+    next: usize,
+    valid: bool,
 }
 
 // Digits and the place behind them.
@@ -152,22 +91,6 @@ fn signed_number(line: &[u8], at: usize) -> Number
     } else {
         number_within(line, at, false, 0x7fff_ffff_ffff_ffff)
     }
-}
-
-// The number that a word is.
-pub fn number_of(word: &[u8]) -> Number {
-    if word.len() == 0 {
-        return Number {
-            value: 0,
-            next: 0,
-            valid: false,
-        };
-    }
-    let read = signed_number(word, 0);
-    let value = read.value;
-    let next = read.next;
-    let valid = read.valid && next == word.len();
-    Number { value, next, valid }
 }
 
 // The numbers that were read of a line, and whether they are all that the line says.

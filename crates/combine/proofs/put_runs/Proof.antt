@@ -6,10 +6,10 @@ use Rattle.combine.proofs.put_runs.Statement.{statement}
 use Rattle.combine.proofs.put_runs.Tie as tie
 
 abbrev Inv-loop : tie.InvT-loop
-Inv-loop buffer₀ ends values next₀ r₀ t8 t9 buffer next r = length buffer ≡ length buffer₀
+Inv-loop out buffer₀ ends values next₀ r₀ t9 buffer next r = length buffer ≡ length buffer₀
 
 abbrev μ-loop : tie.MeasureT-loop
-μ-loop buffer₀ ends values next₀ r₀ t8 t9 buffer next r = length ends - r
+μ-loop out buffer₀ ends values next₀ r₀ t9 buffer next r = length ends - r
 
 loop-holds : tie.Need-loop-holds Inv-loop μ-loop
 loop-holds c = search needs
@@ -22,12 +22,6 @@ entry-or-requires-2 c κs = search needs
 
 slice-aggregate-put-form : tie.Need-slice-aggregate-put-form Inv-loop μ-loop
 slice-aggregate-put-form c = search needs
-
-slice-aggregate-put-form-2 : tie.Need-slice-aggregate-put-form-2 Inv-loop μ-loop
-slice-aggregate-put-form-2 c = search needs
-
-slice-aggregate-put-form-3 : tie.Need-slice-aggregate-put-form-3 Inv-loop μ-loop
-slice-aggregate-put-form-3 c = search needs
 
 put-form-requires : tie.Need-put-form-requires Inv-loop μ-loop
 put-form-requires c κs = search needs
@@ -57,8 +51,6 @@ put-runs-spec =
     entry-or-requires
     entry-or-requires-2
     slice-aggregate-put-form
-    slice-aggregate-put-form-2
-    slice-aggregate-put-form-3
     put-form-requires
     add-r
     loop-less

@@ -5,16 +5,19 @@ use Rattle.combine.proofs.job.name_end.Statement.{statement}
 use Rattle.combine.proofs.job.name_end.Tie as tie
 
 abbrev Inv-loop : tie.InvT-loop
-Inv-loop names from end₀ end = Unit {0}
+Inv-loop bytes from end₀ end = Unit {0}
 
 abbrev μ-loop : tie.MeasureT-loop
-μ-loop names from end₀ end = length names - end
+μ-loop bytes from end₀ end = length bytes - end
 
 loop-holds : tie.Need-loop-holds Inv-loop μ-loop
 loop-holds c = search needs
 
-shared-slice-read-if1 : tie.Need-shared-slice-read-if1 Inv-loop μ-loop
-shared-slice-read-if1 c = search needs
+shared-slice-read-is-name-byte : tie.Need-shared-slice-read-is-name-byte Inv-loop μ-loop
+shared-slice-read-is-name-byte c = search needs
+
+is-name-byte-requires : tie.Need-is-name-byte-requires Inv-loop μ-loop
+is-name-byte-requires c κs = search needs
 
 returns : tie.Need-returns Inv-loop μ-loop
 returns c = search needs
@@ -38,7 +41,8 @@ name-end-spec =
     Inv-loop
     μ-loop
     loop-holds
-    shared-slice-read-if1
+    shared-slice-read-is-name-byte
+    is-name-byte-requires
     returns
     add-end
     loop-less

@@ -5,10 +5,10 @@ use Rattle.combine.proofs.job.read.Statement.{statement}
 use Rattle.combine.proofs.job.read.Tie as tie
 
 abbrev Inv-loop : tie.InvT-loop
-Inv-loop line₀ table₀ offsets₀ names₀ job₀ turns₀ line table offsets names job turns = (length line ≡ length line₀) × (length table ≡ length table₀) × (length offsets ≡ length offsets₀) × (length names ≡ length names₀)
+Inv-loop bytes₀ table₀ job₀ turns₀ bytes table job turns = (length bytes ≡ length bytes₀) × (length table ≡ length table₀)
 
 abbrev μ-loop : tie.MeasureT-loop
-μ-loop line₀ table₀ offsets₀ names₀ job₀ turns₀ line table offsets names job turns = turns
+μ-loop bytes₀ table₀ job₀ turns₀ bytes table job turns = turns
 
 loop-holds : tie.Need-loop-holds Inv-loop μ-loop
 loop-holds c = search needs
@@ -18,12 +18,6 @@ same-length c = search needs
 
 same-length-2 : tie.Need-same-length-2 Inv-loop μ-loop
 same-length-2 c = search needs
-
-same-length-3 : tie.Need-same-length-3 Inv-loop μ-loop
-same-length-3 c = search needs
-
-same-length-4 : tie.Need-same-length-4 Inv-loop μ-loop
-same-length-4 c = search needs
 
 returns : tie.Need-returns Inv-loop μ-loop
 returns c = search needs
@@ -40,17 +34,11 @@ loop-less c = search needs
 loop-again : tie.Need-loop-again Inv-loop μ-loop
 loop-again c = search needs
 
-same-length-5 : tie.Need-same-length-5 Inv-loop μ-loop
-same-length-5 c = search needs
+same-length-3 : tie.Need-same-length-3 Inv-loop μ-loop
+same-length-3 c = search needs
 
-same-length-6 : tie.Need-same-length-6 Inv-loop μ-loop
-same-length-6 c = search needs
-
-same-length-7 : tie.Need-same-length-7 Inv-loop μ-loop
-same-length-7 c = search needs
-
-same-length-8 : tie.Need-same-length-8 Inv-loop μ-loop
-same-length-8 c = search needs
+same-length-4 : tie.Need-same-length-4 Inv-loop μ-loop
+same-length-4 c = search needs
 
 returns-2 : tie.Need-returns-2 Inv-loop μ-loop
 returns-2 c = search needs
@@ -64,15 +52,11 @@ read-spec =
     loop-holds
     same-length
     same-length-2
-    same-length-3
-    same-length-4
     returns
     read-some-requires
     sub-turns
     loop-less
     loop-again
-    same-length-5
-    same-length-6
-    same-length-7
-    same-length-8
+    same-length-3
+    same-length-4
     returns-2)

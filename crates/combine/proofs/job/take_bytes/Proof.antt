@@ -6,10 +6,10 @@ use Rattle.combine.proofs.job.take_bytes.Statement.{statement}
 use Rattle.combine.proofs.job.take_bytes.Tie as tie
 
 abbrev Inv-loop : tie.InvT-loop
-Inv-loop bytes line₀ table₀ offsets₀ names₀ next₀ i₀ line table offsets names next i = (length line ≡ length line₀) × (length table ≡ length table₀) × (length offsets ≡ length offsets₀) × (length names ≡ length names₀)
+Inv-loop input bytes₀ table₀ next₀ i₀ bytes table next i = (length bytes ≡ length bytes₀) × (length table ≡ length table₀)
 
 abbrev μ-loop : tie.MeasureT-loop
-μ-loop bytes line₀ table₀ offsets₀ names₀ next₀ i₀ line table offsets names next i = length bytes - i
+μ-loop input bytes₀ table₀ next₀ i₀ bytes table next i = length input - i
 
 loop-holds : tie.Need-loop-holds Inv-loop μ-loop
 loop-holds c = search needs
@@ -19,12 +19,6 @@ same-length c = search needs
 
 same-length-2 : tie.Need-same-length-2 Inv-loop μ-loop
 same-length-2 c = search needs
-
-same-length-3 : tie.Need-same-length-3 Inv-loop μ-loop
-same-length-3 c = search needs
-
-same-length-4 : tie.Need-same-length-4 Inv-loop μ-loop
-same-length-4 c = search needs
 
 returns : tie.Need-returns Inv-loop μ-loop
 returns c = search needs
@@ -44,17 +38,11 @@ loop-less c = search needs
 loop-again : tie.Need-loop-again Inv-loop μ-loop
 loop-again c = search needs
 
-same-length-5 : tie.Need-same-length-5 Inv-loop μ-loop
-same-length-5 c = search needs
+same-length-3 : tie.Need-same-length-3 Inv-loop μ-loop
+same-length-3 c = search needs
 
-same-length-6 : tie.Need-same-length-6 Inv-loop μ-loop
-same-length-6 c = search needs
-
-same-length-7 : tie.Need-same-length-7 Inv-loop μ-loop
-same-length-7 c = search needs
-
-same-length-8 : tie.Need-same-length-8 Inv-loop μ-loop
-same-length-8 c = search needs
+same-length-4 : tie.Need-same-length-4 Inv-loop μ-loop
+same-length-4 c = search needs
 
 returns-2 : tie.Need-returns-2 Inv-loop μ-loop
 returns-2 c = search needs
@@ -68,16 +56,12 @@ take-bytes-spec =
     loop-holds
     same-length
     same-length-2
-    same-length-3
-    same-length-4
     returns
     shared-slice-read-take-byte
     take-byte-requires
     add-i
     loop-less
     loop-again
-    same-length-5
-    same-length-6
-    same-length-7
-    same-length-8
+    same-length-3
+    same-length-4
     returns-2)

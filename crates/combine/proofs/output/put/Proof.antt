@@ -6,10 +6,10 @@ use Rattle.combine.proofs.output.put.Statement.{statement}
 use Rattle.combine.proofs.output.put.Tie as tie
 
 abbrev Inv-loop : tie.InvT-loop
-Inv-loop buffer₀ bytes next₀ i₀ buffer next i = length buffer ≡ length buffer₀
+Inv-loop out buffer₀ bytes next₀ i₀ buffer next i = length buffer ≡ length buffer₀
 
 abbrev μ-loop : tie.MeasureT-loop
-μ-loop buffer₀ bytes next₀ i₀ buffer next i = length bytes - i
+μ-loop out buffer₀ bytes next₀ i₀ buffer next i = length bytes - i
 
 loop-holds : tie.Need-loop-holds Inv-loop μ-loop
 loop-holds c = search needs

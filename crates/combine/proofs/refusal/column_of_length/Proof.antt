@@ -4,10 +4,10 @@ use Rattle.combine.proofs.refusal.column_of_length.Statement.{statement
 use Rattle.combine.proofs.refusal.column_of_length.Tie as tie
 
 abbrev Inv-loop : tie.InvT-loop
-Inv-loop table offsets columns length column₀ column = Unit {0}
+Inv-loop table columns length column₀ column = Unit {0}
 
 abbrev μ-loop : tie.MeasureT-loop
-μ-loop table offsets columns length column₀ column = columns - column
+μ-loop table columns length column₀ column = columns - column
 
 loop-holds : tie.Need-loop-holds Inv-loop μ-loop
 loop-holds c = search needs

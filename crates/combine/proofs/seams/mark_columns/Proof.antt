@@ -6,10 +6,10 @@ use Rattle.combine.proofs.seams.mark_columns.Statement.{statement}
 use Rattle.combine.proofs.seams.mark_columns.Tie as tie
 
 abbrev Inv-loop : tie.InvT-loop
-Inv-loop marks₀ window table offsets columns c₀ marks c = length marks ≡ length marks₀
+Inv-loop marks₀ window table columns c₀ marks c = length marks ≡ length marks₀
 
 abbrev μ-loop : tie.MeasureT-loop
-μ-loop marks₀ window table offsets columns c₀ marks c = columns - c
+μ-loop marks₀ window table columns c₀ marks c = columns - c
 
 loop-holds : tie.Need-loop-holds Inv-loop μ-loop
 loop-holds c = search needs

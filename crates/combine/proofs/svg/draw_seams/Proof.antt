@@ -6,10 +6,10 @@ use Rattle.combine.proofs.svg.draw_seams.Statement.{statement}
 use Rattle.combine.proofs.svg.draw_seams.Tie as tie
 
 abbrev Inv-loop : tie.InvT-loop
-Inv-loop buffer₀ marks bottom next₀ room₀ i₀ buffer next room i = length buffer ≡ length buffer₀
+Inv-loop out buffer₀ marks bottom next₀ room₀ i₀ buffer next room i = length buffer ≡ length buffer₀
 
 abbrev μ-loop : tie.MeasureT-loop
-μ-loop buffer₀ marks bottom next₀ room₀ i₀ buffer next room i = 1024 - i
+μ-loop out buffer₀ marks bottom next₀ room₀ i₀ buffer next room i = 1024 - i
 
 loop-holds : tie.Need-loop-holds Inv-loop μ-loop
 loop-holds c = search needs

@@ -1,8 +1,8 @@
 use Prim.Native.Nat.{_-_}
 use lib.ListN.{length}
 use borrow.Author.Needs.{needs}
-use Rattle.text.proofs.stretch_end.Statement.{statement}
-use Rattle.text.proofs.stretch_end.Tie as tie
+use Rattle.combine.proofs.words.stretch_end.Statement.{statement}
+use Rattle.combine.proofs.words.stretch_end.Tie as tie
 
 abbrev Inv-loop : tie.InvT-loop
 Inv-loop line at blank end₀ end = Unit {0}

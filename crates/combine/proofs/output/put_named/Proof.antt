@@ -2,20 +2,23 @@ use Prim.Native.Nat.{_-_}
 use mathlib.Core.Path.{_≡_}
 use lib.ListN.{length}
 use borrow.Author.Needs.{needs}
-use Rattle.combine.proofs.output.put_form.Statement.{statement}
-use Rattle.combine.proofs.output.put_form.Tie as tie
+use Rattle.combine.proofs.output.put_named.Statement.{statement}
+use Rattle.combine.proofs.output.put_named.Tie as tie
 
 abbrev Inv-loop : tie.InvT-loop
-Inv-loop buffer₀ form name numbers next₀ n₀ i₀ buffer next n i = length buffer ≡ length buffer₀
+Inv-loop out buffer₀ form name numbers next₀ n₀ i₀ buffer next n i = length buffer ≡ length buffer₀
 
 abbrev μ-loop : tie.MeasureT-loop
-μ-loop buffer₀ form name numbers next₀ n₀ i₀ buffer next n i = length form - i
+μ-loop out buffer₀ form name numbers next₀ n₀ i₀ buffer next n i = length form - i
 
 loop-holds : tie.Need-loop-holds Inv-loop μ-loop
 loop-holds c = search needs
 
 shared-slice-read-byte : tie.Need-shared-slice-read-byte Inv-loop μ-loop
 shared-slice-read-byte c = search needs
+
+slice-aggregate-entry-or : tie.Need-slice-aggregate-entry-or Inv-loop μ-loop
+slice-aggregate-entry-or c = search needs
 
 entry-or-requires : tie.Need-entry-or-requires Inv-loop μ-loop
 entry-or-requires c κs = search needs
@@ -44,14 +47,15 @@ same-length c = search needs
 returns : tie.Need-returns Inv-loop μ-loop
 returns c = search needs
 
-pub put-form-spec : {M : Type 1} → statement M
-put-form-spec =
+pub put-named-spec : {M : Type 1} → statement M
+put-named-spec =
     tie.close
     (tie.spec
     Inv-loop
     μ-loop
     loop-holds
     shared-slice-read-byte
+    slice-aggregate-entry-or
     entry-or-requires
     put-filled-requires
     taken-requires

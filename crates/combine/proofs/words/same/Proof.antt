@@ -1,8 +1,8 @@
 use Prim.Native.Nat.{_≤_, _-_}
 use lib.ListN.{length}
 use borrow.Author.Needs.{needs}
-use Rattle.text.proofs.same.Statement.{statement}
-use Rattle.text.proofs.same.Tie as tie
+use Rattle.combine.proofs.words.same.Statement.{statement}
+use Rattle.combine.proofs.words.same.Tie as tie
 
 abbrev Inv-loop : tie.InvT-loop
 Inv-loop a b i₀ i = i ≤ length a

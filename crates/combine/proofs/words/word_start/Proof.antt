@@ -1,13 +1,13 @@
 use Prim.Native.Nat.{_-_}
 use borrow.Author.Needs.{needs}
-use Rattle.text.proofs.word.Statement.{statement}
-use Rattle.text.proofs.word.Tie as tie
+use Rattle.combine.proofs.words.word_start.Statement.{statement}
+use Rattle.combine.proofs.words.word_start.Tie as tie
 
 abbrev Inv-loop : tie.InvT-loop
-Inv-loop line index from₀ i₀ from i = Unit {0}
+Inv-loop line index start₀ i₀ start i = Unit {0}
 
 abbrev μ-loop : tie.MeasureT-loop
-μ-loop line index from₀ i₀ from i = index - i
+μ-loop line index start₀ i₀ start i = index - i
 
 stretch-end-requires : tie.Need-stretch-end-requires Inv-loop μ-loop
 stretch-end-requires c κs = search needs
@@ -30,17 +30,11 @@ loop-less c = search needs
 loop-again : tie.Need-loop-again Inv-loop μ-loop
 loop-again c = search needs
 
-stretch-end-requires-4 : tie.Need-stretch-end-requires-4 Inv-loop μ-loop
-stretch-end-requires-4 c κs = search needs
-
-part-requires : tie.Need-part-requires Inv-loop μ-loop
-part-requires c κs = search needs
-
 returns : tie.Need-returns Inv-loop μ-loop
 returns c = search needs
 
-pub word-spec : {M : Type 1} → statement M
-word-spec =
+pub word-start-spec : {M : Type 1} → statement M
+word-start-spec =
     tie.close
     (tie.spec
     Inv-loop
@@ -52,6 +46,4 @@ word-spec =
     add-i
     loop-less
     loop-again
-    stretch-end-requires-4
-    part-requires
     returns)
