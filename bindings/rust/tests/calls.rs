@@ -57,7 +57,11 @@ fn names<'a>(text: &'a str, before: &str) -> BTreeSet<&'a str> {
 
 #[test]
 fn every_call_of_the_header_is_declared_and_tested_here() {
-    let header = names(include_str!("../../../include/runlength.h"), " rl_");
+    // What the header defines itself is no call.
+    let lines = include_str!("../../../include/runlength.h").lines();
+    let declared: Vec<&str> = lines.filter(|line| !line.starts_with("static")).collect();
+    let declared = declared.join("\n");
+    let header = names(&declared, " rl_");
     assert_eq!(header.len(), 43);
     assert_eq!(header, names(include_str!("../src/sys.rs"), " rl_"));
     let tests = names(include_str!("calls.rs"), "#[test]\nfn ");

@@ -1,12 +1,12 @@
 // Calls on a sequence that take intervals.
 pub mod inner;
 
-use slice::search;
 use column::answer::Asked;
 use column::answer::Batched;
 use column::answer::Counted;
 use column::answer::RleBatch;
 use column::sequence;
+use slice::search;
 ghost use Prim.Native.Nat.{_+_, _<_, _^_};
 ghost use Rattle.column.specs.Asking.{shownAsked};
 ghost use Rattle.column.specs.Flat.{WritesFlat};

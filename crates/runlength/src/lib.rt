@@ -496,7 +496,16 @@ pub extern "C" fn rl_slice_reduce(
         (intervals.sliceReduce (sequence (now (ends .entry)) (now (values .entry))) (now (starts .entry)) (now (stops .entry)) code ddof (length (now («out_kinds» .entry)) ∷ length (now («out_bits» .entry)) ∷ [])) r
         (now («out_kinds» .entry)) (now («out_kinds» .exit)) (now («out_bits» .entry)) (now («out_bits» .exit)) ⌝ }
 {
-    ffi::counted(intervals::slice_reduce(ends, values, starts, stops, code, ddof, out_kinds, out_bits))
+    ffi::counted(intervals::slice_reduce(
+        ends,
+        values,
+        starts,
+        stops,
+        code,
+        ddof,
+        out_kinds,
+        out_bits,
+    ))
 }
 
 #[no_mangle]
