@@ -17,8 +17,8 @@ scan-requires c κs = search needs
 returns : tie.Need-returns Inv-loop μ-loop
 returns c = search needs
 
-add-shares : tie.Need-add-shares Inv-loop μ-loop
-add-shares c = search needs
+shares-for-requires : tie.Need-shares-for-requires Inv-loop μ-loop
+shares-for-requires c κs = search needs
 
 loop-holds : tie.Need-loop-holds Inv-loop μ-loop
 loop-holds c = passing-start _ _
@@ -52,7 +52,7 @@ first-duplicate-spec =
     μ-loop
     scan-requires
     returns
-    add-shares
+    shares-for-requires
     loop-holds
     pass-requires
     scan-requires-2
