@@ -86,7 +86,7 @@ pub fn find(keys: &[u32], order: Order, near: usize, key: u32) -> usize
 }
 
 // How many wanted keys are looked for at once.
-const BLOCK: usize = 4096;
+const BLOCK: usize = 32_768;
 
 // Where it is quicker to put the keys into a table than to search for each wanted one.
 pub fn index_pays(order: Order, keys: usize, wanted: usize) -> bool
@@ -96,10 +96,10 @@ pub fn index_pays(order: Order, keys: usize, wanted: usize) -> bool
         Order::Ascending => return false,
         Order::Distinct | Order::Unknown => {}
     }
-    if keys < 128 {
+    if keys < 256 {
         return false;
     }
-    if wanted < 64 {
+    if wanted < 256 {
         return false;
     }
     keys < 0x1_0000_0000
@@ -118,7 +118,7 @@ fn block_end(i: usize, wanted: usize) -> usize
 
 // Finds the wanted keys of the block at i; the lowest position of the first.
 fn find_block(keys: &[u32], wanted: &[u32], i: usize, block: &mut [u32]) -> usize
-    requires { ⌜ (length (now keys) < 2 ^ 32) × (i < length (now wanted)) × (length (now block) ≡ 4096) ⌝ }
+    requires { ⌜ (length (now keys) < 2 ^ 32) × (i < length (now wanted)) × (length (now block) ≡ 32768) ⌝ }
     ensures { λ r. ⌜ BlockFound (now (keys .entry)) (now (wanted .entry)) i (now (block .exit)) r ⌝ }
 {
     let end = block_end(i, wanted.len());
