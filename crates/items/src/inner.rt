@@ -47,6 +47,7 @@ fn count_items_by(
     total
 }
 
+// With a block for the positions of wanted keys, where an index of the keys pays.
 pub fn count_items(
     keys: &[u32],
     offsets: &[usize],
@@ -134,6 +135,7 @@ fn getitems_by(
     used
 }
 
+// With a block for the positions of wanted keys, where an index of the keys pays.
 pub fn getitems(
     keys: &[u32],
     offsets: &[usize],
@@ -229,6 +231,7 @@ fn slice_reduce_by(
     i
 }
 
+// With a block for the positions of wanted keys, where an index of the keys pays.
 pub fn slice_reduce(
     keys: &[u32],
     offsets: &[usize],

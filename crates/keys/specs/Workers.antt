@@ -43,13 +43,11 @@ pub record FirstDouble (test : ℕ → Bool) (ks : List ℕ) (n r : ℕ) : Type 
 abbrev pub every : ℕ → Bool
 every k = true
 
--- ---- keys by shares, each put into a table
+-- ---- keys by shares, the positions of the keys of each put into a table
 
 -- a key with its bits mixed: a number below 2^32
 abbrev pub mixed : ℕ → ℕ
 mixed key = key * 2654435761 % 2 ^ 32
-
--- ---- the positions of the keys of a share, in a table
 
 -- the share of a key, where there are so many
 abbrev pub shareIn : ℕ → ℕ → ℕ
@@ -119,12 +117,14 @@ FoundAll ks ws fs = (j : ℕ) → j < length ws → getD fs j 0 ≡ lowest (getD
 
 -- ---- wanted keys in blocks, each found at once
 
+-- the block at i of so many wanted keys ends at r
 pub record BlockEnd (i wanted r : ℕ) : Type 0 where
   pub after : i < r
   pub within : r ≤ wanted
   pub short : r ≤ i + 32768
   pub whole : (r ≡ wanted → ⊥) → r ≡ i + 32768
 
+-- those of the block at i are found, the first of them at r
 pub record BlockFound (ks ws : List ℕ) (i : ℕ) (bs : List ℕ) (r : ℕ) : Type 0 where
   pub first : r ≡ lowest (getD ws i 0) ks
   pub found : (d : ℕ) → d < 32768 → i + d < length ws → getD bs d 0 ≡ lowest (getD ws (i + d) 0) ks
@@ -135,7 +135,7 @@ pub record Kept (ks ws : List ℕ) (indexed : Bool) (bs : List ℕ) (i : ℕ) : 
   pub few : indexed ≡ true → length ks < 2 ^ 32
   pub kept : indexed ≡ true → (i % 32768 ≡ 0 → ⊥) → (d : ℕ) → d < 32768 → i / 32768 * 32768 + d < length ws → getD bs d 0 ≡ lowest (getD ws (i / 32768 * 32768 + d) 0) ks
 
--- where a block of positions is kept
+-- what an index asks: few enough keys, and room for the positions of a block
 pub record Blocks (ks bs : List ℕ) : Type 0 where
   pub few : length ks < 2 ^ 32
   pub room : length bs ≡ 32768

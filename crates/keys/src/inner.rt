@@ -88,23 +88,33 @@ pub fn find(keys: &[u32], order: Order, near: usize, key: u32) -> usize
 // How many wanted keys are looked for at once.
 const BLOCK: usize = 32_768;
 
-// Where it is quicker to put the keys into a table than to search for each wanted one.
+// Whether a table of the keys is quicker than a search for each wanted one. The bounds are measured.
 pub fn index_pays(order: Order, keys: usize, wanted: usize) -> bool
     ensures { λ r. ⌜ (r ≡ true → keys < 2 ^ 32) ⌝ }
 {
     match order {
-        Order::Ascending => return false,
-        Order::Distinct | Order::Unknown => {}
+        Order::Ascending => {
+            if keys < 4096 {
+                return false;
+            }
+            if wanted < keys / 4 {
+                return false;
+            }
+            keys < 0x2_0000
+        }
+        Order::Distinct | Order::Unknown => {
+            if keys < 256 {
+                return false;
+            }
+            if wanted < 256 {
+                return false;
+            }
+            keys < 0x1_0000_0000
+        }
     }
-    if keys < 256 {
-        return false;
-    }
-    if wanted < 256 {
-        return false;
-    }
-    keys < 0x1_0000_0000
 }
 
+// Where the block at i ends.
 fn block_end(i: usize, wanted: usize) -> usize
     requires { ⌜ i < wanted ⌝ }
     ensures { λ r. ⌜ BlockEnd i wanted r ⌝ }

@@ -71,6 +71,9 @@ fn scan(keys: &[u32]) -> usize
 pub fn first_duplicate(keys: &[u32]) -> usize
     ensures { λ r. ⌜ FirstDouble every (now (keys .entry)) (length (now (keys .entry))) r ⌝ }
 {
+    if keys.len() < 48 {
+        return scan(keys);
+    }
     if 0xFFFF_FFFF < keys.len() {
         return scan(keys);
     }

@@ -179,6 +179,8 @@ fn find_each(
     }
 }
 
+// Puts a share into a table and finds the wanted keys of it. It is called at two places, so that it is not compiled into the look-up of
+// each interval, which would then touch the pages of the table at every call.
 fn find_share(keys: &[u32], shares: usize, part: usize, wanted: &[u32], found: &mut [u32])
     requires { ⌜ (shares < 2 ^ 32) × (length (now keys) < 2 ^ 32) × FoundBefore (now keys) (now wanted) shares part (now found) ⌝ }
     ensures { λ _. ⌜ FoundBefore (now (keys .entry)) (now (wanted .entry)) shares (part + 1) (now (found .exit)) ⌝ }
