@@ -2,12 +2,13 @@
 use batch::inner::part_at;
 use keys::Order;
 use slice::search;
+ghost use mathlib.Core.Bool.{true};
 ghost use mathlib.Core.List.{map};
 ghost use mathlib.Core.Path.{_≡_};
 ghost use lib.ListN.{length};
 ghost use Rattle.num.specs.Numbers.{saturated};
 ghost use Rattle.column.specs.Lists.{total};
-ghost use Rattle.keys.specs.Workers.{Known};
+ghost use Rattle.keys.specs.Workers.{Known, Blocks};
 ghost use Rattle.slice.specs.Workers.{FilledFlat};
 ghost use Rattle.reduce.specs.Reduce.{reduction};
 ghost use Rattle.reduce.specs.Workers.{FilledReductions};
@@ -16,6 +17,37 @@ ghost use Rattle.items.specs.Items.{itemRuns};
 ghost use Rattle.items.specs.Workers.{Intervals, Gettable, Reducible};
 
 // How many runs the slices of all intervals have; at most usize::MAX is told.
+fn count_items_by(
+    keys: &[u32],
+    offsets: &[usize],
+    ends: &[i64],
+    values: &[i64],
+    order: Order,
+    get_keys: &[u32],
+    starts: &[i64],
+    stops: &[i64],
+    indexed: bool,
+    block: &mut [u32],
+) -> usize
+    requires { ⌜ Intervals (batch (now keys) (now offsets) (now ends) (now values)) (now «get_keys») (now starts) (now stops) × Known order (now keys) × (indexed ≡ true → Blocks (now keys) (now block)) ⌝ }
+    ensures { λ r. ⌜ r ≡ saturated (total (map length (itemRuns (now («get_keys» .entry)) (now (starts .entry)) (now (stops .entry))
+        (entries (batch (now (keys .entry)) (now (offsets .entry)) (now (ends .entry)) (now (values .entry))))))) ⌝ }
+{
+    let mut total: usize = 0;
+    let mut at: usize = 0;
+    let mut i: usize = 0;
+    while i < starts.len() {
+        let start = starts[i];
+        let stop = stops[i];
+        at = keys::inner::find_next(keys, order, at, get_keys, i, indexed, &mut *block);
+        let touched = search::touched(part_at(offsets, ends, at), start, stop);
+        total = num::saturating_add(total, touched.count);
+        i += 1;
+    }
+    total
+}
+
+// With a block for the positions of wanted keys, where an index of the keys pays.
 pub fn count_items(
     keys: &[u32],
     offsets: &[usize],
@@ -30,23 +62,80 @@ pub fn count_items(
     ensures { λ r. ⌜ r ≡ saturated (total (map length (itemRuns (now («get_keys» .entry)) (now (starts .entry)) (now (stops .entry))
         (entries (batch (now (keys .entry)) (now (offsets .entry)) (now (ends .entry)) (now (values .entry))))))) ⌝ }
 {
-    let mut total: usize = 0;
-    let indexed = keys::inner::index_pays(order, keys.len(), get_keys.len());
-    let mut block = [0u32; 4096];
+    if keys::inner::index_pays(order, keys.len(), get_keys.len()) {
+        let mut block = [0u32; 32768];
+        return count_items_by(
+            keys,
+            offsets,
+            ends,
+            values,
+            order,
+            get_keys,
+            starts,
+            stops,
+            true,
+            &mut block,
+        );
+    }
+    let mut block = [0u32; 1];
+    count_items_by(
+        keys,
+        offsets,
+        ends,
+        values,
+        order,
+        get_keys,
+        starts,
+        stops,
+        false,
+        &mut block,
+    )
+}
+
+// The slice of each interval, behind those of the intervals before it.
+fn getitems_by(
+    keys: &[u32],
+    offsets: &[usize],
+    ends: &[i64],
+    values: &[i64],
+    order: Order,
+    get_keys: &[u32],
+    starts: &[i64],
+    stops: &[i64],
+    indexed: bool,
+    block: &mut [u32],
+    out_offsets: &mut [usize],
+    out_ends: &mut [i64],
+    out_values: &mut [i64],
+) -> usize
+    requires { ⌜ Gettable (batch (now keys) (now offsets) (now ends) (now values)) (now «get_keys») (now starts) (now stops) (now «out_offsets») (now «out_ends») (now «out_values») × Known order (now keys) × (indexed ≡ true → Blocks (now keys) (now block)) ⌝ }
+    ensures { λ r. ⌜ FilledFlat (itemRuns (now («get_keys» .entry)) (now (starts .entry)) (now (stops .entry)) (entries (batch (now (keys .entry)) (now (offsets .entry)) (now (ends .entry)) (now (values .entry)))))
+        (now («out_offsets» .entry)) (now («out_offsets» .exit)) (now («out_ends» .entry)) (now («out_ends» .exit)) (now («out_values» .entry)) (now («out_values» .exit)) r ⌝ }
+{
+    out_offsets[0] = 0;
+    let mut used: usize = 0;
     let mut at: usize = 0;
     let mut i: usize = 0;
     while i < starts.len() {
         let start = starts[i];
         let stop = stops[i];
-        at = keys::inner::find_next(keys, order, at, get_keys, i, indexed, &mut block);
-        let touched = search::touched(part_at(offsets, ends, at), start, stop);
-        total = num::saturating_add(total, touched.count);
+        at = keys::inner::find_next(keys, order, at, get_keys, i, indexed, &mut *block);
+        let part = part_at(offsets, ends, at);
+        let touched = search::touched(part, start, stop);
+        used += slice::inner::slice(
+            part,
+            part_at(offsets, values, at),
+            touched,
+            &mut out_ends[used..],
+            &mut out_values[used..],
+        );
         i += 1;
+        out_offsets[i] = used;
     }
-    total
+    used
 }
 
-// The slice of each interval, behind those of the intervals before it.
+// With a block for the positions of wanted keys, where an index of the keys pays.
 pub fn getitems(
     keys: &[u32],
     offsets: &[usize],
@@ -64,32 +153,85 @@ pub fn getitems(
     ensures { λ r. ⌜ FilledFlat (itemRuns (now («get_keys» .entry)) (now (starts .entry)) (now (stops .entry)) (entries (batch (now (keys .entry)) (now (offsets .entry)) (now (ends .entry)) (now (values .entry)))))
         (now («out_offsets» .entry)) (now («out_offsets» .exit)) (now («out_ends» .entry)) (now («out_ends» .exit)) (now («out_values» .entry)) (now («out_values» .exit)) r ⌝ }
 {
-    out_offsets[0] = 0;
-    let mut used: usize = 0;
-    let indexed = keys::inner::index_pays(order, keys.len(), get_keys.len());
-    let mut block = [0u32; 4096];
+    if keys::inner::index_pays(order, keys.len(), get_keys.len()) {
+        let mut block = [0u32; 32768];
+        return getitems_by(
+            keys,
+            offsets,
+            ends,
+            values,
+            order,
+            get_keys,
+            starts,
+            stops,
+            true,
+            &mut block,
+            out_offsets,
+            out_ends,
+            out_values,
+        );
+    }
+    let mut block = [0u32; 1];
+    getitems_by(
+        keys,
+        offsets,
+        ends,
+        values,
+        order,
+        get_keys,
+        starts,
+        stops,
+        false,
+        &mut block,
+        out_offsets,
+        out_ends,
+        out_values,
+    )
+}
+
+// The reduction of the slice of each interval.
+fn slice_reduce_by(
+    keys: &[u32],
+    offsets: &[usize],
+    ends: &[i64],
+    values: &[i64],
+    order: Order,
+    get_keys: &[u32],
+    starts: &[i64],
+    stops: &[i64],
+    indexed: bool,
+    block: &mut [u32],
+    code: u8,
+    ddof: i64,
+    out_kinds: &mut [u8],
+    out_bits: &mut [u64],
+) -> usize
+    requires { ⌜ Reducible (batch (now keys) (now offsets) (now ends) (now values)) (now «get_keys») (now starts) (now stops) (now «out_kinds») (now «out_bits») × Known order (now keys) × (indexed ≡ true → Blocks (now keys) (now block)) ⌝ }
+    ensures { λ r. ⌜ FilledReductions (map (reduction code ddof) (itemRuns (now («get_keys» .entry)) (now (starts .entry)) (now (stops .entry)) (entries (batch (now (keys .entry)) (now (offsets .entry)) (now (ends .entry)) (now (values .entry))))))
+        (now («out_kinds» .entry)) (now («out_kinds» .exit)) (now («out_bits» .entry)) (now («out_bits» .exit)) r ⌝ }
+{
     let mut at: usize = 0;
     let mut i: usize = 0;
     while i < starts.len() {
         let start = starts[i];
         let stop = stops[i];
-        at = keys::inner::find_next(keys, order, at, get_keys, i, indexed, &mut block);
-        let part = part_at(offsets, ends, at);
-        let touched = search::touched(part, start, stop);
-        used += slice::inner::slice(
-            part,
+        at = keys::inner::find_next(keys, order, at, get_keys, i, indexed, &mut *block);
+        let reduction = reduce::inner::reduce_slice(
+            part_at(offsets, ends, at),
             part_at(offsets, values, at),
-            touched,
-            &mut out_ends[used..],
-            &mut out_values[used..],
+            start,
+            stop,
+            code,
+            ddof,
         );
+        out_kinds[i] = reduce::inner::kind(reduction);
+        out_bits[i] = reduce::inner::bits(reduction);
         i += 1;
-        out_offsets[i] = used;
     }
-    used
+    i
 }
 
-// The reduction of the slice of each interval.
+// With a block for the positions of wanted keys, where an index of the keys pays.
 pub fn slice_reduce(
     keys: &[u32],
     offsets: &[usize],
@@ -108,25 +250,40 @@ pub fn slice_reduce(
     ensures { λ r. ⌜ FilledReductions (map (reduction code ddof) (itemRuns (now («get_keys» .entry)) (now (starts .entry)) (now (stops .entry)) (entries (batch (now (keys .entry)) (now (offsets .entry)) (now (ends .entry)) (now (values .entry))))))
         (now («out_kinds» .entry)) (now («out_kinds» .exit)) (now («out_bits» .entry)) (now («out_bits» .exit)) r ⌝ }
 {
-    let indexed = keys::inner::index_pays(order, keys.len(), get_keys.len());
-    let mut block = [0u32; 4096];
-    let mut at: usize = 0;
-    let mut i: usize = 0;
-    while i < starts.len() {
-        let start = starts[i];
-        let stop = stops[i];
-        at = keys::inner::find_next(keys, order, at, get_keys, i, indexed, &mut block);
-        let reduction = reduce::inner::reduce_slice(
-            part_at(offsets, ends, at),
-            part_at(offsets, values, at),
-            start,
-            stop,
+    if keys::inner::index_pays(order, keys.len(), get_keys.len()) {
+        let mut block = [0u32; 32768];
+        return slice_reduce_by(
+            keys,
+            offsets,
+            ends,
+            values,
+            order,
+            get_keys,
+            starts,
+            stops,
+            true,
+            &mut block,
             code,
             ddof,
+            out_kinds,
+            out_bits,
         );
-        out_kinds[i] = reduce::inner::kind(reduction);
-        out_bits[i] = reduce::inner::bits(reduction);
-        i += 1;
     }
-    i
+    let mut block = [0u32; 1];
+    slice_reduce_by(
+        keys,
+        offsets,
+        ends,
+        values,
+        order,
+        get_keys,
+        starts,
+        stops,
+        false,
+        &mut block,
+        code,
+        ddof,
+        out_kinds,
+        out_bits,
+    )
 }

@@ -1,6 +1,6 @@
 -- What the searches leave and require.
 use Prim.Native.Nat.{ℕ, _+_, _*_, _-_, _≤_, _<_, _^_, _/_, _%_}
-use mathlib.Core.Bool.{Bool, true, false, _&&_, _||_}
+use mathlib.Core.Bool.{Bool, true, false, _&&_}
 use mathlib.Core.Option.{none}
 use mathlib.Core.List.{List, [], _∷_}
 use mathlib.Core.Path.{_≡_}
@@ -43,13 +43,11 @@ pub record FirstDouble (test : ℕ → Bool) (ks : List ℕ) (n r : ℕ) : Type 
 abbrev pub every : ℕ → Bool
 every k = true
 
--- ---- keys by shares, each put into a table
+-- ---- keys by shares, the positions of the keys of each put into a table
 
 -- a key with its bits mixed: a number below 2^32
 abbrev pub mixed : ℕ → ℕ
 mixed key = key * 2654435761 % 2 ^ 32
-
--- ---- the positions of the keys of a share, in a table
 
 -- the share of a key, where there are so many
 abbrev pub shareIn : ℕ → ℕ → ℕ
@@ -119,18 +117,25 @@ FoundAll ks ws fs = (j : ℕ) → j < length ws → getD fs j 0 ≡ lowest (getD
 
 -- ---- wanted keys in blocks, each found at once
 
+-- the block at i of so many wanted keys ends at r
 pub record BlockEnd (i wanted r : ℕ) : Type 0 where
   pub after : i < r
   pub within : r ≤ wanted
-  pub short : r ≤ i + 4096
-  pub whole : (r ≡ wanted → ⊥) → r ≡ i + 4096
+  pub short : r ≤ i + 32768
+  pub whole : (r ≡ wanted → ⊥) → r ≡ i + 32768
 
+-- those of the block at i are found, the first of them at r
 pub record BlockFound (ks ws : List ℕ) (i : ℕ) (bs : List ℕ) (r : ℕ) : Type 0 where
   pub first : r ≡ lowest (getD ws i 0) ks
-  pub found : (d : ℕ) → d < 4096 → i + d < length ws → getD bs d 0 ≡ lowest (getD ws (i + d) 0) ks
+  pub found : (d : ℕ) → d < 32768 → i + d < length ws → getD bs d 0 ≡ lowest (getD ws (i + d) 0) ks
 
 -- before the wanted key at i is looked for: those of its block are found, unless it is the first of the block
 pub record Kept (ks ws : List ℕ) (indexed : Bool) (bs : List ℕ) (i : ℕ) : Type 0 where
-  pub room : length bs ≡ 4096
+  pub room : indexed ≡ true → length bs ≡ 32768
   pub few : indexed ≡ true → length ks < 2 ^ 32
-  pub kept : indexed ≡ true → (i % 4096 ≡ 0 → ⊥) → (d : ℕ) → d < 4096 → i / 4096 * 4096 + d < length ws → getD bs d 0 ≡ lowest (getD ws (i / 4096 * 4096 + d) 0) ks
+  pub kept : indexed ≡ true → (i % 32768 ≡ 0 → ⊥) → (d : ℕ) → d < 32768 → i / 32768 * 32768 + d < length ws → getD bs d 0 ≡ lowest (getD ws (i / 32768 * 32768 + d) 0) ks
+
+-- what an index asks: few enough keys, and room for the positions of a block
+pub record Blocks (ks bs : List ℕ) : Type 0 where
+  pub few : length ks < 2 ^ 32
+  pub room : length bs ≡ 32768

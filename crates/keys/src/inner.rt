@@ -86,25 +86,35 @@ pub fn find(keys: &[u32], order: Order, near: usize, key: u32) -> usize
 }
 
 // How many wanted keys are looked for at once.
-const BLOCK: usize = 4096;
+const BLOCK: usize = 32_768;
 
-// Where it is quicker to put the keys into a table than to search for each wanted one.
+// Whether a table of the keys is quicker than a search for each wanted one. The bounds are measured.
 pub fn index_pays(order: Order, keys: usize, wanted: usize) -> bool
     ensures { λ r. ⌜ (r ≡ true → keys < 2 ^ 32) ⌝ }
 {
     match order {
-        Order::Ascending => return false,
-        Order::Distinct | Order::Unknown => {}
+        Order::Ascending => {
+            if keys < 4096 {
+                return false;
+            }
+            if wanted < keys / 4 {
+                return false;
+            }
+            keys < 0x2_0000
+        }
+        Order::Distinct | Order::Unknown => {
+            if keys < 256 {
+                return false;
+            }
+            if wanted < 256 {
+                return false;
+            }
+            keys < 0x1_0000_0000
+        }
     }
-    if keys < 128 {
-        return false;
-    }
-    if wanted < 64 {
-        return false;
-    }
-    keys < 0x1_0000_0000
 }
 
+// Where the block at i ends.
 fn block_end(i: usize, wanted: usize) -> usize
     requires { ⌜ i < wanted ⌝ }
     ensures { λ r. ⌜ BlockEnd i wanted r ⌝ }
@@ -118,7 +128,7 @@ fn block_end(i: usize, wanted: usize) -> usize
 
 // Finds the wanted keys of the block at i; the lowest position of the first.
 fn find_block(keys: &[u32], wanted: &[u32], i: usize, block: &mut [u32]) -> usize
-    requires { ⌜ (length (now keys) < 2 ^ 32) × (i < length (now wanted)) × (length (now block) ≡ 4096) ⌝ }
+    requires { ⌜ (length (now keys) < 2 ^ 32) × (i < length (now wanted)) × (length (now block) ≡ 32768) ⌝ }
     ensures { λ r. ⌜ BlockFound (now (keys .entry)) (now (wanted .entry)) i (now (block .exit)) r ⌝ }
 {
     let end = block_end(i, wanted.len());

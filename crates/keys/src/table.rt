@@ -1,15 +1,13 @@
 // Double keys among keys in any order, a share of them at a time.
 use crate::inner::index::enter;
 use crate::inner::index::next_in_share;
+use crate::inner::index::shares_for;
 ghost use Prim.Native.Nat.{_≤_, _<_, _^_};
 ghost use mathlib.Core.Path.{_≡_};
 ghost use lib.ListN.{length};
 ghost use lib.Dec.{eqb};
 ghost use Rattle.column.specs.Lists.{any};
 ghost use Rattle.keys.specs.Workers.{every, FirstDouble, PassedShare};
-
-// How many keys of a share there are if they are dealt out evenly.
-const SHARE: usize = 16_384;
 
 // Where a pass has ended, and whether it was for want of room in the table.
 struct Passed {
@@ -73,10 +71,13 @@ fn scan(keys: &[u32]) -> usize
 pub fn first_duplicate(keys: &[u32]) -> usize
     ensures { λ r. ⌜ FirstDouble every (now (keys .entry)) (length (now (keys .entry))) r ⌝ }
 {
+    if keys.len() < 48 {
+        return scan(keys);
+    }
     if 0xFFFF_FFFF < keys.len() {
         return scan(keys);
     }
-    let shares = keys.len() / SHARE + 1;
+    let shares = shares_for(keys.len());
     let mut limit = keys.len();
     let mut part: usize = 0;
     while part < shares {

@@ -14,6 +14,14 @@ const REACH: usize = 256;
 // How many keys of a share there are if they are dealt out evenly: half as many as the table has slots.
 const SHARE: usize = 16_384;
 
+// How many shares there are of so many keys.
+pub fn shares_for(keys: usize) -> usize
+    requires { ⌜ keys < 2 ^ 32 ⌝ }
+    ensures { λ r. ⌜ (0 < r) × (r < 2 ^ 32) ⌝ }
+{
+    keys / SHARE + 1
+}
+
 // A prime near 2^32 divided by the golden ratio.
 const FACTOR: u64 = 2_654_435_761;
 
@@ -171,6 +179,8 @@ fn find_each(
     }
 }
 
+// Puts a share into a table and finds the wanted keys of it. It is called at two places, so that it is not compiled into the look-up of
+// each interval, which would then touch the pages of the table at every call.
 fn find_share(keys: &[u32], shares: usize, part: usize, wanted: &[u32], found: &mut [u32])
     requires { ⌜ (shares < 2 ^ 32) × (length (now keys) < 2 ^ 32) × FoundBefore (now keys) (now wanted) shares part (now found) ⌝ }
     ensures { λ _. ⌜ FoundBefore (now (keys .entry)) (now (wanted .entry)) shares (part + 1) (now (found .exit)) ⌝ }
@@ -185,10 +195,11 @@ pub fn find_all(keys: &[u32], wanted: &[u32], found: &mut [u32])
     requires { ⌜ (length (now keys) < 2 ^ 32) × (length (now wanted) ≤ length (now found)) ⌝ }
     ensures { λ _. ⌜ FoundAll (now (keys .entry)) (now (wanted .entry)) (now (found .exit)) ⌝ }
 {
-    let shares = keys.len() / SHARE + 1;
-    let mut part: usize = 0;
+    let shares = shares_for(keys.len());
+    find_share(keys, shares, 0, wanted, &mut *found);
+    let mut part: usize = 1;
     while part < shares {
-        find_share(keys, shares, part, wanted, found);
+        find_share(keys, shares, part, wanted, &mut *found);
         part += 1;
     }
 }

@@ -1,174 +1,64 @@
-use Prim.Native.Nat.{ℕ, _+_, _-_, _≤_}
-use mathlib.Core.List.{[]}
-use mathlib.Core.Path.{refl, sym}
-use native.Mathlib.Omega.{arith}
-use denote.Ref.{now}
-use lib.ListN.{length, getD, take, drop, length-set, length-replicate}
-use Rattle.num.proofs.Bits.{back}
-use Rattle.column.specs.Runs.{Filled}
-use Rattle.keys.specs.Workers.{Kept}
-use Rattle.keys.proofs.Indexing.{kept-start}
-use Rattle.slice.proofs.Items.{Laying}
-use Rattle.batch.specs.Batch.{batch, entries}
-use Rattle.items.specs.Items.{itemRuns}
-use Rattle.items.proofs.Keyed.{item-touches, item-filled, laid-start, laid-room, laid-next, laid-end}
+use Prim.Native.Nat.{ℕ}
+use mathlib.Core.Path.{refl}
+use lib.ListN.{length-replicate}
+use Rattle.keys.proofs.Lowest.{no-test}
 use borrow.Author.Needs.{needs}
 use Rattle.items.proofs.inner.getitems.Statement.{statement}
 use Rattle.items.proofs.inner.getitems.Tie as tie
 
-abbrev Inv-loop : tie.InvT-loop
-Inv-loop keys offsets ends values order get-keys starts stops out-offsets₀ out-ends₀ out-values₀ used₀ indexed block₀ at₀ i₀ out-offsets out-ends out-values used block at i =
-    Laying (itemRuns get-keys starts stops (entries (batch keys offsets ends values))) out-offsets₀ out-offsets out-ends₀ out-ends out-values₀ out-values used i
-    × Kept keys get-keys indexed block i
-
-abbrev μ-loop : tie.MeasureT-loop
-μ-loop keys offsets ends values order get-keys starts stops out-offsets₀ out-ends₀ out-values₀ used₀ indexed block₀ at₀ i₀ out-offsets out-ends out-values used block at i = length starts - i
-
--- the room for the next slice
-room : (c : tie.In-loop Inv-loop μ-loop) → let l = c .before in let a = c .before .before .before .before .before .before .before .args in
-    let n = l .loop .used + length (getD (itemRuns (now (a .get-keys)) (now (a .starts)) (now (a .stops)) (entries (batch (now (a .keys)) (now (a .offsets)) (now (a .ends)) (now (a .values))))) (l .loop .i) []) in
-    (n ≤ length (l .loop .out-ends)) × (n ≤ length (l .loop .out-values))
-room c = laid-room (c .before .before .before .before .before .before .before .pre .0) (c .before .loop .inv .0) (c .loop-test .taken)
-
--- what the worker left in the rest of the buffers
-wrote : (c : tie.After-slice Inv-loop μ-loop) → let l = c .before .before .before .before .before .before .before .before .before .before .before .before in let a = c .before .before .before .before .before .before .before .before .before .before .before .before .before .before .before .before .before .before .args in
-    Filled (getD (itemRuns (now (a .get-keys)) (now (a .starts)) (now (a .stops)) (entries (batch (now (a .keys)) (now (a .offsets)) (now (a .ends)) (now (a .values))))) (l .loop .i) [])
-    (take (length (l .loop .out-ends) - l .loop .used) (drop (l .loop .used) (l .loop .out-ends))) (c .slice .last .1 .1 .1 .0)
-    (take (length (l .loop .out-values) - l .loop .used) (drop (l .loop .used) (l .loop .out-values))) (c .slice .last .1 .1 .1 .1 .0) (c .slice .result)
-wrote c = item-filled (c .before .before .before .before .before .before .before .before .before .before .before .before .before .before .before .before .before .before .pre .0 .intervals) (c .before .before .before .before .before .before .before .before .before .before .before .loop-test .taken) (back _ (c .before .before .before .before .before .before .before .before .before .before .start .given)) (back _ (c .before .before .before .before .before .before .before .before .before .stop .given)) refl
-    (c .before .before .before .before .before .before .before .find-next .ensures .0) (c .before .before .before .before .before .part-at .ensures) (c .before .before .before .before .touched .ensures) (c .before .before .before .part-at2 .ensures) (c .slice .ensures)
-
-slice-write-out-offsets : tie.Need-slice-write-out-offsets Inv-loop μ-loop
-slice-write-out-offsets c = omega (arith, c .before .before .before .before .pre .0 .room-offsets)
-
-index-pays-requires : tie.Need-index-pays-requires Inv-loop μ-loop
+index-pays-requires : tie.Need-index-pays-requires
 index-pays-requires c κs = search needs
 
-loop-holds : tie.Need-loop-holds Inv-loop μ-loop
-loop-holds c = (laid-start (c .before .before .before .before .before .pre .0), kept-start (length-replicate {A = ℕ} 4096 0) (c .index-pays .ensures))
+slice-aggregate-getitems-by : tie.Need-slice-aggregate-getitems-by
+slice-aggregate-getitems-by c = search needs
 
-mul-start : tie.Need-mul-start Inv-loop μ-loop
-mul-start c = search needs
+getitems-by-requires : tie.Need-getitems-by-requires
+getitems-by-requires c κs = (c .before .before .before .before .before .before .before .before .before .before .pre .0, c .before .before .before .before .before .before .before .before .before .before .pre .1, λ t. record { few = c .before .before .before .before .before .index-pays .ensures (c .before .before .before .before .if1 .taken); room = length-replicate {A = ℕ} 32768 0 })
 
-shared-slice-copy-out-start : tie.Need-shared-slice-copy-out-start Inv-loop μ-loop
-shared-slice-copy-out-start c = search needs
+same-length : tie.Need-same-length
+same-length c = search needs
 
-mul-stop : tie.Need-mul-stop Inv-loop μ-loop
-mul-stop c = search needs
+same-length-2 : tie.Need-same-length-2
+same-length-2 c = search needs
 
-shared-slice-copy-out-stop : tie.Need-shared-slice-copy-out-stop Inv-loop μ-loop
-shared-slice-copy-out-stop c = omega (arith, c .before .loop-test .taken, c .before .before .before .before .before .before .before .before .pre .0 .intervals .paired)
+same-length-3 : tie.Need-same-length-3
+same-length-3 c = search needs
 
-slice-aggregate-find-next : tie.Need-slice-aggregate-find-next Inv-loop μ-loop
-slice-aggregate-find-next c = sym (c .before .before .before .before .loop .inv .1 .room)
+returns : tie.Need-returns
+returns c = search needs
 
-find-next-requires : tie.Need-find-next-requires Inv-loop μ-loop
-find-next-requires c κs = (c .before .before .before .before .before .before .before .before .before .before .pre .1, omega (arith, c .before .before .before .loop-test .taken, c .before .before .before .before .before .before .before .before .before .before .pre .0 .intervals .keyed), c .before .before .before .before .loop .inv .1)
+slice-aggregate-getitems-by-2 : tie.Need-slice-aggregate-getitems-by-2
+slice-aggregate-getitems-by-2 c = search needs
 
-part-at-requires : tie.Need-part-at-requires Inv-loop μ-loop
-part-at-requires c κs = search needs
+getitems-by-requires-2 : tie.Need-getitems-by-requires-2
+getitems-by-requires-2 c κs = (c .before .before .before .before .before .before .before .before .before .before .pre .0, c .before .before .before .before .before .before .before .before .before .before .pre .1, λ t. no-test t refl)
 
-touched-requires : tie.Need-touched-requires Inv-loop μ-loop
-touched-requires c κs = search needs
+same-length-4 : tie.Need-same-length-4
+same-length-4 c = search needs
 
-part-at-requires-2 : tie.Need-part-at-requires-2 Inv-loop μ-loop
-part-at-requires-2 c κs = search needs
+same-length-5 : tie.Need-same-length-5
+same-length-5 c = search needs
 
-mul-slice : tie.Need-mul-slice Inv-loop μ-loop
-mul-slice c = let n = c .before .before .before .before .before .before .before .before in omega (arith, room n .0, n .before .loop .inv .0 .long-ends, c .before .before .before .before .before .before .before .before .before .before .before .before .before .before .before .good)
+same-length-6 : tie.Need-same-length-6
+same-length-6 c = search needs
 
-sub-slice : tie.Need-sub-slice Inv-loop μ-loop
-sub-slice c = let r = room (c .before .before .before .before .before .before .before .before) in omega (arith, r .0, r .1)
-
-part-slice-start : tie.Need-part-slice-start Inv-loop μ-loop
-part-slice-start c = let r = room (c .before .before .before .before .before .before .before .before) in omega (arith, r .0, r .1)
-
-part-slice-end : tie.Need-part-slice-end Inv-loop μ-loop
-part-slice-end c = let r = room (c .before .before .before .before .before .before .before .before) in omega (arith, r .0, r .1)
-
-mul-slice-2 : tie.Need-mul-slice-2 Inv-loop μ-loop
-mul-slice-2 c = let n = c .before .before .before .before .before .before .before .before .before in omega (arith, room n .0, n .before .loop .inv .0 .long-ends, c .before .before .before .before .before .before .before .before .before .before .before .before .before .before .before .before .good)
-
-sub-slice-2 : tie.Need-sub-slice-2 Inv-loop μ-loop
-sub-slice-2 c = let r = room (c .before .before .before .before .before .before .before .before .before) in omega (arith, r .0, r .1)
-
-part-slice-start-2 : tie.Need-part-slice-start-2 Inv-loop μ-loop
-part-slice-start-2 c = let r = room (c .before .before .before .before .before .before .before .before .before) in omega (arith, r .0, r .1)
-
-part-slice-end-2 : tie.Need-part-slice-end-2 Inv-loop μ-loop
-part-slice-end-2 c = let r = room (c .before .before .before .before .before .before .before .before .before) in omega (arith, r .0, r .1)
-
-slice-requires : tie.Need-slice-requires Inv-loop μ-loop
-slice-requires c κs = let n = c .before .before .before .before .before .before .before .before .before .before in
-    let l = n .before in
-    item-touches (c .before .before .before .before .before .before .before .before .before .before .before .before .before .before .before .before .before .pre .0 .intervals) (n .loop-test .taken) (back _ (c .before .before .before .before .before .before .before .before .before .start .given)) (back _ (c .before .before .before .before .before .before .before .before .stop .given)) refl
-    (c .before .before .before .before .before .before .find-next .ensures .0) (c .before .before .before .before .part-at .ensures) (c .before .before .before .touched .ensures) (c .before .before .part-at2 .ensures) (l .loop .out-ends) (l .loop .out-values) (l .loop .used) (room n .0) (room n .1)
-
-add-used : tie.Need-add-used Inv-loop μ-loop
-add-used c = let n = c .before .before .before .before .before .before .before .before .before .before .before .before .before in omega (arith, room n .0, wrote (c .before .before) .count, n .before .loop .inv .0 .long-ends, c .before .before .before .before .before .before .before .before .before .before .before .before .before .before .before .before .before .before .before .before .good)
-
-add-i : tie.Need-add-i Inv-loop μ-loop
-add-i c = omega (arith, c .before .before .before .before .before .before .before .before .before .before .before .before .before .loop-test .taken, c .before .before .before .before .before .before .before .before .before .before .before .before .before .before .before .before .before .before .before .before .good)
-
-mul-out-offsets : tie.Need-mul-out-offsets Inv-loop μ-loop
-mul-out-offsets c = omega (arith, c .before .before .before .before .before .before .before .before .before .before .before .before .before .loop-test .taken, c .before .before .before .before .before .before .before .before .before .before .before .before .before .before .before .before .before .before .before .before .good)
-
-slice-write-out-offsets-2 : tie.Need-slice-write-out-offsets-2 Inv-loop μ-loop
-slice-write-out-offsets-2 c = let s = c .before .before .before .before .before .before .before .before .before .before .before .before .before .before .before .before .before .before .before .before in omega (arith, c .before .before .before .before .before .before .before .before .before .before .before .before .before .loop-test .taken, s .pre .0 .room-offsets, c .before .before .before .before .before .before .before .before .before .before .before .before .before .before .loop .inv .0 .long-offsets, length-set (now (s .args .out-offsets)) 0 0)
-
-loop-less : tie.Need-loop-less Inv-loop μ-loop
-loop-less c = search needs
-
-loop-again : tie.Need-loop-again Inv-loop μ-loop
-loop-again c = let n = c .before .before .before .before .before .before .before .before .before .before .before .before .before in
-    (laid-next (c .before .before .before .before .before .before .before .before .before .before .before .before .before .before .before .before .before .before .before .before .pre .0) (n .before .loop .inv .0) (n .loop-test .taken) (wrote (c .before .before)), c .before .before .before .before .before .before .before .before .before .find-next .ensures .1)
-
-same-length : tie.Need-same-length Inv-loop μ-loop
-same-length c = rw length-set at (c .before .loop .inv .0 .long-offsets)
-
-same-length-2 : tie.Need-same-length-2 Inv-loop μ-loop
-same-length-2 c = c .before .loop .inv .0 .long-ends
-
-same-length-3 : tie.Need-same-length-3 Inv-loop μ-loop
-same-length-3 c = c .before .loop .inv .0 .long-values
-
-returns : tie.Need-returns Inv-loop μ-loop
-returns c = laid-end (c .before .before .before .before .before .before .before .pre .0) (c .before .loop .inv .0) (c .loop-test .left)
+returns-2 : tie.Need-returns-2
+returns-2 c = search needs
 
 pub getitems-spec : {M : Type 1} → statement M
 getitems-spec =
     tie.close
     (tie.spec
-    Inv-loop
-    μ-loop
-    slice-write-out-offsets
     index-pays-requires
-    loop-holds
-    mul-start
-    shared-slice-copy-out-start
-    mul-stop
-    shared-slice-copy-out-stop
-    slice-aggregate-find-next
-    find-next-requires
-    part-at-requires
-    touched-requires
-    part-at-requires-2
-    mul-slice
-    sub-slice
-    part-slice-start
-    part-slice-end
-    mul-slice-2
-    sub-slice-2
-    part-slice-start-2
-    part-slice-end-2
-    slice-requires
-    add-used
-    add-i
-    mul-out-offsets
-    slice-write-out-offsets-2
-    loop-less
-    loop-again
+    slice-aggregate-getitems-by
+    getitems-by-requires
     same-length
     same-length-2
     same-length-3
-    returns)
+    returns
+    slice-aggregate-getitems-by-2
+    getitems-by-requires-2
+    same-length-4
+    same-length-5
+    same-length-6
+    returns-2)

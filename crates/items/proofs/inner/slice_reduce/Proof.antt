@@ -1,134 +1,57 @@
-use Prim.Native.Nat.{ℕ, _-_}
-use mathlib.Core.List.{map}
-use mathlib.Core.Path.{refl, sym}
-use native.Mathlib.Omega.{arith}
-use lib.ListN.{length, length-replicate}
+use Prim.Native.Nat.{ℕ}
+use mathlib.Core.Path.{refl}
+use lib.ListN.{length-replicate}
+use Rattle.keys.proofs.Lowest.{no-test}
 use mir.Facts.{toZ-ofZ}
-use mir.Syntax.{w64}
-use mir.Val.{toZ, ofZ}
-use Rattle.num.proofs.Bits.{back}
-use Rattle.keys.specs.Workers.{Kept}
-use Rattle.keys.proofs.Indexing.{kept-start}
-use Rattle.reduce.specs.Reduce.{reduction}
-use Rattle.reduce.proofs.Intervals.{Filling, filling-start, filling-next, filling-end}
-use Rattle.batch.specs.Batch.{batch, entries}
-use Rattle.items.specs.Items.{itemRuns}
-use Rattle.items.proofs.Keyed.{item-asked, item-reduced, reductions-many}
 use borrow.Author.Needs.{needs}
 use Rattle.items.proofs.inner.slice_reduce.Statement.{statement}
 use Rattle.items.proofs.inner.slice_reduce.Tie as tie
 
-abbrev Inv-loop : tie.InvT-loop
-Inv-loop keys offsets ends values order get-keys starts stops code ddof out-kinds₀ out-bits₀ indexed block₀ at₀ i₀ out-kinds out-bits block at i =
-    Filling (map (reduction code (toZ w64 ddof)) (itemRuns get-keys starts stops (entries (batch keys offsets ends values)))) out-kinds₀ out-kinds out-bits₀ out-bits i
-    × Kept keys get-keys indexed block i
-
-abbrev μ-loop : tie.MeasureT-loop
-μ-loop keys offsets ends values order get-keys starts stops code ddof out-kinds₀ out-bits₀ indexed block₀ at₀ i₀ out-kinds out-bits block at i = length starts - i
-
-index-pays-requires : tie.Need-index-pays-requires Inv-loop μ-loop
+index-pays-requires : tie.Need-index-pays-requires
 index-pays-requires c κs = search needs
 
-loop-holds : tie.Need-loop-holds Inv-loop μ-loop
-loop-holds c = (filling-start _ _ _, kept-start (length-replicate {A = ℕ} 4096 0) (c .index-pays .ensures))
+slice-aggregate-slice-reduce-by : tie.Need-slice-aggregate-slice-reduce-by
+slice-aggregate-slice-reduce-by c = search needs
 
-mul-start : tie.Need-mul-start Inv-loop μ-loop
-mul-start c = search needs
+slice-reduce-by-requires : tie.Need-slice-reduce-by-requires
+slice-reduce-by-requires c κs = (c .before .before .before .before .before .before .before .before .before .before .pre .0, c .before .before .before .before .before .before .before .before .before .before .pre .1, λ t. record { few = c .before .before .before .before .index-pays .ensures (c .before .before .before .if1 .taken); room = length-replicate {A = ℕ} 32768 0 })
 
-shared-slice-copy-out-start : tie.Need-shared-slice-copy-out-start Inv-loop μ-loop
-shared-slice-copy-out-start c = search needs
+same-length : tie.Need-same-length
+same-length c = search needs
 
-mul-stop : tie.Need-mul-stop Inv-loop μ-loop
-mul-stop c = search needs
+same-length-2 : tie.Need-same-length-2
+same-length-2 c = search needs
 
-shared-slice-copy-out-stop : tie.Need-shared-slice-copy-out-stop Inv-loop μ-loop
-shared-slice-copy-out-stop c = omega (arith, c .before .loop-test .taken, c .before .before .before .before .before .before .before .before .before .pre .0 .intervals .paired)
+returns : tie.Need-returns
+returns c = rw (toZ-ofZ (c .before .before .before .before .before .before .before .before .before .before .before .before .before .before .before .before .fits .ddof)) at (c .before .before .before .before .before .slice-reduce-by .ensures)
 
-slice-aggregate-find-next : tie.Need-slice-aggregate-find-next Inv-loop μ-loop
-slice-aggregate-find-next c = sym (c .before .before .before .before .loop .inv .1 .room)
+slice-aggregate-slice-reduce-by-2 : tie.Need-slice-aggregate-slice-reduce-by-2
+slice-aggregate-slice-reduce-by-2 c = search needs
 
-find-next-requires : tie.Need-find-next-requires Inv-loop μ-loop
-find-next-requires c κs = (c .before .before .before .before .before .before .before .before .before .before .before .pre .1, omega (arith, c .before .before .before .loop-test .taken, c .before .before .before .before .before .before .before .before .before .before .before .pre .0 .intervals .keyed), c .before .before .before .before .loop .inv .1)
+slice-reduce-by-requires-2 : tie.Need-slice-reduce-by-requires-2
+slice-reduce-by-requires-2 c κs = (c .before .before .before .before .before .before .before .before .before .before .pre .0, c .before .before .before .before .before .before .before .before .before .before .pre .1, λ t. no-test t refl)
 
-part-at-requires : tie.Need-part-at-requires Inv-loop μ-loop
-part-at-requires c κs = search needs
+same-length-3 : tie.Need-same-length-3
+same-length-3 c = search needs
 
-part-at-requires-2 : tie.Need-part-at-requires-2 Inv-loop μ-loop
-part-at-requires-2 c κs = search needs
+same-length-4 : tie.Need-same-length-4
+same-length-4 c = search needs
 
-reduce-slice-requires : tie.Need-reduce-slice-requires Inv-loop μ-loop
-reduce-slice-requires c κs = item-asked (c .before .before .before .before .before .before .before .before .before .before .before .before .before .before .before .pre .0 .intervals) (c .before .before .before .before .before .before .before .loop-test .taken) (back _ (c .before .before .before .before .before .before .start .given)) (back _ (c .before .before .before .before .before .stop .given)) refl
-    (c .before .before .before .find-next .ensures .0) (c .before .part-at .ensures) (c .part-at2 .ensures)
-
-kind-requires : tie.Need-kind-requires Inv-loop μ-loop
-kind-requires c κs = search needs
-
-slice-write-out-kinds : tie.Need-slice-write-out-kinds Inv-loop μ-loop
-slice-write-out-kinds c = omega (arith, c .before .before .before .before .before .before .before .before .before .before .loop .inv .0 .kinds .long, c .before .before .before .before .before .before .before .before .before .before .before .before .before .before .before .before .before .pre .0 .room-kinds, c .before .before .before .before .before .before .before .before .before .loop-test .taken)
-
-bits-requires : tie.Need-bits-requires Inv-loop μ-loop
-bits-requires c κs = c .before .reduce-slice .ensures .1
-
-mul-out-bits : tie.Need-mul-out-bits Inv-loop μ-loop
-mul-out-bits c = omega (arith, c .before .before .before .before .before .before .before .before .before .before .loop-test .taken, c .before .before .before .before .before .before .before .before .before .before .before .before .before .before .before .before .before .before .good)
-
-slice-write-out-bits : tie.Need-slice-write-out-bits Inv-loop μ-loop
-slice-write-out-bits c = omega (arith, c .before .before .before .before .before .before .before .before .before .before .before .loop .inv .0 .bits .long, c .before .before .before .before .before .before .before .before .before .before .before .before .before .before .before .before .before .before .pre .0 .room-bits, c .before .before .before .before .before .before .before .before .before .before .loop-test .taken)
-
-add-i : tie.Need-add-i Inv-loop μ-loop
-add-i c = omega (arith, c .before .before .before .before .before .before .before .before .before .before .loop-test .taken, c .before .before .before .before .before .before .before .before .before .before .before .before .before .before .before .before .before .before .good)
-
-loop-less : tie.Need-loop-less Inv-loop μ-loop
-loop-less c = search needs
-
-loop-again : tie.Need-loop-again Inv-loop μ-loop
-loop-again c = let n = c .before .before .before .before .before .before .before .before .before .before in
-    let s = c .before .before .before .before .before .before .before .before .before .before .before .before .before .before .before .before .before .before in
-    let q = s .pre .0 in
-    let m = reductions-many (q .intervals) (s .args .code) (toZ w64 (ofZ w64 (s .args .ddof))) in (
-      filling-next (n .before .loop .inv .0) (rw m (n .loop-test .taken)) (rw m (q .room-kinds)) (rw m (q .room-bits)) _
-          (item-reduced (q .intervals) (c .before .before .before .before .before .before .before .before .before .before .loop-test .taken) (back _ (c .before .before .before .before .before .before .before .before .before .start .given)) (back _ (c .before .before .before .before .before .before .before .before .stop .given)) refl
-          (c .before .before .before .before .before .before .find-next .ensures .0) (c .before .before .before .before .part-at .ensures) (c .before .before .before .part-at2 .ensures) (s .args .code) _ (c .before .before .reduce-slice .ensures .0))
-          (c .before .kind .ensures) (c .bits .ensures),
-      c .before .before .before .before .before .before .find-next .ensures .1,
-    )
-
-same-length : tie.Need-same-length Inv-loop μ-loop
-same-length c = c .before .loop .inv .0 .kinds .long
-
-same-length-2 : tie.Need-same-length-2 Inv-loop μ-loop
-same-length-2 c = c .before .loop .inv .0 .bits .long
-
-returns : tie.Need-returns Inv-loop μ-loop
-returns c = let s = c .before .before .before .before .before .before .before .before in
-    let m = reductions-many (s .pre .0 .intervals) (s .args .code) (toZ w64 (ofZ w64 (s .args .ddof))) in
-    rw (toZ-ofZ (s .fits .ddof)) at (filling-end (c .before .loop .inv .0) (rw m (c .loop-test .left)))
+returns-2 : tie.Need-returns-2
+returns-2 c = rw (toZ-ofZ (c .before .before .before .before .before .before .before .before .before .before .before .before .before .before .before .before .fits .ddof)) at (c .before .before .before .before .before .slice-reduce-by2 .ensures)
 
 pub slice-reduce-spec : {M : Type 1} → statement M
 slice-reduce-spec =
     tie.close
     (tie.spec
-    Inv-loop
-    μ-loop
     index-pays-requires
-    loop-holds
-    mul-start
-    shared-slice-copy-out-start
-    mul-stop
-    shared-slice-copy-out-stop
-    slice-aggregate-find-next
-    find-next-requires
-    part-at-requires
-    part-at-requires-2
-    reduce-slice-requires
-    kind-requires
-    slice-write-out-kinds
-    bits-requires
-    mul-out-bits
-    slice-write-out-bits
-    add-i
-    loop-less
-    loop-again
+    slice-aggregate-slice-reduce-by
+    slice-reduce-by-requires
     same-length
     same-length-2
-    returns)
+    returns
+    slice-aggregate-slice-reduce-by-2
+    slice-reduce-by-requires-2
+    same-length-3
+    same-length-4
+    returns-2)

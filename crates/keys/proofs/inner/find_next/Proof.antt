@@ -1,3 +1,4 @@
+use native.Mathlib.Omega.{arith}
 use mathlib.Core.Path.{_∙_}
 use Rattle.keys.proofs.Indexing.{kept-block, kept-at, kept-next, kept-not}
 use borrow.Author.Needs.{needs}
@@ -5,7 +6,7 @@ use Rattle.keys.proofs.inner.find_next.Statement.{statement}
 use Rattle.keys.proofs.inner.find_next.Tie as tie
 
 find-block-requires : tie.Need-find-block-requires
-find-block-requires c κs = let s = c .before .before .before .before .before .before in (s .pre .2 .few (c .before .before .if1 .taken), s .pre .1, s .pre .2 .room)
+find-block-requires c κs = let s = c .before .before .before .before .before .before in (s .pre .2 .few (c .before .before .if1 .taken), s .pre .1, s .pre .2 .room (c .before .before .if1 .taken))
 
 same-length : tie.Need-same-length
 same-length c = search needs
@@ -17,7 +18,7 @@ mul-widened : tie.Need-mul-widened
 mul-widened c = search needs
 
 slice-read-widened : tie.Need-slice-read-widened
-slice-read-widened c = search needs
+slice-read-widened c = omega (arith, c .before .before .before .before .before .before .pre .2 .room (c .before .before .if1 .taken))
 
 widened-requires : tie.Need-widened-requires
 widened-requires c κs = search needs

@@ -14,14 +14,17 @@ Inv-loop keys wanted found₀ shares part₀ found part = (length found ≡ leng
 abbrev μ-loop : tie.MeasureT-loop
 μ-loop keys wanted found₀ shares part₀ found part = shares - part
 
-add-shares : tie.Need-add-shares Inv-loop μ-loop
-add-shares c = search needs
+shares-for-requires : tie.Need-shares-for-requires Inv-loop μ-loop
+shares-for-requires c κs = search needs
+
+find-share-requires : tie.Need-find-share-requires Inv-loop μ-loop
+find-share-requires c κs = search needs
 
 loop-holds : tie.Need-loop-holds Inv-loop μ-loop
 loop-holds c = search needs
 
-find-share-requires : tie.Need-find-share-requires Inv-loop μ-loop
-find-share-requires c κs = search needs
+find-share-requires-2 : tie.Need-find-share-requires-2 Inv-loop μ-loop
+find-share-requires-2 c κs = search needs
 
 add-part : tie.Need-add-part Inv-loop μ-loop
 add-part c = search needs
@@ -44,9 +47,10 @@ find-all-spec =
     (tie.spec
     Inv-loop
     μ-loop
-    add-shares
-    loop-holds
+    shares-for-requires
     find-share-requires
+    loop-holds
+    find-share-requires-2
     add-part
     loop-less
     loop-again
