@@ -100,7 +100,7 @@ pub fn index_pays(order: Order, keys: usize, wanted: usize) -> bool
             if wanted < keys / 4 {
                 return false;
             }
-            keys < 0x2_0000
+            keys < 0x1_0000
         }
         Order::Distinct | Order::Unknown => {
             if keys < 256 {

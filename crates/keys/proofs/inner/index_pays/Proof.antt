@@ -22,7 +22,7 @@ returns-4 : tie.Need-returns-4
 returns-4 c = λ e. no-test e refl
 
 returns-5 : tie.Need-returns-5
-returns-5 c = λ e. omega (arith, ltb-true (c .before .before .before .before .args .keys) 131072 e)
+returns-5 c = λ e. omega (arith, ltb-true (c .before .before .before .before .args .keys) 65536 e)
 
 returns-6 : tie.Need-returns-6
 returns-6 c = search needs
