@@ -24,7 +24,7 @@
  * and has written nothing. runlength_text.h writes a refusal as text.
  *
  * Threads: the library keeps nothing between calls, allocates nothing and has no variables of its own, so calls may run at once on
- * any threads, under the rules for buffers above. A call takes less than 64 KiB of stack. Of other libraries it needs memcpy and
+ * any threads, under the rules for buffers above. A call takes less than 320 KiB of stack. Of other libraries it needs memcpy and
  * memset alone.
  *
  * The sections below have the names of the Rust's files. */
