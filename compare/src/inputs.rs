@@ -587,7 +587,7 @@ fn fitted(call: &Call, mut args: Vec<Arg>) -> Vec<Vec<Arg>> {
 }
 
 /// So many intervals that the library makes an index of the keys, if these are many as well.
-const MANY: usize = 100;
+const MANY: usize = 300;
 
 /// SplitMix64.
 pub struct Rng(u64);

@@ -162,7 +162,7 @@ impl Run {
             }
             for call in CALLS.iter().filter(|call| call.takes(Role::Keys)) {
                 for _ in 0..LARGE_BATCHES {
-                    let number = rng.below(300);
+                    let number = rng.below(600);
                     comparison.compare(call, inputs::large_batch(call, number, &mut rng));
                 }
             }
