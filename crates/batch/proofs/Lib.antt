@@ -4,3 +4,4 @@ pub mod Laying
 pub mod Copying
 pub mod Getting
 pub mod Places
+pub mod Others

@@ -1,16 +1,20 @@
 -- What the workers leave and require.
-use Prim.Native.Nat.{ℕ, _+_, _≤_, _<_}
-use mathlib.Core.Bool.{true, false}
+use Prim.Native.Nat.{ℕ, _+_, _-_, _≤_, _<_, _^_}
+use mathlib.Core.Bool.{Bool, true, false, cond}
 use mathlib.Core.Option.{none}
 use mathlib.Core.List.{List, map}
 use mathlib.Core.Path.{_≡_}
 use lib.IntN.{ℤ}
-use lib.ListN.{length}
+use lib.Dec.{ltb}
+use lib.ListN.{length, getD}
 use Rattle.column.specs.declared.answer.RleBatch.{RleBatch}
 use Rattle.column.specs.Flat.{offsetsFlat, endsFlat, flatOffsets, flatEnds, flatValues}
 use Rattle.column.specs.Lists.{total}
 use Rattle.column.specs.Runs.{over}
+use Rattle.keys.specs.Keys.{lowest}
+use Rattle.keys.specs.Workers.{Known, Kept}
 use Rattle.batch.specs.Batch.{Batch, Entry, keysOf, columnsOf}
+use Rattle.batch.specs.declared.inner.lookup.Lookup.{Lookup}
 use Rattle.batch.specs.declared.two.Joined.{Joined}
 
 -- every question of a batch answered "yes"
@@ -41,3 +45,21 @@ pub record NextKept (f : ℕ → Joined) (places n : ℕ) (r : Joined) : Type 0 
   pub within : r .at ≤ places
   pub before : (i : ℕ) → n ≤ i → i < r .at → f i .kept ≡ false
   pub here : r .at < places → (r ≡ f (r .at)) × (f (r .at) .kept ≡ true)
+
+-- ---- each looked up in the other batch
+
+-- what a look-up may go by
+pub record KnownKeys (ka kb : List ℕ) (l : Lookup) : Type 0 where
+  pub first : Known (l .a) ka
+  pub second : Known (l .b) kb
+  pub few : l .indexed ≡ true → (length ka < 2 ^ 32) × (length kb < 2 ^ 32)
+
+-- the lowest position in the other batch of the key at place n, past the last where it has none
+abbrev pub otherAt : List ℕ → List ℕ → ℕ → ℕ
+otherAt ka kb n = cond (ltb n (length ka)) (lowest (getD ka n 0) kb) (lowest (getD kb (n - length ka) 0) ka)
+
+-- before the key at place n is looked for: what a block holds of the first batch's keys, or behind them of the second's
+pub record KeptOther (ka kb : List ℕ) (indexed : Bool) (bs : List ℕ) (n : ℕ) : Type 0 where
+  pub room : indexed ≡ true → length bs ≡ 32768
+  pub left : n < length ka → Kept kb ka indexed bs n
+  pub right : length ka ≤ n → Kept ka kb indexed bs (n - length ka)

@@ -1,4 +1,6 @@
 // Leaves of the workers.
+pub mod lookup;
+
 use column::sequence;
 ghost use Prim.Native.Nat.{_≤_};
 ghost use mathlib.Core.List.{[]};
