@@ -10,6 +10,7 @@ use lib.ListN.{length, getD}
 use borrow.Author.Tests.{eq-eqb, ne-eqb, lt-ltb, le-ltb}
 use Rattle.num.proofs.Tests.{by-test}
 use Rattle.keys.specs.Keys.{lowest}
+use Rattle.batch.specs.Workers.{otherAt}
 use Rattle.join.specs.Zip.{keepsLeft, keepsRight}
 use Rattle.join.specs.Workers.{placesOf, pairAt}
 
@@ -41,10 +42,10 @@ module _ (how : ℕ) (ka kb : List ℕ) (n : ℕ) where
   pub at-is : pairAt how ka kb n .at ≡ n
   at-is = by-test (ltb n (length ka)) (λ t. rw t) (λ t. rw t)
 
-  pub left-at : {b : ℕ} {k l : Bool} → n < length ka → b ≡ lowest (getD ka n 0) kb → k ≡ keepsLeft how → l ≡ k || ltb b (length kb)
+  pub left-at : {b : ℕ} {k l : Bool} → n < length ka → b ≡ otherAt ka kb n → k ≡ keepsLeft how → l ≡ k || ltb b (length kb)
       → record { at = n; kept = l; key = getD ka n 0; a = n; b = b } ≡ pairAt how ka kb n
-  left-at h eb ek el = rw (lt-ltb n (length ka) h, el, ek, eb)
+  left-at {b} h eb ek el = let e : b ≡ lowest (getD ka n 0) kb = rw (lt-ltb n (length ka) h) at eb in rw (lt-ltb n (length ka) h, el, ek, e)
 
-  pub right-at : {a : ℕ} → length ka ≤ n → a ≡ lowest (getD kb (n - length ka) 0) ka
+  pub right-at : {a : ℕ} → length ka ≤ n → a ≡ otherAt ka kb n
       → record { at = n; kept = not (ltb a (length ka)); key = getD kb (n - length ka) 0; a = a; b = n - length ka } ≡ pairAt how ka kb n
-  right-at h ea = rw (le-ltb n (length ka) h, ea)
+  right-at {a} h ea = let e : a ≡ lowest (getD kb (n - length ka) 0) ka = rw (le-ltb n (length ka) h) at ea in rw (le-ltb n (length ka) h, e)

@@ -1,21 +1,21 @@
 // Workers that assume what the calls have asked.
+use batch::inner::lookup::Lookup;
+use batch::inner::lookup::find_other;
 use batch::inner::part_at;
 use batch::two::Joined;
 use column::answer::Asked;
 use column::answer::Fill;
 use column::answer::RleBatch;
 use column::sequence;
-use keys::Order;
 ghost use Prim.Native.Nat.{_+_, _≤_, _<_, _^_};
-ghost use mathlib.Core.Bool.{_||_};
+ghost use mathlib.Core.Bool.{true, _||_};
 ghost use mathlib.Core.List.{map};
 ghost use mathlib.Core.Path.{_≡_};
 ghost use lib.ListN.{length};
 ghost use Rattle.num.specs.Numbers.{operation};
 ghost use Rattle.column.specs.declared.answer.Fill.the-variants.{Value};
-ghost use Rattle.keys.specs.Workers.{Known};
 ghost use Rattle.batch.specs.Batch.{batch, entries};
-ghost use Rattle.batch.specs.Workers.{ValidBatch, FilledCounts, NextKept};
+ghost use Rattle.batch.specs.Workers.{ValidBatch, FilledCounts, NextKept, KnownKeys, KeptOther};
 ghost use Rattle.join.specs.Zip.{keepsLeft, keepsRight, pairs, zipPair};
 ghost use Rattle.join.specs.Workers.{placesOf, pairAt, AsksPairs, ZipRoom};
 
@@ -61,36 +61,35 @@ fn places(how: u8, a_keys: usize, b_keys: usize) -> usize
 fn pair_at(
     a_keys: &[u32],
     b_keys: &[u32],
-    a_order: Order,
-    b_order: Order,
+    lookup: Lookup,
     how: u8,
     at: usize,
     near: usize,
+    block: &mut [u32],
 ) -> Joined
-    requires { ⌜ Known «a_order» (now «a_keys») × Known «b_order» (now «b_keys») × (at < length (now «a_keys») + length (now «b_keys»)) ⌝ }
-    ensures { λ r. ⌜ r ≡ pairAt how (now («a_keys» .entry)) (now («b_keys» .entry)) at ⌝ }
+    requires { ⌜ KnownKeys (now «a_keys») (now «b_keys») lookup × (at < length (now «a_keys») + length (now «b_keys»)) × KeptOther (now «a_keys») (now «b_keys») (lookup .indexed) (now block) at ⌝ }
+    ensures { λ r. ⌜ (r ≡ pairAt how (now («a_keys» .entry)) (now («b_keys» .entry)) at) × KeptOther (now («a_keys» .entry)) (now («b_keys» .entry)) (lookup .indexed) (now (block .exit)) (at + 1) ⌝ }
 {
+    let other = find_other(a_keys, b_keys, lookup, at, near, block);
     if at < a_keys.len() {
         let key = a_keys[at];
-        let b = keys::inner::find(b_keys, b_order, near, key);
-        let found = b < b_keys.len();
+        let found = other < b_keys.len();
         return Joined {
             at,
             kept: either(keeps_left(how), found),
             key,
             a: at,
-            b,
+            b: other,
         };
     }
     let b = at - a_keys.len();
     let key = b_keys[b];
-    let a = keys::inner::find(a_keys, a_order, near, key);
-    let found = a < a_keys.len();
+    let found = other < a_keys.len();
     Joined {
         at,
         kept: !found,
         key,
-        a,
+        a: other,
         b,
     }
 }
@@ -117,20 +116,21 @@ fn near_after(pair: Joined, a_keys: usize, b_keys: usize, near: usize) -> usize 
 fn next_pair(
     a_keys: &[u32],
     b_keys: &[u32],
-    a_order: Order,
-    b_order: Order,
+    lookup: Lookup,
     how: u8,
     from: usize,
     first_near: usize,
+    block: &mut [u32],
 ) -> Joined
-    requires { ⌜ Known «a_order» (now «a_keys») × Known «b_order» (now «b_keys») × (from ≤ placesOf how (length (now «a_keys»)) (length (now «b_keys»))) ⌝ }
-    ensures { λ r. ⌜ NextKept (pairAt how (now («a_keys» .entry)) (now («b_keys» .entry))) (placesOf how (length (now («a_keys» .entry))) (length (now («b_keys» .entry)))) from r ⌝ }
+    requires { ⌜ KnownKeys (now «a_keys») (now «b_keys») lookup × (from ≤ placesOf how (length (now «a_keys»)) (length (now «b_keys»))) × KeptOther (now «a_keys») (now «b_keys») (lookup .indexed) (now block) from ⌝ }
+    ensures { λ r. ⌜ NextKept (pairAt how (now («a_keys» .entry)) (now («b_keys» .entry))) (placesOf how (length (now («a_keys» .entry))) (length (now («b_keys» .entry)))) from r
+        × (r .at < placesOf how (length (now («a_keys» .entry))) (length (now («b_keys» .entry))) → KeptOther (now («a_keys» .entry)) (now («b_keys» .entry)) (lookup .indexed) (now (block .exit)) (r .at + 1)) ⌝ }
 {
     let places = places(how, a_keys.len(), b_keys.len());
     let mut near = first_near;
     let mut at = from;
     while at < places {
-        let pair = pair_at(a_keys, b_keys, a_order, b_order, how, at, near);
+        let pair = pair_at(a_keys, b_keys, lookup, how, at, near, &mut *block);
         if pair.kept {
             return pair;
         }
@@ -161,14 +161,14 @@ pub fn ask_pairs(
     b_offsets: &[usize],
     b_ends: &[i64],
     b_values: &[i64],
-    a_order: Order,
-    b_order: Order,
+    lookup: Lookup,
     how: u8,
     fill_a: Fill,
     fill_b: Fill,
+    block: &mut [u32],
 ) -> PairsAsked
     requires { ⌜ ValidBatch (batch (now «a_keys») (now «a_offsets») (now «a_ends») (now «a_values»)) × ValidBatch (batch (now «b_keys») (now «b_offsets») (now «b_ends») (now «b_values»))
-        × Known «a_order» (now «a_keys») × Known «b_order» (now «b_keys») ⌝ }
+        × KnownKeys (now «a_keys») (now «b_keys») lookup × (lookup .indexed ≡ true → length (now block) ≡ 32768) ⌝ }
     ensures { λ r. ⌜ AsksPairs «fill_a» «fill_b»
         (pairs how (entries (batch (now («a_keys» .entry)) (now («a_offsets» .entry)) (now («a_ends» .entry)) (now («a_values» .entry))))
         (entries (batch (now («b_keys» .entry)) (now («b_offsets» .entry)) (now («b_ends» .entry)) (now («b_values» .entry))))) r ⌝ }
@@ -178,7 +178,7 @@ pub fn ask_pairs(
     let mut runs: usize = 0;
     let mut n: usize = 0;
     let mut near: usize = 0;
-    let mut pair = next_pair(a_keys, b_keys, a_order, b_order, how, 0, 0);
+    let mut pair = next_pair(a_keys, b_keys, lookup, how, 0, 0, &mut *block);
     while pair.at < places {
         let at = pair.at;
         let left = part_at(a_offsets, a_ends, pair.a);
@@ -193,7 +193,7 @@ pub fn ask_pairs(
         runs = num::saturating_add(runs, left.len() + right.len());
         n += 1;
         near = near_after(pair, a_keys.len(), b_keys.len(), near);
-        pair = next_pair(a_keys, b_keys, a_order, b_order, how, at + 1, near);
+        pair = next_pair(a_keys, b_keys, lookup, how, at + 1, near, &mut *block);
     }
     PairsAsked { asked, runs }
 }
@@ -208,19 +208,19 @@ pub fn zip_pairs(
     b_offsets: &[usize],
     b_ends: &[i64],
     b_values: &[i64],
-    a_order: Order,
-    b_order: Order,
+    lookup: Lookup,
     how: u8,
     fill_a: i64,
     fill_b: i64,
     code: u8,
+    block: &mut [u32],
     out_keys: &mut [u32],
     out_offsets: &mut [usize],
     out_ends: &mut [i64],
     out_values: &mut [i64],
 ) -> RleBatch
     requires { ⌜ ZipRoom (batch (now «a_keys») (now «a_offsets») (now «a_ends») (now «a_values»)) (batch (now «b_keys») (now «b_offsets») (now «b_ends») (now «b_values»))
-        (pairs how (entries (batch (now «a_keys») (now «a_offsets») (now «a_ends») (now «a_values»))) (entries (batch (now «b_keys») (now «b_offsets») (now «b_ends») (now «b_values»)))) (now «out_keys») (now «out_offsets») (now «out_ends») (now «out_values») × Known «a_order» (now «a_keys») × Known «b_order» (now «b_keys») ⌝ }
+        (pairs how (entries (batch (now «a_keys») (now «a_offsets») (now «a_ends») (now «a_values»))) (entries (batch (now «b_keys») (now «b_offsets») (now «b_ends») (now «b_values»)))) (now «out_keys») (now «out_offsets») (now «out_ends») (now «out_values») × KnownKeys (now «a_keys») (now «b_keys») lookup × (lookup .indexed ≡ true → length (now block) ≡ 32768) ⌝ }
     ensures { λ r. ⌜ FilledCounts (map (zipPair (operation code) (Value «fill_a») (Value «fill_b»)) (pairs how (entries (batch (now («a_keys» .entry)) (now («a_offsets» .entry)) (now («a_ends» .entry)) (now («a_values» .entry))))
         (entries (batch (now («b_keys» .entry)) (now («b_offsets» .entry)) (now («b_ends» .entry)) (now («b_values» .entry))))))
         (now («out_keys» .entry)) (now («out_keys» .exit)) (now («out_offsets» .entry)) (now («out_offsets» .exit))
@@ -231,7 +231,7 @@ pub fn zip_pairs(
     let mut used: usize = 0;
     let mut n: usize = 0;
     let mut near: usize = 0;
-    let mut pair = next_pair(a_keys, b_keys, a_order, b_order, how, 0, 0);
+    let mut pair = next_pair(a_keys, b_keys, lookup, how, 0, 0, &mut *block);
     while pair.at < places {
         let at = pair.at;
         let key = pair.key;
@@ -252,7 +252,7 @@ pub fn zip_pairs(
         n += 1;
         out_offsets[n] = used;
         near = near_after(pair, a_keys.len(), b_keys.len(), near);
-        pair = next_pair(a_keys, b_keys, a_order, b_order, how, at + 1, near);
+        pair = next_pair(a_keys, b_keys, lookup, how, at + 1, near, &mut *block);
     }
     RleBatch {
         keys: n,

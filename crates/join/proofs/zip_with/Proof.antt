@@ -1,32 +1,22 @@
+use Prim.Native.Nat.{ℕ}
 use mathlib.Core.Option.{none}
 use mathlib.Core.List.{[], _∷_}
-use mathlib.Core.Path.{_≡_, refl, _∙_}
-use native.Mathlib.Omega.{arith}
+use mathlib.Core.Path.{_≡_}
 use denote.Ref.{now}
-use lib.ListN.{length}
-use Rattle.num.proofs.Bits.{back}
-use Rattle.column.specs.Asking.{shownAsked}
+use lib.ListN.{length, length-replicate}
 use Rattle.column.proofs.Promised.{asked-yes, asked-no}
+use Rattle.keys.proofs.Lowest.{no-test}
 use Rattle.batch.specs.Batch.{batch}
 use Rattle.batch.proofs.Laying.{batch-refused}
 use Rattle.join.specs.Zip.{zipAsked, zipWith}
-use Rattle.join.proofs.Asks.{allAsked, zip-valid, refused-first, all-asked, zip-room, zip-written}
+use Rattle.join.proofs.Asks.{refused-first}
 use borrow.Author.Needs.{needs}
 use Rattle.join.proofs.zip_with.Statement.{statement}
 use Rattle.join.proofs.zip_with.Tie as tie
 
--- the questions but 10 and 12, and then all
+-- the questions but 10 and 12
 yes : (c : tie.After-enum-told) → let a = c .before .before .before .before .before .before .before .before .before .args in zipAsked (batch (now (a .a-keys)) (now (a .a-offsets)) (now (a .a-ends)) (now (a .a-values))) (batch (now (a .b-keys)) (now (a .b-offsets)) (now (a .b-ends)) (now (a .b-values))) (a .how) (a .code) ≡ none
 yes c = asked-yes (c .before .before .zip-asks .ensures) (c .enum-told .given .1)
-
-asked : (c : tie.After-first-no) → let a = c .before .before .before .before .before .before .before .before .before .before .before .before .before .before .args in
-    shownAsked (c .first-no .result) ≡ allAsked (batch (now (a .a-keys)) (now (a .a-offsets)) (now (a .a-ends)) (now (a .a-values))) (batch (now (a .b-keys)) (now (a .b-offsets)) (now (a .b-ends)) (now (a .b-values))) (a .how) (a .code) (a .fill-a) (a .fill-b) (length (now (a .out-keys)) ∷ length (now (a .out-offsets)) ∷ length (now (a .out-ends)) ∷ length (now (a .out-values)) ∷ [])
-asked c = let p = c .before .before in
-    let e = p .before .before .before in
-    let s = e .before .before .before .before .before .before .before .before .before in
-    let a = s .args in
-    all-asked (batch (now (a .a-keys)) (now (a .a-offsets)) (now (a .a-ends)) (now (a .a-values))) (batch (now (a .b-keys)) (now (a .b-offsets)) (now (a .b-ends)) (now (a .b-values))) (a .how) (a .code) (a .fill-a) (a .fill-b) (yes e) (length (now (a .out-keys))) (length (now (a .out-offsets))) (length (now (a .out-ends))) (length (now (a .out-values))) (omega (arith, s .good)) (omega (arith, s .good)) (c .first-no .ensures)
-    (p .ask-pairs .ensures .filled) (p .ask-pairs .ensures .runs) (c .before .ask-room .ensures refl)
 
 zip-asks-requires : tie.Need-zip-asks-requires
 zip-asks-requires c κs = search needs
@@ -43,48 +33,14 @@ returns c = let z = c .before .before .before in
     let a = z .before .before .before .before .before .before .before .args in
     batch-refused _ (refused-first (batch (now (a .a-keys)) (now (a .a-offsets)) (now (a .a-ends)) (now (a .a-values))) (batch (now (a .b-keys)) (now (a .b-offsets)) (now (a .b-ends)) (now (a .b-values))) (a .how) (a .code) (a .fill-a) (a .fill-b) (length (now (a .out-keys)) ∷ length (now (a .out-offsets)) ∷ length (now (a .out-ends)) ∷ length (now (a .out-values)) ∷ []) (asked-no _ (z .zip-asks .ensures) (c .before .asked .given .1)))
 
-order-of-requires : tie.Need-order-of-requires
-order-of-requires c κs = search needs
+lookup-of-requires : tie.Need-lookup-of-requires
+lookup-of-requires c κs = search needs
 
-order-of-requires-2 : tie.Need-order-of-requires-2
-order-of-requires-2 c κs = search needs
+slice-aggregate-zip-with-by : tie.Need-slice-aggregate-zip-with-by
+slice-aggregate-zip-with-by c = search needs
 
-ask-pairs-requires : tie.Need-ask-pairs-requires
-ask-pairs-requires c κs = let e = c .before .before in
-    let a = e .before .before .before .before .before .before .before .before .before .args in
-    let v = zip-valid (batch (now (a .a-keys)) (now (a .a-offsets)) (now (a .a-ends)) (now (a .a-values))) (batch (now (a .b-keys)) (now (a .b-offsets)) (now (a .b-ends)) (now (a .b-values))) (a .how) (a .code) (yes e) in
-    (v .0, v .1, c .before .order-of .ensures, c .order-of2 .ensures)
-
-add-keys : tie.Need-add-keys
-add-keys c = omega (arith, c .before .before .before .before .before .before .before .before .before .before .before .before .good)
-
-add-ask-room : tie.Need-add-ask-room
-add-ask-room c = omega (arith, c .before .before .before .before .before .before .before .before .before .before .before .before .good)
-
-ask-room-requires : tie.Need-ask-room-requires
-ask-room-requires c κs = search needs
-
-first-no-requires : tie.Need-first-no-requires
-first-no-requires c κs = search needs
-
-enum-told-2 : tie.Need-enum-told-2
-enum-told-2 c = search needs
-
-value-requires : tie.Need-value-requires
-value-requires c κs = search needs
-
-value-requires-2 : tie.Need-value-requires-2
-value-requires-2 c κs = search needs
-
-zip-pairs-requires : tie.Need-zip-pairs-requires
-zip-pairs-requires c κs = let t = c .before .before .before .before .before .before in
-    let f = t .before .before in
-    let o = f .before .before .before in
-    let a = o .before .before .before .before .before .before .before .before .before .before .before .args in
-    (zip-room (batch (now (a .a-keys)) (now (a .a-offsets)) (now (a .a-ends)) (now (a .a-values))) (batch (now (a .b-keys)) (now (a .b-offsets)) (now (a .b-ends)) (now (a .b-values))) (a .how) (a .code) (a .fill-a) (a .fill-b) _ _ _ _ (asked-yes (asked f) (t .enum-told2 .given .1)), o .before .order-of .ensures, o .order-of2 .ensures)
-
-enum-known-fits : tie.Need-enum-known-fits
-enum-known-fits c = search needs
+zip-with-by-requires : tie.Need-zip-with-by-requires
+zip-with-by-requires c κs = let l = c .before .before .before .before .before .before in (yes (l .before), l .lookup-of .ensures, λ t. length-replicate {A = ℕ} 32768 0)
 
 same-length : tie.Need-same-length
 same-length c = search needs
@@ -99,16 +55,28 @@ same-length-4 : tie.Need-same-length-4
 same-length-4 c = search needs
 
 returns-2 : tie.Need-returns-2
-returns-2 c = let w = c .before .before .before .before .before .before in
-    let v = w .before .before .before .before .before in
-    let t = v .before .before in
-    let f = t .before .before in
-    let a = f .before .before .before .before .before .before .before .before .before .before .before .before .before .before .args in
-    zip-written (batch (now (a .a-keys)) (now (a .a-offsets)) (now (a .a-ends)) (now (a .a-values))) (batch (now (a .b-keys)) (now (a .b-offsets)) (now (a .b-ends)) (now (a .b-values))) (a .how) (a .code) (a .fill-a) (a .fill-b) (back _ (v .before .value .ok) ∙ v .before .value .ensures) (back _ (v .value2 .ok) ∙ v .value2 .ensures) (asked-yes (asked f) (t .enum-told2 .given .1)) (w .zip-pairs .ensures)
+returns-2 c = search needs
+
+slice-aggregate-zip-with-by-2 : tie.Need-slice-aggregate-zip-with-by-2
+slice-aggregate-zip-with-by-2 c = search needs
+
+zip-with-by-requires-2 : tie.Need-zip-with-by-requires-2
+zip-with-by-requires-2 c κs = let l = c .before .before .before .before .before .before in (yes (l .before), l .lookup-of .ensures, λ t. no-test t (c .before .before .before .before .before .if1 .left))
+
+same-length-5 : tie.Need-same-length-5
+same-length-5 c = search needs
+
+same-length-6 : tie.Need-same-length-6
+same-length-6 c = search needs
+
+same-length-7 : tie.Need-same-length-7
+same-length-7 c = search needs
+
+same-length-8 : tie.Need-same-length-8
+same-length-8 c = search needs
 
 returns-3 : tie.Need-returns-3
-unfolding zipWith
-returns-3 c = batch-refused _ (asked-no _ (asked (c .before .before .before)) (c .before .fits2 .given .1))
+returns-3 c = search needs
 
 pub zip-with-spec : {M : Type 1} → statement M
 zip-with-spec =
@@ -118,21 +86,18 @@ zip-with-spec =
     enum-told
     enum-known-asked
     returns
-    order-of-requires
-    order-of-requires-2
-    ask-pairs-requires
-    add-keys
-    add-ask-room
-    ask-room-requires
-    first-no-requires
-    enum-told-2
-    value-requires
-    value-requires-2
-    zip-pairs-requires
-    enum-known-fits
+    lookup-of-requires
+    slice-aggregate-zip-with-by
+    zip-with-by-requires
     same-length
     same-length-2
     same-length-3
     same-length-4
     returns-2
+    slice-aggregate-zip-with-by-2
+    zip-with-by-requires-2
+    same-length-5
+    same-length-6
+    same-length-7
+    same-length-8
     returns-3)
