@@ -8,10 +8,11 @@ use native.Mathlib.Omega.{arith}
 use lib.Dec.{eqb}
 use lib.ListN.{length, getD, List·getD-append}
 use lib.Seq.{getD-append-add}
-use borrow.Author.Tests.{eqb-true, eqb-false, eq-eqb, ne-eqb}
+use borrow.Author.Tests.{eqb-true, eqb-false, eq-eqb, ne-eqb, lt-ltb, le-ltb}
 use Rattle.num.proofs.Tests.{by-test}
 use Rattle.keys.specs.Keys.{lowest}
 use Rattle.keys.proofs.Lowest.{lowest-within}
+use Rattle.batch.specs.Workers.{otherAt}
 use Rattle.concat.specs.Workers.{keyAt}
 use Rattle.concat.proofs.Once.{lowest-at}
 
@@ -35,11 +36,11 @@ lowest-second k (x ∷ xs) ys h =
 -- ---- what is at a place
 
 module _ (ka kb : List ℕ) (n : ℕ) where
-  pub at-first : n < length ka → {a b : ℕ} → a ≡ lowest (getD ka n 0) ka → b ≡ lowest (getD ka n 0) kb
+  pub at-first : n < length ka → {a b : ℕ} → a ≡ lowest (getD ka n 0) ka → b ≡ otherAt ka kb n
       → record { at = n; kept = eqb a n; key = getD ka n 0; a = a; b = b } ≡ keyAt ka kb n
   at-first h ea eb =
       let k : getD (ka ++ kb) n 0 ≡ getD ka n 0 = List·getD-append ka kb 0 n h in
-      rw (k, ea, eb, lowest-first (getD ka n 0) ka kb (omega (arith, lowest-at ka n h)))
+      rw (k, ea, eb, lt-ltb n (length ka) h, lowest-first (getD ka n 0) ka kb (omega (arith, lowest-at ka n h)))
 
   kept-second : (k : ℕ) → length ka ≤ n → eqb (lowest k ka) (length ka) && eqb (lowest k kb) (n - length ka) ≡ eqb (lowest k (ka ++ kb)) n
   kept-second k h =
@@ -53,9 +54,9 @@ module _ (ka kb : List ℕ) (n : ℕ) where
       let s = lowest-first k ka kb l in
       rw t (sym (ne-eqb (lowest k (ka ++ kb)) n (λ z. let y : ⊥ = omega arith in y))))
 
-  pub at-second : length ka ≤ n → {a b : ℕ} {t : Bool} → a ≡ lowest (getD kb (n - length ka) 0) ka → b ≡ lowest (getD kb (n - length ka) 0) kb
+  pub at-second : length ka ≤ n → {a b : ℕ} {t : Bool} → a ≡ otherAt ka kb n → b ≡ lowest (getD kb (n - length ka) 0) kb
       → t ≡ eqb a (length ka) && eqb b (n - length ka) → record { at = n; kept = t; key = getD kb (n - length ka) 0; a = a; b = b } ≡ keyAt ka kb n
   at-second h ea eb et =
       let m : length ka + (n - length ka) ≡ n = omega arith in
       let k : getD (ka ++ kb) n 0 ≡ getD kb (n - length ka) 0 = ap (λ (i : ℕ). getD (ka ++ kb) i 0) (sym m) ∙ getD-append-add ka kb (n - length ka) 0 in
-      rw (et, k, ea, eb, kept-second (getD kb (n - length ka) 0) h)
+      rw (et, k, ea, eb, le-ltb n (length ka) h, kept-second (getD kb (n - length ka) 0) h)

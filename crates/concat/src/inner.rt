@@ -1,13 +1,13 @@
 // Workers that assume what the calls have asked.
+use batch::inner::lookup::Lookup;
 use batch::inner::part_at;
 use batch::two::Joined;
 use column::answer::Asked;
 use column::answer::RleBatch;
 use column::inner::Writer;
 use column::sequence;
-use keys::Order;
 ghost use Prim.Native.Nat.{_+_, _≤_, _<_};
-ghost use mathlib.Core.Bool.{_&&_};
+ghost use mathlib.Core.Bool.{true, _&&_};
 ghost use mathlib.Core.List.{[], _∷_, _++_, map};
 ghost use mathlib.Core.Path.{_≡_};
 ghost use lib.IntN.{pos};
@@ -15,9 +15,8 @@ ghost use lib.ListN.{length, getD};
 ghost use Rattle.column.specs.Asking.{shownAsked};
 ghost use Rattle.column.specs.Runs.{runsOf, encode, Filled};
 ghost use Rattle.transform.specs.Transform.{shown};
-ghost use Rattle.keys.specs.Workers.{Known};
 ghost use Rattle.batch.specs.Batch.{batch, entries};
-ghost use Rattle.batch.specs.Workers.{ValidBatch, FilledCounts, NextKept};
+ghost use Rattle.batch.specs.Workers.{ValidBatch, FilledCounts, NextKept, KnownKeys, KeptOther};
 ghost use Rattle.keys.specs.Keys.{once};
 ghost use Rattle.concat.specs.Concat.{concatKey, fitKeys};
 ghost use Rattle.concat.specs.Workers.{keyAt, Joinable, ConcatRoom};
@@ -35,35 +34,36 @@ fn both(first: bool, second: bool) -> bool
 fn key_at(
     a_keys: &[u32],
     b_keys: &[u32],
-    a_order: Order,
-    b_order: Order,
+    lookup: Lookup,
     at: usize,
     near: usize,
+    block: &mut [u32],
 ) -> Joined
-    requires { ⌜ Known «a_order» (now «a_keys») × Known «b_order» (now «b_keys») × (at < length (now «a_keys») + length (now «b_keys»)) ⌝ }
-    ensures { λ r. ⌜ r ≡ keyAt (now («a_keys» .entry)) (now («b_keys» .entry)) at ⌝ }
+    requires { ⌜ KnownKeys (now «a_keys») (now «b_keys») lookup × (at < length (now «a_keys») + length (now «b_keys»)) × KeptOther (now «a_keys») (now «b_keys») (lookup .indexed) (now block) at ⌝ }
+    ensures { λ r. ⌜ (r ≡ keyAt (now («a_keys» .entry)) (now («b_keys» .entry)) at) × KeptOther (now («a_keys» .entry)) (now («b_keys» .entry)) (lookup .indexed) (now (block .exit)) (at + 1) ⌝ }
 {
+    let a_order = lookup.a;
+    let b_order = lookup.b;
+    let other = batch::inner::lookup::find_other(a_keys, b_keys, lookup, at, near, block);
     if at < a_keys.len() {
         let key = a_keys[at];
         let a = keys::inner::find(a_keys, a_order, at, key);
-        let b = keys::inner::find(b_keys, b_order, near, key);
         return Joined {
             at,
             kept: a == at,
             key,
             a,
-            b,
+            b: other,
         };
     }
     let position = at - a_keys.len();
     let key = b_keys[position];
-    let a = keys::inner::find(a_keys, a_order, near, key);
     let b = keys::inner::find(b_keys, b_order, position, key);
     Joined {
         at,
-        kept: both(a == a_keys.len(), b == position),
+        kept: both(other == a_keys.len(), b == position),
         key,
-        a,
+        a: other,
         b,
     }
 }
@@ -72,18 +72,19 @@ fn key_at(
 fn next_key(
     a_keys: &[u32],
     b_keys: &[u32],
-    a_order: Order,
-    b_order: Order,
+    lookup: Lookup,
     from: usize,
     near: usize,
+    block: &mut [u32],
 ) -> Joined
-    requires { ⌜ Known «a_order» (now «a_keys») × Known «b_order» (now «b_keys») × (from ≤ length (now «a_keys») + length (now «b_keys»)) ⌝ }
-    ensures { λ r. ⌜ NextKept (keyAt (now («a_keys» .entry)) (now («b_keys» .entry))) (length (now («a_keys» .entry)) + length (now («b_keys» .entry))) from r ⌝ }
+    requires { ⌜ KnownKeys (now «a_keys») (now «b_keys») lookup × (from ≤ length (now «a_keys») + length (now «b_keys»)) × KeptOther (now «a_keys») (now «b_keys») (lookup .indexed) (now block) from ⌝ }
+    ensures { λ r. ⌜ NextKept (keyAt (now («a_keys» .entry)) (now («b_keys» .entry))) (length (now («a_keys» .entry)) + length (now («b_keys» .entry))) from r
+        × (r .at < length (now («a_keys» .entry)) + length (now («b_keys» .entry)) → KeptOther (now («a_keys» .entry)) (now («b_keys» .entry)) (lookup .indexed) (now (block .exit)) (r .at + 1)) ⌝ }
 {
     let places = a_keys.len() + b_keys.len();
     let mut at = from;
     while at < places {
-        let joined = key_at(a_keys, b_keys, a_order, b_order, at, near);
+        let joined = key_at(a_keys, b_keys, lookup, at, near, &mut *block);
         if joined.kept {
             return joined;
         }
@@ -108,16 +109,16 @@ pub fn ask_joined(
     b_offsets: &[usize],
     b_ends: &[i64],
     b_values: &[i64],
-    a_order: Order,
-    b_order: Order,
+    lookup: Lookup,
+    block: &mut [u32],
 ) -> Asked
     requires { ⌜ ValidBatch (batch (now «a_keys») (now «a_offsets») (now «a_ends») (now «a_values»)) × ValidBatch (batch (now «b_keys») (now «b_offsets») (now «b_ends») (now «b_values»))
-        × Known «a_order» (now «a_keys») × Known «b_order» (now «b_keys») ⌝ }
+        × KnownKeys (now «a_keys») (now «b_keys») lookup × (lookup .indexed ≡ true → length (now block) ≡ 32768) ⌝ }
     ensures { λ r. ⌜ shownAsked r ≡ fitKeys (entries (batch (now («a_keys» .entry)) (now («a_offsets» .entry)) (now («a_ends» .entry)) (now («a_values» .entry))))
         (entries (batch (now («b_keys» .entry)) (now («b_offsets» .entry)) (now («b_ends» .entry)) (now («b_values» .entry)))) (once (now («a_keys» .entry) ++ now («b_keys» .entry))) ⌝ }
 {
     let places = a_keys.len() + b_keys.len();
-    let mut joined = next_key(a_keys, b_keys, a_order, b_order, 0, 0);
+    let mut joined = next_key(a_keys, b_keys, lookup, 0, 0, &mut *block);
     while joined.at < places {
         let at = joined.at;
         let b = joined.b;
@@ -128,7 +129,7 @@ pub fn ask_joined(
             Asked::Yes => {}
             Asked::No(r) => return Asked::No(r),
         }
-        joined = next_key(a_keys, b_keys, a_order, b_order, at + 1, b + 1);
+        joined = next_key(a_keys, b_keys, lookup, at + 1, b + 1, &mut *block);
     }
     Asked::Yes
 }
@@ -186,15 +187,15 @@ pub fn concat_keys(
     b_offsets: &[usize],
     b_ends: &[i64],
     b_values: &[i64],
-    a_order: Order,
-    b_order: Order,
+    lookup: Lookup,
+    block: &mut [u32],
     out_keys: &mut [u32],
     out_offsets: &mut [usize],
     out_ends: &mut [i64],
     out_values: &mut [i64],
 ) -> RleBatch
     requires { ⌜ ConcatRoom (batch (now «a_keys») (now «a_offsets») (now «a_ends») (now «a_values»)) (batch (now «b_keys») (now «b_offsets») (now «b_ends») (now «b_values»))
-        (now «out_keys») (now «out_offsets») (now «out_ends») (now «out_values») × Known «a_order» (now «a_keys») × Known «b_order» (now «b_keys») ⌝ }
+        (now «out_keys») (now «out_offsets») (now «out_ends») (now «out_values») × KnownKeys (now «a_keys») (now «b_keys») lookup × (lookup .indexed ≡ true → length (now block) ≡ 32768) ⌝ }
     ensures { λ r. ⌜ FilledCounts (map (concatKey (entries (batch (now («a_keys» .entry)) (now («a_offsets» .entry)) (now («a_ends» .entry)) (now («a_values» .entry))))
         (entries (batch (now («b_keys» .entry)) (now («b_offsets» .entry)) (now («b_ends» .entry)) (now («b_values» .entry))))) (once (now («a_keys» .entry) ++ now («b_keys» .entry))))
         (now («out_keys» .entry)) (now («out_keys» .exit)) (now («out_offsets» .entry)) (now («out_offsets» .exit))
@@ -204,7 +205,7 @@ pub fn concat_keys(
     out_offsets[0] = 0;
     let mut used: usize = 0;
     let mut n: usize = 0;
-    let mut joined = next_key(a_keys, b_keys, a_order, b_order, 0, 0);
+    let mut joined = next_key(a_keys, b_keys, lookup, 0, 0, &mut *block);
     while joined.at < places {
         let at = joined.at;
         let key = joined.key;
@@ -221,7 +222,7 @@ pub fn concat_keys(
         );
         n += 1;
         out_offsets[n] = used;
-        joined = next_key(a_keys, b_keys, a_order, b_order, at + 1, b + 1);
+        joined = next_key(a_keys, b_keys, lookup, at + 1, b + 1, &mut *block);
     }
     RleBatch {
         keys: n,

@@ -1,8 +1,8 @@
-use mathlib.Core.Path.{refl, ap}
-use Rattle.column.specs.Asking.{shownAsked}
+use Prim.Native.Nat.{ℕ}
+use lib.ListN.{length-replicate}
 use Rattle.column.proofs.Promised.{asked-yes, asked-no}
-use Rattle.batch.proofs.Asks.{both-told}
-use Rattle.concat.proofs.Promised.{invalid-refused, concat-room, concat-written, concat-refused}
+use Rattle.keys.proofs.Lowest.{no-test}
+use Rattle.concat.proofs.Promised.{invalid-refused}
 use borrow.Author.Needs.{needs}
 use Rattle.concat.proofs.concat.Statement.{statement}
 use Rattle.concat.proofs.concat.Tie as tie
@@ -19,38 +19,15 @@ enum-known-asked c = search needs
 returns : tie.Need-returns
 returns c = let n = c .before .before .before in invalid-refused _ _ _ _ _ _ _ _ _ _ _ _ (asked-no _ (n .ask-batches .ensures) (c .before .asked .given .1))
 
-order-of-requires : tie.Need-order-of-requires
-order-of-requires c κs = search needs
+lookup-of-requires : tie.Need-lookup-of-requires
+lookup-of-requires c κs = search needs
 
-order-of-requires-2 : tie.Need-order-of-requires-2
-order-of-requires-2 c κs = search needs
+slice-aggregate-concat-by : tie.Need-slice-aggregate-concat-by
+slice-aggregate-concat-by c = search needs
 
-add-keys : tie.Need-add-keys
-add-keys c = search needs
-
-add-ask-room : tie.Need-add-ask-room
-add-ask-room c = search needs
-
-add-ask-room-2 : tie.Need-add-ask-room-2
-add-ask-room-2 c = search needs
-
-ask-room-requires : tie.Need-ask-room-requires
-ask-room-requires c κs = search needs
-
-ask-joined-requires : tie.Need-ask-joined-requires
-ask-joined-requires c κs = let t = c .before .before .before in let n = t .before .before in let v = both-told _ _ _ _ _ _ _ _ (asked-yes (n .ask-batches .ensures) (t .enum-told .given .1)) in (v .0, v .1, c .before .before .order-of .ensures, c .before .order-of2 .ensures)
-
-first-no-requires : tie.Need-first-no-requires
-first-no-requires c κs = search needs
-
-enum-told-2 : tie.Need-enum-told-2
-enum-told-2 c = search needs
-
-concat-keys-requires : tie.Need-concat-keys-requires
-concat-keys-requires c κs = let u = c .before .before .before .before in let f = u .before .before in let j = f .before in let m = j .before in let t = m .before .before .before in let n = t .before .before in (concat-room _ _ _ _ _ _ _ _ _ _ _ _ (asked-yes (n .ask-batches .ensures) (t .enum-told .given .1)) (f .first-no .ensures) (j .ask-joined .ensures) (m .ask-room .ensures refl) (ap shownAsked (u .enum-told2 .given .1)), m .before .before .order-of .ensures, m .before .order-of2 .ensures)
-
-enum-known-fits : tie.Need-enum-known-fits
-enum-known-fits c = search needs
+concat-by-requires : tie.Need-concat-by-requires
+concat-by-requires c κs = let p = c .before .before .before .before .before .before in let t = p .before in
+    (asked-yes (t .before .before .ask-batches .ensures) (t .enum-told .given .1), p .lookup-of .ensures, λ t. length-replicate {A = ℕ} 32768 0)
 
 same-length : tie.Need-same-length
 same-length c = search needs
@@ -65,10 +42,29 @@ same-length-4 : tie.Need-same-length-4
 same-length-4 c = search needs
 
 returns-2 : tie.Need-returns-2
-returns-2 c = let q = c .before .before .before .before .before .before in let u = q .before .before .before .before .before in let f = u .before .before in let j = f .before in let m = j .before in let t = m .before .before .before in let n = t .before .before in concat-written _ _ _ _ _ _ _ _ _ _ _ _ (asked-yes (n .ask-batches .ensures) (t .enum-told .given .1)) (f .first-no .ensures) (j .ask-joined .ensures) (m .ask-room .ensures refl) (ap shownAsked (u .enum-told2 .given .1)) (q .concat-keys .ensures)
+returns-2 c = search needs
+
+slice-aggregate-concat-by-2 : tie.Need-slice-aggregate-concat-by-2
+slice-aggregate-concat-by-2 c = search needs
+
+concat-by-requires-2 : tie.Need-concat-by-requires-2
+concat-by-requires-2 c κs = let p = c .before .before .before .before .before .before in let t = p .before in
+    (asked-yes (t .before .before .ask-batches .ensures) (t .enum-told .given .1), p .lookup-of .ensures, λ t. no-test t (c .before .before .before .before .before .if1 .left))
+
+same-length-5 : tie.Need-same-length-5
+same-length-5 c = search needs
+
+same-length-6 : tie.Need-same-length-6
+same-length-6 c = search needs
+
+same-length-7 : tie.Need-same-length-7
+same-length-7 c = search needs
+
+same-length-8 : tie.Need-same-length-8
+same-length-8 c = search needs
 
 returns-3 : tie.Need-returns-3
-returns-3 c = let f = c .before .before .before in let j = f .before in let m = j .before in let t = m .before .before .before in let n = t .before .before in concat-refused _ _ _ _ _ _ _ _ _ _ _ _ (asked-yes (n .ask-batches .ensures) (t .enum-told .given .1)) (f .first-no .ensures) (j .ask-joined .ensures) (m .ask-room .ensures refl) (ap shownAsked (c .before .fits2 .given .1))
+returns-3 c = search needs
 
 pub concat-spec : {M : Type 1} → statement M
 concat-spec =
@@ -78,20 +74,18 @@ concat-spec =
     enum-told
     enum-known-asked
     returns
-    order-of-requires
-    order-of-requires-2
-    add-keys
-    add-ask-room
-    add-ask-room-2
-    ask-room-requires
-    ask-joined-requires
-    first-no-requires
-    enum-told-2
-    concat-keys-requires
-    enum-known-fits
+    lookup-of-requires
+    slice-aggregate-concat-by
+    concat-by-requires
     same-length
     same-length-2
     same-length-3
     same-length-4
     returns-2
+    slice-aggregate-concat-by-2
+    concat-by-requires-2
+    same-length-5
+    same-length-6
+    same-length-7
+    same-length-8
     returns-3)
