@@ -23,10 +23,9 @@ use Rattle.column.specs.Runs.{Runs, lengthOf, dense, encode}
 use Rattle.column.proofs.FirstNo.{alone}
 use Rattle.column.proofs.YesNo.{fills-first, fills-second}
 use Rattle.column.proofs.Rising.{Valid}
-use Rattle.keys.specs.Workers.{doubled}
+use Rattle.keys.specs.Workers.{doubled, NextPosition}
 use Rattle.batch.specs.Batch.{Entry, entriesFrom}
 use Rattle.collapse.specs.Collapse.{filledFrom, filledGroup, filledGroups, members}
-use Rattle.collapse.specs.Workers.{NextMember}
 use Rattle.collapse.proofs.Few.{merged-long, combined-long}
 use Rattle.collapse.proofs.Members.{membersAt, AtMember, at-next, member-at, members-first, members-next, members-end}
 
@@ -111,7 +110,7 @@ pub record Asking (op : ℤ → ℤ → ℤ) (key : ℕ) (ks : List ℕ) (cs : L
   pub left : filledGroup op Missing (members (entriesFrom ks cs) key) ≡ filledFrom op Missing sofar (membersAt key ks cs at)
 
 module _ (op : ℤ → ℤ → ℤ) (ks : List ℕ) (cs : List Runs) (l : length ks ≡ length cs) where
-  pub asking-start : (first : ℕ) {r : ℕ} → Valid (getD cs first []) → first < length ks → doubled ks first ≡ false → NextMember (getD ks first 0) ks (first + 1) r
+  pub asking-start : (first : ℕ) {r : ℕ} → Valid (getD cs first []) → first < length ks → doubled ks first ≡ false → NextPosition (getD ks first 0) ks (first + 1) r
       → Asking op (getD ks first 0) ks cs (getD cs first []) r
   unfolding filledGroup
   asking-start first v h t s = record {
@@ -131,7 +130,7 @@ module _ (op : ℤ → ℤ → ℤ) (ks : List ℕ) (cs : List Runs) (l : length
       asking-no q =
           sym (s .left ∙ ap (filledFrom op Missing (s .sofar)) (member-at key ks cs l at h (s .member .here h)) ∙ from-no op (s .sofar) (getD cs at []) (membersAt key ks cs (at + 1)) (asked ∙ q))
 
-      pub asking-next : filled x y (side x Missing ∷ side y Missing ∷ []) ≡ none → {n : ℕ} → NextMember (getD ks at 0) ks (at + 1) n → Asking op key ks cs first n
+      pub asking-next : filled x y (side x Missing ∷ side y Missing ∷ []) ≡ none → {n : ℕ} → NextPosition (getD ks at 0) ks (at + 1) n → Asking op key ks cs first n
       asking-next q {n} nx =
           let f = from-yes op (s .sofar) (getD cs at []) (membersAt key ks cs n) (asked ∙ q) in
           record {

@@ -25,8 +25,9 @@ use Rattle.ops.specs.Ops.{sides}
 use Rattle.plan.proofs.Columns.{two-few}
 use Rattle.batch.specs.Batch.{batch}
 use Rattle.batch.proofs.Entries.{columnAt, column-is, column-valid, part-valid, parts-paired}
+use Rattle.keys.specs.Workers.{NextPosition}
 use Rattle.collapse.specs.Collapse.{collapseFrom, collapseRuns, members, renamed}
-use Rattle.collapse.specs.Workers.{NextMember, Grouped, memberRuns, Foldable, FoldedMember, FoldRoom, Folded, FilledGroup}
+use Rattle.collapse.specs.Workers.{Grouped, memberRuns, Foldable, FoldedMember, FoldRoom, Folded, FilledGroup}
 use Rattle.collapse.proofs.Columns.{new-many, all-valid, all-runs, part-runs}
 use Rattle.collapse.proofs.Few.{merged-few, combined-valid, collapse-few}
 use Rattle.collapse.proofs.Members.{membersAt, AtMember, at-next, member-at, members-next, members-end, members-first, members-all, members-few}
@@ -148,7 +149,7 @@ module _ (ks os : List ℕ) (es vs : List ℤ) (nk : List ℕ) (first : ℕ) whe
     low : most ≤ length es
     low = most-few ks os es vs nk g key
 
-    module _ {e v s t : List ℤ} (q : FoldRoom (batch ks os es vs) nk first e v s t) {next : ℕ} (m : NextMember key nk (first + 1) next) where
+    module _ {e v s t : List ℤ} (q : FoldRoom (batch ks os es vs) nk first e v s t) {next : ℕ} (m : NextPosition key nk (first + 1) next) where
       from-first : all ≡ columnAt (batch ks os es vs) first ∷ left next
       from-first = members-first key nk (columns (flat os es vs)) (new-many ks os es vs nk g) first (q .within) (q .alone) refl m
 
@@ -186,7 +187,7 @@ module _ (ks os : List ℕ) (es vs : List ℤ) (nk : List ℕ) (first : ℕ) whe
       pub folded : Folded sofar (length es) most e₀ e v₀ v s₀ s t₀ t count
 
     module _ {together : Bool} (g : Grouped (batch ks os es vs) nk together) where
-      module _ {e v s t : List ℤ} (q : FoldRoom (batch ks os es vs) nk first e v s t) {at : ℕ} (m : NextMember key nk (first + 1) at) {pe pv : List ℤ} (p : Part ks os es vs first pe pv) where
+      module _ {e v s t : List ℤ} (q : FoldRoom (batch ks os es vs) nk first e v s t) {at : ℕ} (m : NextPosition key nk (first + 1) at) {pe pv : List ℤ} (p : Part ks os es vs first pe pv) where
         -- no other member
         pub alone-filled : {r : ℕ} {e′ v′ : List ℤ} → length nk ≤ at → Filled (encode (dense (runsOf pe pv))) e e′ v v′ r
             → FilledGroup (collapseRuns op (Value f) all) (2 * length es) e e′ v v′ s s t t r
@@ -266,7 +267,7 @@ module _ (ks os : List ℕ) (es vs : List ℤ) (nk : List ℕ) (first : ℕ) whe
 
         pub fold-more : {e′ v′ s′ t′ : List ℤ} {r at′ : ℕ}
             → FoldedMember (combined op (sides (sequence (take count s) (take count t)) (sequence pe pv) (Value f) (Value f))) e e′ v v′ s s′ t t′ r
-            → NextMember (getD nk at 0) nk (at + 1) at′ → Folding e₀ e′ v₀ v′ s₀ s′ t₀ t′ r at′
+            → NextPosition (getD nk at 0) nk (at + 1) at′ → Folding e₀ e′ v₀ v′ s₀ s′ t₀ t′ r at′
         unfolding next collapseFrom
         fold-more {e′} {v′} {s′} {t′} {r} {at′} d₀ m =
             let cs = columns (flat os es vs) in

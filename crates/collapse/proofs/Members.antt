@@ -14,13 +14,13 @@ use Rattle.num.proofs.Tests.{by-test}
 use Rattle.column.specs.Lists.{any, total}
 use Rattle.column.specs.Runs.{Runs}
 use Rattle.column.proofs.All.{All}
-use Rattle.keys.specs.Workers.{doubled}
+use Rattle.keys.specs.Workers.{doubled, NextPosition}
 use Rattle.keys.proofs.Lowest.{no-test}
 use Rattle.keys.proofs.Doubles.{among-not}
 use Rattle.keys.proofs.Once.{NoDoubles}
 use Rattle.batch.specs.Batch.{Entry, entriesFrom}
 use Rattle.collapse.specs.Collapse.{members}
-use Rattle.collapse.specs.Workers.{NextMember, memberRuns}
+use Rattle.collapse.specs.Workers.{memberRuns}
 
 abbrev pub membersAt : ℕ → List ℕ → List Runs → ℕ → List Runs
 membersAt key ks cs n = members (entriesFrom (drop n ks) (drop n cs)) key
@@ -47,14 +47,14 @@ module _ (key : ℕ) (ks : List ℕ) (cs : List Runs) (l : length ks ≡ length 
       ∙ others (n + 1) d (omega arith) (λ i a b. f i (omega arith) (omega arith))
       ∙ ap (membersAt key ks cs) e
 
-  next-at : {n r : ℕ} → NextMember key ks n r → membersAt key ks cs n ≡ membersAt key ks cs r
+  next-at : {n r : ℕ} → NextPosition key ks n r → membersAt key ks cs n ≡ membersAt key ks cs r
   next-at {n} {r} s =
       let e : n + (r - n) ≡ r = omega (arith, s .after) in
       others n (r - n) (omega (arith, s .within)) (λ i a b. s .before i a (omega arith)) ∙ ap (membersAt key ks cs) e
 
   -- ---- one member after another
 
-  module _ (at : ℕ) {r : ℕ} (s : NextMember (getD ks at 0) ks (at + 1) r) where
+  module _ (at : ℕ) {r : ℕ} (s : NextPosition (getD ks at 0) ks (at + 1) r) where
     pub at-next : getD ks at 0 ≡ key → AtMember key ks r
     at-next e = record { within = s .within; here = λ h. s .here h ∙ e }
 
@@ -66,7 +66,7 @@ module _ (key : ℕ) (ks : List ℕ) (cs : List Runs) (l : length ks ≡ length 
   members-end at h = rw (drop-of-length-le ks h)
 
   -- the first member
-  pub members-first : (first : ℕ) {r : ℕ} → first < length ks → doubled ks first ≡ false → getD ks first 0 ≡ key → NextMember (getD ks first 0) ks (first + 1) r
+  pub members-first : (first : ℕ) {r : ℕ} → first < length ks → doubled ks first ≡ false → getD ks first 0 ≡ key → NextPosition (getD ks first 0) ks (first + 1) r
       → members (entriesFrom ks cs) key ≡ getD cs first [] ∷ membersAt key ks cs r
   members-first first h t e s =
       let z : 0 + first ≡ first = omega arith in
@@ -125,7 +125,7 @@ pub record Summing (key : ℕ) (ks : List ℕ) (cs : List Runs) (runs at : ℕ) 
   pub sum : runs + total (map length (membersAt key ks cs at)) ≡ memberRuns (entriesFrom ks cs) key
 
 module _ (ks : List ℕ) (cs : List Runs) (l : length ks ≡ length cs) where
-  pub summing-start : (first : ℕ) {runs r : ℕ} → first < length ks → doubled ks first ≡ false → NextMember (getD ks first 0) ks (first + 1) r → runs ≡ length (getD cs first [])
+  pub summing-start : (first : ℕ) {runs r : ℕ} → first < length ks → doubled ks first ≡ false → NextPosition (getD ks first 0) ks (first + 1) r → runs ≡ length (getD cs first [])
       → Summing (getD ks first 0) ks cs runs r
   summing-start first h t s e = record {
     member = at-next (getD ks first 0) ks cs l first s refl;
@@ -137,7 +137,7 @@ module _ (ks : List ℕ) (cs : List Runs) (l : length ks ≡ length cs) where
       pub summing-room : runs + n ≤ total (map length cs)
       summing-room = omega (arith, s .sum, members-few ks cs key, ap (λ (ms : List Runs). total (map length ms)) (member-at key ks cs l at h (s .member .here h)))
 
-      pub summing-next : {r : ℕ} → NextMember (getD ks at 0) ks (at + 1) r → Summing key ks cs (runs + n) r
+      pub summing-next : {r : ℕ} → NextPosition (getD ks at 0) ks (at + 1) r → Summing key ks cs (runs + n) r
       summing-next nx = record {
         member = at-next key ks cs l at nx (s .member .here h);
         sum = omega (arith, s .sum, ap (λ (ms : List Runs). total (map length ms)) (members-next key ks cs l at nx h (s .member .here h)));

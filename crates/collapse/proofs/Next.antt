@@ -5,13 +5,12 @@ use mathlib.Core.Bool.{true, false}
 use mathlib.Core.List.{List}
 use mathlib.Core.Path.{_≡_, sym}
 use native.Mathlib.Omega.{arith}
-use lib.Dec.{eqb, ltb}
 use lib.ListN.{length, getD}
 use borrow.Author.Count.{below-more}
-use borrow.Author.Tests.{ne-eqb, ltb-true, ltb-false}
-use Rattle.num.proofs.Tests.{by-test}
-use Rattle.keys.specs.Workers.{doubled}
-use Rattle.collapse.specs.Workers.{Together, NextGroup, NextMember}
+use borrow.Author.Tests.{ne-eqb}
+use Rattle.keys.specs.Workers.{doubled, NextPosition}
+use Rattle.keys.proofs.Lowest.{skip-start, next-found, next-end}
+use Rattle.collapse.specs.Workers.{Together, NextGroup}
 use Rattle.collapse.proofs.Together.{together-gone}
 
 -- from n up to i, P holds of each
@@ -39,27 +38,20 @@ module _ {ks : List ℕ} {n i : ℕ} (s : PastGroup ks n i) where
   pub group-end : length ks ≤ i → NextGroup ks n i
   group-end h = record { after = s .after; within = s .within; before = s .each; here = λ l. let z : ⊥ = omega arith in absurd z }
 
--- ---- the next member
+-- ---- the next member, where equal keys stand together: it stands behind the last, or there is none
 
-abbrev pub PastMember : ℕ → List ℕ → ℕ → ℕ → Type 0
-PastMember key ks n i = Past (λ j. eqb key (getD ks j 0) ≡ false) n (length ks) i
+module _ (ks : List ℕ) (last : ℕ) where
+  pub member-next : last + 1 < length ks → getD ks (last + 1) 0 ≡ getD ks last 0 → NextPosition (getD ks last 0) ks (last + 1) (last + 1)
+  member-next h e = next-found _ _ (skip-start _ _ (omega arith)) e
 
-module _ {key : ℕ} {ks : List ℕ} {n i : ℕ} (s : PastMember key ks n i) where
-  pub member-found : getD ks i 0 ≡ key → NextMember key ks n i
-  member-found e = record { after = s .after; within = s .within; before = s .each; here = λ h. e }
+  pub member-last : last < length ks → length ks ≤ last + 1 → NextPosition (getD ks last 0) ks (last + 1) (length ks)
+  member-last h k = let e : last + 1 ≡ length ks = omega arith in rw e (next-end _ _ (skip-start _ _ (omega arith)) (omega arith))
 
-  pub member-end : length ks ≤ i → NextMember key ks n i
-  member-end h = record { after = s .after; within = s .within; before = s .each; here = λ l. let z : ⊥ = omega arith in absurd z }
-
--- where equal keys stand together there is none behind another key
-pub member-gone : (ks : List ℕ) (last i : ℕ) → Together ks → PastMember (getD ks last 0) ks (last + 1) i → (getD ks i 0 ≡ getD ks last 0 → ⊥)
-    → NextMember (getD ks last 0) ks (last + 1) (length ks)
-member-gone ks last i t s n = record {
-  after = omega (arith, s .after, s .within);
-  within = omega arith;
-  before = λ j h k. by-test (ltb j i)
-      (λ b. s .each j h (ltb-true j i b))
-      (λ b. let d : i + (j - i) ≡ j = omega (arith, ltb-false j i b) in
-      ne-eqb (getD ks last 0) (getD ks j 0) (λ e. together-gone ks t last i (omega (arith, s .after)) n (j - i) (rw d k) (rw d (sym e))));
-  here = λ h. let z : ⊥ = omega arith in absurd z;
-}
+  pub member-gone : Together ks → last + 1 < length ks → (getD ks (last + 1) 0 ≡ getD ks last 0 → ⊥) → NextPosition (getD ks last 0) ks (last + 1) (length ks)
+  member-gone t h n = record {
+    after = omega arith;
+    within = omega arith;
+    before = λ j k l. let d : last + 1 + (j - (last + 1)) ≡ j = omega arith in
+        ne-eqb (getD ks last 0) (getD ks j 0) (λ e. together-gone ks t last (last + 1) (omega arith) n (j - (last + 1)) (rw d l) (rw d (sym e)));
+    here = λ k. let z : ⊥ = omega arith in absurd z;
+  }

@@ -29,13 +29,6 @@ pub record NextGroup (ks : List ℕ) (n r : ℕ) : Type 0 where
   pub before : (i : ℕ) → n ≤ i → i < r → doubled ks i ≡ true
   pub here : r < length ks → doubled ks r ≡ false
 
--- r is the lowest position from n on of the key, or the number of keys
-pub record NextMember (key : ℕ) (ks : List ℕ) (n r : ℕ) : Type 0 where
-  pub after : n ≤ r
-  pub within : r ≤ length ks
-  pub before : (i : ℕ) → n ≤ i → i < r → eqb key (getD ks i 0) ≡ false
-  pub here : r < length ks → getD ks r 0 ≡ key
-
 -- a valid batch with a new key for each key, and what is known of the new keys
 pub record Grouped (b : Batch) (newKeys : List ℕ) (together : Bool) : Type 0 where
   pub valid : ValidBatch b

@@ -15,12 +15,12 @@ ghost use Rattle.column.specs.declared.answer.Fill.the-variants.{Value, Missing
 ghost use Rattle.column.specs.Asking.{shownAsked};
 ghost use Rattle.column.specs.Combine.{combined};
 ghost use Rattle.column.specs.Runs.{sequence, over};
-ghost use Rattle.keys.specs.Workers.{doubled};
+ghost use Rattle.keys.specs.Workers.{doubled, NextPosition};
 ghost use Rattle.ops.specs.Ops.{sides};
 ghost use Rattle.batch.specs.Batch.{batch};
 ghost use Rattle.keys.specs.Keys.{once};
 ghost use Rattle.collapse.specs.Collapse.{collapseRuns, filledGroup, members, renamed, filledGroups, collapseKey};
-ghost use Rattle.collapse.specs.Workers.{Together, NextGroup, NextMember, Grouped, memberRuns, Foldable, FoldedMember, FoldRoom, Folded, FilledGroup, CollapseRoom, FilledGroups};
+ghost use Rattle.collapse.specs.Workers.{Together, NextGroup, Grouped, memberRuns, Foldable, FoldedMember, FoldRoom, Folded, FilledGroup, CollapseRoom, FilledGroups};
 
 // Whether no key is below the one before it.
 fn never_fall(keys: &[u32]) -> bool
@@ -81,20 +81,19 @@ fn next_group(keys: &[u32], together: bool, from: usize) -> usize
 // The next position of the key at `last`, behind that.
 fn next_member(keys: &[u32], together: bool, last: usize) -> usize
     requires { ⌜ (together ≡ true → Together (now keys)) × (last < length (now keys)) ⌝ }
-    ensures { λ r. ⌜ NextMember (getD (now (keys .entry)) last 0) (now (keys .entry)) (last + 1) r ⌝ }
+    ensures { λ r. ⌜ NextPosition (getD (now (keys .entry)) last 0) (now (keys .entry)) (last + 1) r ⌝ }
 {
     let key = keys[last];
-    let mut i = last + 1;
-    while i < keys.len() {
-        if keys[i] == key {
-            return i;
-        }
-        if together {
-            return keys.len();
-        }
-        i += 1;
+    let next = last + 1;
+    if !together {
+        return keys::inner::scan_from(keys, next, key);
     }
-    i
+    if next < keys.len() {
+        if keys[next] == key {
+            return next;
+        }
+    }
+    keys.len()
 }
 
 // 10 of a group, of which `first` is the position of the first member, where no fill is given.

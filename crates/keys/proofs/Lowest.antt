@@ -1,6 +1,6 @@
 -- Where a key stands: at most at one position where no key is given twice.
 -- Assumes nothing.
-use Prim.Native.Nat.{ℕ, zero, suc, _≤_, _<_}
+use Prim.Native.Nat.{ℕ, zero, suc, _+_, _-_, _≤_, _<_}
 use mathlib.Core.Bool.{Bool, true, false, cond, _&&_, _||_}
 use mathlib.Core.Option.{none, some}
 use mathlib.Core.List.{List, [], _∷_}
@@ -8,12 +8,13 @@ use mathlib.Core.Path.{_≡_, sym, ap, _∙_}
 use native.Mathlib.Omega.{arith}
 use lib.Dec.{eqb, ltb}
 use lib.ListN.{length, getD}
-use borrow.Author.Tests.{eqb-true, eq-eqb, ne-eqb, ltb-true, ltb-false, lt-ltb, le-ltb}
+use borrow.Author.Tests.{eqb-true, eqb-false, eq-eqb, ne-eqb, ltb-true, ltb-false, lt-ltb, le-ltb}
 use Rattle.num.proofs.Tests.{by-test}
 use Rattle.column.specs.Lists.{any}
 use Rattle.column.specs.Paper.{answers}
 use Rattle.column.proofs.Told.{both-true}
 use Rattle.keys.specs.Keys.{lowest, position}
+use Rattle.keys.specs.Workers.{Others, Skipped, NextPosition}
 
 -- a test does not say both
 pub no-test : {P : Type 0} {t : Bool} → t ≡ true → t ≡ false → P
@@ -52,15 +53,57 @@ lowest-any key (k ∷ ks) = found-step (eqb key k) (lowest key ks) (length ks) (
 
 -- ---- one key after another
 
-abbrev pub Unseen : ℕ → List ℕ → ℕ → Type 0
-Unseen key ks i = (i ≤ length ks) × ((j : ℕ) → j < i → getD ks j 0 ≡ key → ⊥)
+module _ (key : ℕ) (ks : List ℕ) where
+  others-more : (n m i : ℕ) → Others key ks n m → Others key ks m i → Others key ks n i
+  others-more n m i f g j h l = by-test (ltb j m) (λ t. f j h (ltb-true j m t)) (λ t. g j (ltb-false j m t) l)
 
-module _ (key : ℕ) (ks : List ℕ) (i : ℕ) (s : Unseen key ks i) where
-  pub unseen-found : getD ks i 0 ≡ key → i ≡ lowest key ks
-  unseen-found e = lowest-is key ks i (s .0) (s .1) (λ h. e)
+  others-one : (i : ℕ) → eqb key (getD ks i 0) ≡ false → Others key ks i (i + 1)
+  others-one i f j h l = let e : j ≡ i = omega arith in rw e f
 
-  pub unseen-end : length ks ≤ i → i ≡ lowest key ks
-  unseen-end h = lowest-is key ks i (s .0) (s .1) (λ k. let z : ⊥ = omega arith in absurd z)
+  others-none : (n : ℕ) → Others key ks n n
+  others-none n j h l = let z : ⊥ = omega arith in absurd z
+
+  pub skip-start : {n : ℕ} → n ≤ length ks → Skipped key ks n n
+  skip-start {n} h = record { after = omega arith; within = h; before = others-none n }
+
+  module _ {n i : ℕ} (s : Skipped key ks n i) where
+    pub skip-stride : {m : ℕ} → i ≤ m → m ≤ length ks → Others key ks i m → Skipped key ks n m
+    skip-stride {m} h k f = record { after = omega (arith, s .after); within = k; before = others-more n i m (s .before) f }
+
+    pub skip-one : i < length ks → (getD ks i 0 ≡ key → ⊥) → Skipped key ks n (i + 1)
+    skip-one h d = skip-stride (omega arith) (omega arith) (others-one i (ne-eqb key (getD ks i 0) (λ e. d (sym e))))
+
+    pub next-found : getD ks i 0 ≡ key → NextPosition key ks n i
+    next-found e = record { after = s .after; within = s .within; before = s .before; here = λ h. e }
+
+    pub next-end : length ks ≤ i → NextPosition key ks n i
+    next-end h = record { after = s .after; within = s .within; before = s .before; here = λ l. let z : ⊥ = omega arith in absurd z }
+
+  -- how many of those from n up to i are others
+  pub record Counted (n to count i : ℕ) : Type 0 where
+    pub begun : n ≤ i
+    pub within : i ≤ to
+    pub few : count ≤ i - n
+    pub all : count ≡ i - n → Others key ks n i
+
+  pub counted-none : {n to : ℕ} → n ≤ to → Counted n to 0 n
+  counted-none {n} h = record { begun = omega arith; within = h; few = omega arith; all = λ e. others-none n }
+
+  pub counted-more : {n to count i r : ℕ} → Counted n to count i → i < to → r ≡ cond (eqb (getD ks i 0) key) count (count + 1) → Counted n to r (i + 1)
+  counted-more {n} {count = count} {i} {r} c h er =
+      by-test (eqb (getD ks i 0) key)
+      (λ t. let e : r ≡ count = er ∙ rw t in
+      record { begun = omega (arith, c .begun); within = omega arith; few = omega (arith, c .begun, c .few); all = λ a. let z : ⊥ = omega (arith, c .begun, c .few) in absurd z })
+      (λ f. let e : r ≡ count + 1 = er ∙ rw f in
+      record {
+        begun = omega (arith, c .begun);
+        within = omega arith;
+        few = omega (arith, c .begun, c .few);
+        all = λ a. others-more n i (i + 1) (c .all (omega (arith, c .begun, c .few))) (others-one i (ne-eqb key (getD ks i 0) (λ u. eqb-false (getD ks i 0) key f (sym u))));
+      })
+
+pub next-lowest : (key : ℕ) (ks : List ℕ) {r : ℕ} → NextPosition key ks 0 r → r ≡ lowest key ks
+next-lowest key ks {r} s = lowest-is key ks r (s .within) (λ j l e. eqb-false key (getD ks j 0) (s .before j (omega arith) l) (sym e)) (s .here)
 
 -- ---- a key looked for at one position
 

@@ -28,6 +28,24 @@ Known Ascending ks = ascends ks ≡ true
 Known Distinct ks = distinctKeys ks ≡ none
 Known Unknown ks = Unit {0}
 
+-- ---- one key after another
+
+-- from n up to i all are others than the key
+abbrev pub Others : ℕ → List ℕ → ℕ → ℕ → Type 0
+Others key ks n i = (j : ℕ) → n ≤ j → j < i → eqb key (getD ks j 0) ≡ false
+
+pub record Skipped (key : ℕ) (ks : List ℕ) (n i : ℕ) : Type 0 where
+  pub after : n ≤ i
+  pub within : i ≤ length ks
+  pub before : Others key ks n i
+
+-- r is the lowest position from n on of the key, or the number of keys
+pub record NextPosition (key : ℕ) (ks : List ℕ) (n r : ℕ) : Type 0 where
+  pub after : n ≤ r
+  pub within : r ≤ length ks
+  pub before : Others key ks n r
+  pub here : r < length ks → getD ks r 0 ≡ key
+
 -- ---- double keys
 
 -- does the key at i stand before it too

@@ -2,19 +2,62 @@
 pub mod index;
 
 use crate::Order;
-ghost use Prim.Native.Nat.{_+_, _<_, _^_};
+use index::widened;
+ghost use Prim.Native.Nat.{_+_, _≤_, _<_, _^_};
 ghost use mathlib.Core.Bool.{true, _&&_, cond};
 ghost use mathlib.Core.Path.{_≡_};
 ghost use lib.Dec.{eqb, ltb};
 ghost use lib.ListN.{length, getD};
 ghost use Rattle.keys.specs.Keys.{lowest};
-ghost use Rattle.keys.specs.Workers.{ascends, Known, BlockEnd, BlockFound, Kept};
+ghost use Rattle.keys.specs.Workers.{ascends, Known, Others, Skipped, NextPosition, BlockEnd, BlockFound, Kept};
 
-// One key after another.
-pub fn scan(keys: &[u32], key: u32) -> usize
-    ensures { λ r. ⌜ r ≡ lowest key (now (keys .entry)) ⌝ }
+// As many keys are compared at once.
+const STRIDE: usize = 32;
+
+// One more if the keys differ.
+fn count_if_other(count: u32, x: u32, y: u32) -> u32
+    requires { ⌜ count + 1 < 2 ^ 32 ⌝ }
+    ensures { λ r. ⌜ r ≡ cond (eqb x y) count (count + 1) ⌝ }
 {
-    let mut i: usize = 0;
+    if x == y { count } else { count + 1 }
+}
+
+// Whether the keys from `from` up to `to` are all known to be others. It counts, as that becomes vector instructions.
+fn all_others(keys: &[u32], from: usize, to: usize, key: u32) -> bool
+    requires { ⌜ (from ≤ to) × (to ≤ length (now keys)) × (to ≤ from + 32) ⌝ }
+    ensures { λ r. ⌜ (r ≡ true → Others key (now (keys .entry)) from to) ⌝ }
+{
+    let mut count: u32 = 0;
+    let mut i = from;
+    while i < to {
+        count = count_if_other(count, keys[i], key);
+        i += 1;
+    }
+    widened(count) == to - from
+}
+
+// How far from `from` on all keys are known to be others, a stride at a time.
+fn skip_others(keys: &[u32], from: usize, key: u32) -> usize
+    requires { ⌜ from ≤ length (now keys) ⌝ }
+    ensures { λ r. ⌜ Skipped key (now (keys .entry)) from r ⌝ }
+{
+    let mut i = from;
+    while keys.len() - i >= STRIDE {
+        let to = i + STRIDE;
+        if !all_others(keys, i, to, key) {
+            return i;
+        }
+        i = to;
+    }
+    i
+}
+
+// The lowest position of a key from `from` on, or how many keys there are.
+pub fn scan_from(keys: &[u32], from: usize, key: u32) -> usize
+    requires { ⌜ from ≤ length (now keys) ⌝ }
+    ensures { λ r. ⌜ NextPosition key (now (keys .entry)) from r ⌝ }
+{
+    let mut i = skip_others(keys, from, key);
     while i < keys.len() {
         if keys[i] == key {
             return i;
@@ -22,6 +65,12 @@ pub fn scan(keys: &[u32], key: u32) -> usize
         i += 1;
     }
     i
+}
+
+pub fn scan(keys: &[u32], key: u32) -> usize
+    ensures { λ r. ⌜ r ≡ lowest key (now (keys .entry)) ⌝ }
+{
+    scan_from(keys, 0, key)
 }
 
 // Whether the key stands at a position.
@@ -133,7 +182,7 @@ fn find_block(keys: &[u32], wanted: &[u32], i: usize, block: &mut [u32]) -> usiz
 {
     let end = block_end(i, wanted.len());
     index::find_all(keys, &wanted[i..end], &mut *block);
-    index::widened(block[0])
+    widened(block[0])
 }
 
 // The lowest position of the wanted key at i, those before it having been looked for. With an index, a block of them is found at once and kept.
@@ -154,7 +203,7 @@ pub fn find_next(
         if slot == 0 {
             return find_block(keys, wanted, i, block);
         }
-        return index::widened(block[slot]);
+        return widened(block[slot]);
     }
     find(keys, order, near, wanted[i])
 }

@@ -1,4 +1,5 @@
 // Double keys among keys in any order, a share of them at a time.
+use crate::inner;
 use crate::inner::index::enter;
 use crate::inner::index::next_in_share;
 use crate::inner::index::shares_for;
@@ -42,14 +43,7 @@ fn pass(keys: &[u32], shares: usize, part: usize, limit: usize) -> Passed
 fn is_among(keys: &[u32], key: u32) -> bool
     ensures { λ r. ⌜ r ≡ any (eqb key) (now (keys .entry)) ⌝ }
 {
-    let mut i: usize = 0;
-    while i < keys.len() {
-        if keys[i] == key {
-            return true;
-        }
-        i += 1;
-    }
-    false
+    inner::scan(keys, key) < keys.len()
 }
 
 // Each key looked for among those before it.
