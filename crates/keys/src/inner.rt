@@ -141,25 +141,20 @@ const BLOCK: usize = 32_768;
 pub fn index_pays(order: Order, keys: usize, wanted: usize) -> bool
     ensures { λ r. ⌜ (r ≡ true → keys < 2 ^ 32) ⌝ }
 {
+    if keys < 512 {
+        return false;
+    }
+    if wanted < 512 {
+        return false;
+    }
     match order {
         Order::Ascending => {
-            if keys < 4096 {
-                return false;
-            }
             if wanted < keys / 4 {
                 return false;
             }
-            keys < 0x1_0000
+            keys < 0x2_0000
         }
-        Order::Distinct | Order::Unknown => {
-            if keys < 256 {
-                return false;
-            }
-            if wanted < 256 {
-                return false;
-            }
-            keys < 0x1_0000_0000
-        }
+        Order::Distinct | Order::Unknown => keys < 0x1_0000_0000,
     }
 }
 
