@@ -586,8 +586,8 @@ fn fitted(call: &Call, mut args: Vec<Arg>) -> Vec<Vec<Arg>> {
     fitted
 }
 
-/// So many intervals that the library makes an index of the keys, if these are many as well.
-const MANY: usize = 300;
+/// So many intervals, and keys, that the library makes an index of the keys.
+pub const MANY: usize = 600;
 
 /// SplitMix64.
 pub struct Rng(u64);

@@ -23,8 +23,16 @@ const BATCH: usize = 256;
 /// Cases of each call on batches with many keys, between two looks at the clock.
 const LARGE_BATCHES: usize = 4;
 
-/// More keys than an index of the library takes at once.
-const SHARES: usize = 20_000;
+/// More keys than an index of the library takes at once, and than are looked for at once.
+const SHARES: usize = 40_000;
+
+/// The calls that look for keys by an index.
+const INDEXED: [&str; 4] = [
+    "batch_getitems",
+    "batch_slice_reduce",
+    "batch_concat",
+    "batch_zip_with",
+];
 
 /// The part of the time in which jobs are cut: one in so many.
 const CUTTING: u32 = 5;
@@ -150,7 +158,7 @@ impl Run {
         }
         let cutting = self.time / CUTTING;
         let mut rng = Rng::of_worker(self.seed, worker);
-        for name in ["batch_getitems", "batch_slice_reduce"] {
+        for name in INDEXED {
             let call = Call::named(name);
             comparison.compare(call, inputs::large_batch(call, SHARES, &mut rng));
         }
@@ -162,7 +170,7 @@ impl Run {
             }
             for call in CALLS.iter().filter(|call| call.takes(Role::Keys)) {
                 for _ in 0..LARGE_BATCHES {
-                    let number = rng.below(600);
+                    let number = rng.below(2 * inputs::MANY);
                     comparison.compare(call, inputs::large_batch(call, number, &mut rng));
                 }
             }
