@@ -26,13 +26,10 @@ const LARGE_BATCHES: usize = 4;
 /// More keys than an index of the library takes at once, and than are looked for at once.
 const SHARES: usize = 40_000;
 
-/// The calls that look for keys by an index.
-const INDEXED: [&str; 4] = [
-    "batch_getitems",
-    "batch_slice_reduce",
-    "batch_concat",
-    "batch_zip_with",
-];
+/// The calls that look for keys by an index: for those of intervals, and for those of another batch. The
+/// naive reading takes as long for the latter as the square of their number.
+const INDEXED: [&str; 2] = ["batch_getitems", "batch_slice_reduce"];
+const JOINED: [&str; 2] = ["batch_concat", "batch_zip_with"];
 
 /// The part of the time in which jobs are cut: one in so many.
 const CUTTING: u32 = 5;
@@ -158,7 +155,8 @@ impl Run {
         }
         let cutting = self.time / CUTTING;
         let mut rng = Rng::of_worker(self.seed, worker);
-        for name in INDEXED {
+        let joined = JOINED.iter().filter(|_| self.share == 1);
+        for name in INDEXED.iter().chain(joined) {
             let call = Call::named(name);
             comparison.compare(call, inputs::large_batch(call, SHARES, &mut rng));
         }
