@@ -137,7 +137,7 @@ pub fn find(keys: &[u32], order: Order, near: usize, key: u32) -> usize
 // How many wanted keys are looked for at once.
 const BLOCK: usize = 32_768;
 
-// Whether a table of the keys is quicker than a search for each wanted one. The bounds are measured.
+// Whether a table of the keys is taken to be quicker than a search for each wanted one. The bounds are reckoned.
 pub fn index_pays(order: Order, keys: usize, wanted: usize) -> bool
     ensures { λ r. ⌜ (r ≡ true → keys < 2 ^ 32) ⌝ }
 {
