@@ -9,22 +9,14 @@ use lib.IntN.{ℤ, pos}
 use lib.ListN.{length, take}
 use Rattle.column.specs.Asking.{Question, firstNo}
 use Rattle.column.specs.Lists.{part}
-use Rattle.column.specs.Questions.{agree, usedWithin, endsValid, notNegative, fits, runByRun, longEnough, room, both}
+use Rattle.column.specs.Questions.{usedWithin, endsValid, notNegative, fits, longEnough}
 use Rattle.column.specs.Runs.{sequence, magnitude, lengthOfEnds}
 use Rattle.column.proofs.Ends.{length-of-ends}
 use Rattle.column.proofs.FirstNo.{asked-next, asked-last}
 use Rattle.column.proofs.Told.{used-told}
 use Rattle.column.proofs.Used.{used-paired}
-use Rattle.rle.specs.Rle.{fromRunsAsked, pushRunAsked, extendToAsked, presentLength, roomForOne}
+use Rattle.rle.specs.Rle.{pushRunAsked, extendToAsked, presentLength, roomForOne}
 use Rattle.rle.proofs.Behind.{first-part}
-
-pub from-runs-asked : (runs values : List ℤ) (e v : ℕ) {r a b c d : Question} → r ≡ firstNo (a ∷ b ∷ []) → a ≡ agree 1 (length runs) (length values) → b ≡ firstNo (c ∷ d ∷ [])
-    → c ≡ runByRun 0 0 runs → d ≡ room (both (length runs)) (e ∷ v ∷ []) → r ≡ fromRunsAsked runs values (e ∷ v ∷ [])
-unfolding fromRunsAsked
-from-runs-asked runs values e v h p k q s =
-    asked-next (agree 1 (length runs) (length values)) (runByRun 0 0 runs ∷ room (both (length runs)) (e ∷ v ∷ []) ∷ []) h p (λ y. asked-last (runByRun 0 0 runs) k q (λ z. s))
-
--- ---- behind the used entries
 
 module _ (e v : List ℤ) (n : ℕ) (few : length e < 2 ^ 63) where
   -- the used entries that the code looks at, and their length

@@ -24,9 +24,10 @@ use Rattle.column.proofs.Merging.{merge-at, merge-more, merge-end}
 use Rattle.column.proofs.Naturals.{natural}
 use Rattle.column.proofs.Told.{negative-told, fits-told, long-told}
 use Rattle.column.proofs.Used.{usedRuns, used-paired, used-count, used-filled, used-merging, used-last}
+use Rattle.runs.specs.Workers.{PutRun}
+use Rattle.runs.proofs.Runwise.{put-filled}
 use Rattle.rle.specs.Rle.{presentLength, pushed, extended}
-use Rattle.rle.specs.Workers.{PutRun, Pushable, Extendable}
-use Rattle.rle.proofs.Runwise.{put-filled}
+use Rattle.rle.specs.Workers.{Pushable, Extendable}
 
 -- the first entries, as the code takes them
 pub first-part : {A : Type 0} (n : ℕ) (xs : List A) → part 0 n xs ≡ take n xs

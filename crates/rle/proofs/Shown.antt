@@ -1,9 +1,9 @@
--- What the positions of a sequence show that `from_runs`, `push_run` or `extend_to` has made; `from_dense` is defined by what it shows.
+-- What the positions of a sequence show that `push_run` or `extend_to` has made.
 -- Assumes nothing.
-use Prim.Native.Nat.{ℕ, _+_, _-_, _≤_}
+use Prim.Native.Nat.{ℕ, _-_, _≤_}
 use mathlib.Core.Option.{none}
 use mathlib.Core.List.{List, [], _∷_, _++_, append-nil}
-use mathlib.Core.Path.{_≡_, refl, ap, sym, _∙_}
+use mathlib.Core.Path.{_≡_, ap, sym, _∙_}
 use native.Mathlib.Omega.{arith}
 use lib.Dec.{eqb}
 use lib.IntN.{ℤ}
@@ -11,32 +11,12 @@ use lib.ListN.{replicate}
 use borrow.Author.Tests.{eqb-true}
 use Rattle.num.proofs.Tests.{by-test}
 use Rattle.column.specs.Questions.{endsValid}
-use Rattle.column.specs.Runs.{Sequence, magnitude, runs, lengthOf, denseFrom, dense}
+use Rattle.column.specs.Runs.{Sequence, magnitude, runs, lengthOf, dense}
 use Rattle.column.proofs.Dense.{dense-append, dense-push}
 use Rattle.column.proofs.Ends.{rising, runs-rise}
-use Rattle.rle.specs.Rle.{runsFrom, used, presentLength, pushed, extended}
-
--- each value as often as its run is long
-abbrev pub spread : List ℤ → List ℤ → List ℤ
-spread [] vs = []
-spread (n ∷ ns) [] = []
-spread (n ∷ ns) (v ∷ vs) = replicate (magnitude n) v ++ spread ns vs
-
-shown-length : (p k : ℕ) (v : ℤ) → replicate (p + k - p) v ≡ replicate k v
-shown-length p k v = let e : p + k - p ≡ k = omega arith in rw e
-
-shown-from : (p : ℕ) (ns vs : List ℤ) → denseFrom p (runsFrom p ns vs) ≡ spread ns vs
-unfolding denseFrom runsFrom
-shown-from p [] vs = refl
-shown-from p (n ∷ ns) [] = refl
-shown-from p (n ∷ ns) (v ∷ vs) =
-    by-test (eqb (magnitude n) 0)
-    (λ t. rw (t, eqb-true (magnitude n) 0 t) (shown-from p ns vs))
-    (λ t. rw (t, shown-length p (magnitude n) v, shown-from (p + magnitude n) ns vs))
-
-pub from-runs-shows : (ns vs : List ℤ) → dense (runsFrom 0 ns vs) ≡ spread ns vs
-unfolding dense
-from-runs-shows ns vs = shown-from 0 ns vs
+use Rattle.runs.specs.Constructors.{runsFrom}
+use Rattle.runs.proofs.Shown.{shown-from}
+use Rattle.rle.specs.Rle.{used, presentLength, pushed, extended}
 
 module _ (buffers : Sequence) (n : ℕ) where
   pub push-run-shows : (run value : ℤ) → dense (pushed buffers n run value) ≡ dense (runs (used n buffers)) ++ replicate (magnitude run) value

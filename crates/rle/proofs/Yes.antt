@@ -1,28 +1,20 @@
 -- What a call's questions tell where all are answered "yes": what its worker requires.
 -- Assumes nothing.
-use Prim.Native.Nat.{ℕ, _+_, _≤_}
+use Prim.Native.Nat.{ℕ, _+_}
 use mathlib.Core.Option.{none}
 use mathlib.Core.List.{List, [], _∷_}
 use mathlib.Core.Path.{_≡_}
 use native.Mathlib.Omega.{arith}
 use lib.IntN.{ℤ, pos}
 use lib.ListN.{length, take}
-use Rattle.column.specs.Questions.{agree, usedWithin, endsValid, notNegative, fits, runByRun, longEnough, room, both}
+use Rattle.column.specs.Questions.{usedWithin, endsValid, notNegative, fits, longEnough}
 use Rattle.column.specs.Runs.{sequence, magnitude}
 use Rattle.column.proofs.FirstNo.{all-yes}
-use Rattle.column.proofs.Told.{agree-told, both-told}
-use Rattle.rle.specs.Rle.{fromRunsAsked, pushRunAsked, extendToAsked, presentLength, roomForOne}
+use Rattle.column.proofs.Told.{both-told}
+use Rattle.rle.specs.Rle.{pushRunAsked, extendToAsked, presentLength, roomForOne}
 use Rattle.rle.specs.Workers.{Pushable, Extendable}
 
 module _ (e v : List ℤ) where
-  pub from-runs-yes : (runs values : List ℤ) → fromRunsAsked runs values (length e ∷ length v ∷ []) ≡ none
-      → (length runs ≡ length values) × (runByRun 0 0 runs ≡ none) × (length runs ≤ length e) × (length runs ≤ length v)
-  unfolding fromRunsAsked
-  from-runs-yes runs values h =
-      let y = all-yes (agree 1 (length runs) (length values) ∷ runByRun 0 0 runs ∷ room (both (length runs)) (length e ∷ length v ∷ []) ∷ []) h in
-      let r = both-told (length runs) (length e) (length v) (y .1 .1 .0) in
-      (agree-told 1 (length runs) (length values) (y .0), y .1 .0, r .0, r .1)
-
   pub push-run-yes : (n : ℕ) (run : ℤ) → pushRunAsked (sequence e v) n run ≡ none → Pushable e v n run
   unfolding pushRunAsked
   push-run-yes n run h =

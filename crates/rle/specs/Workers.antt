@@ -1,21 +1,13 @@
--- What the workers leave and require.
+-- What the workers require.
 use Prim.Native.Nat.{ℕ, _+_, _<_}
-use mathlib.Core.Bool.{cond}
 use mathlib.Core.Option.{none}
 use mathlib.Core.List.{List}
 use mathlib.Core.Path.{_≡_}
 use lib.IntN.{ℤ, pos}
-use lib.ListN.{length, take, set}
-use Rattle.num.specs.Numbers.{eqZ}
+use lib.ListN.{length, take}
 use Rattle.column.specs.Questions.{endsValid, notNegative, fits, longEnough}
 use Rattle.column.specs.Runs.{sequence, magnitude}
 use Rattle.rle.specs.Rle.{presentLength}
-
--- a run put at entry n of two buffers, each before and after, unless its length is 0
-pub record PutRun (e e′ v v′ : List ℤ) (n : ℕ) (run end value : ℤ) (r : ℕ) : Type 0 where
-  pub count : r ≡ cond (eqZ run (pos 0)) n (n + 1)
-  pub ends : e′ ≡ cond (eqZ run (pos 0)) e (set e n end)
-  pub values : v′ ≡ cond (eqZ run (pos 0)) v (set v n value)
 
 -- every question of push_run and of extend_to answered "yes"
 pub record Pushable (ends values : List ℤ) (n : ℕ) (run : ℤ) : Type 0 where

@@ -38,6 +38,7 @@ ghost use Rattle.plan.specs.Plan as plan;
 ghost use Rattle.ranges.specs.Ranges as ranges;
 ghost use Rattle.reduce.specs.Reduce as reduce;
 ghost use Rattle.rle.specs.Rle as calls;
+ghost use Rattle.runs.specs.Constructors as constructors;
 ghost use Rattle.slice.specs.Slice as slice;
 ghost use Rattle.transform.specs.Transform as transform;
 
@@ -58,17 +59,17 @@ pub extern "C" fn rl_from_runs(
     out_values: &mut [i64],
 ) -> RlCounted
     ensures { λ r. ⌜ LaidRuns
-        (calls.fromRuns (now (runs .entry)) (now (values .entry)) (length (now («out_ends» .entry)) ∷ length (now («out_values» .entry)) ∷ [])) r
+        (constructors.fromRuns (now (runs .entry)) (now (values .entry)) (length (now («out_ends» .entry)) ∷ length (now («out_values» .entry)) ∷ [])) r
         (now («out_ends» .entry)) (now («out_ends» .exit)) (now («out_values» .entry)) (now («out_values» .exit)) ⌝ }
 {
-    ffi::counted(rle::from_runs(runs, values, out_ends, out_values))
+    ffi::counted(runs::from_runs(runs, values, out_ends, out_values))
 }
 
 #[no_mangle]
 pub extern "C" fn rl_from_ends(ends: &[i64], values: &[i64]) -> RlRefusal
-    ensures { λ r. ⌜ LaidCheck (calls.fromEnds (sequence (now (ends .entry)) (now (values .entry)))) r ⌝ }
+    ensures { λ r. ⌜ LaidCheck (constructors.fromEnds (sequence (now (ends .entry)) (now (values .entry)))) r ⌝ }
 {
-    ffi::checked(rle::from_ends(ends, values))
+    ffi::checked(runs::from_ends(ends, values))
 }
 
 #[no_mangle]
@@ -79,10 +80,10 @@ pub extern "C" fn rl_repeat(
     out_values: &mut [i64],
 ) -> RlCounted
     ensures { λ r. ⌜ LaidRuns
-        (calls.repeat value length (lib.ListN.length (now («out_ends» .entry)) ∷ lib.ListN.length (now («out_values» .entry)) ∷ [])) r
+        (constructors.repeat value length (lib.ListN.length (now («out_ends» .entry)) ∷ lib.ListN.length (now («out_values» .entry)) ∷ [])) r
         (now («out_ends» .entry)) (now («out_ends» .exit)) (now («out_values» .entry)) (now («out_values» .exit)) ⌝ }
 {
-    ffi::counted(rle::repeat(value, length, out_ends, out_values))
+    ffi::counted(runs::repeat(value, length, out_ends, out_values))
 }
 
 #[no_mangle]

@@ -1,4 +1,4 @@
-use Rattle.rle.proofs.Runwise.{put-none, put-some}
+use Rattle.runs.proofs.Runwise.{put-none, put-some}
 use lib.Dec.{lit<}
 use lib.IntN.{pos}
 use mir.Syntax.{w64}
@@ -6,8 +6,8 @@ use mir.Val.{SFits}
 use mir.Facts.{toZ-ofZ}
 use Rattle.num.proofs.Bits.{bits-eqZ, bits-neZ}
 use borrow.Author.Needs.{needs}
-use Rattle.rle.proofs.inner.put_run.Statement.{statement}
-use Rattle.rle.proofs.inner.put_run.Tie as tie
+use Rattle.runs.proofs.inner.put_run.Statement.{statement}
+use Rattle.runs.proofs.inner.put_run.Tie as tie
 
 zero : SFits w64 (pos 0)
 zero = record { sfits = lit< tt }

@@ -1,8 +1,8 @@
 use mir.Facts.{toZ-ofZ}
-use Rattle.rle.proofs.Repeated.{repeat-one}
+use Rattle.runs.proofs.Repeated.{repeat-one}
 use borrow.Author.Needs.{needs}
-use Rattle.rle.proofs.repeat.Statement.{statement}
-use Rattle.rle.proofs.repeat.Tie as tie
+use Rattle.runs.proofs.repeat.Statement.{statement}
+use Rattle.runs.proofs.repeat.Tie as tie
 
 slice-aggregate-from-runs : tie.Need-slice-aggregate-from-runs
 slice-aggregate-from-runs c = search needs

@@ -14,12 +14,12 @@ use Rattle.column.specs.Runs.{Runs, magnitude, Filled}
 use Rattle.column.proofs.Merging.{fill-none}
 use Rattle.column.proofs.Naturals.{natural}
 use Rattle.column.proofs.Told.{run-natural, run-fits, runs-yes}
-use Rattle.rle.specs.Rle.{runsFrom}
-use Rattle.rle.specs.Workers.{PutRun}
-use Rattle.rle.proofs.Runwise.{one, runs-next, put-filled, put-few, put-long-ends, put-long-values}
+use Rattle.runs.specs.Constructors.{runsFrom}
+use Rattle.runs.specs.Workers.{PutRun}
+use Rattle.runs.proofs.Runwise.{one, runs-next, put-filled, put-few, put-long-ends, put-long-values}
 use borrow.Author.Needs.{needs}
-use Rattle.rle.proofs.inner.from_runs.Statement.{statement}
-use Rattle.rle.proofs.inner.from_runs.Tie as tie
+use Rattle.runs.proofs.inner.from_runs.Statement.{statement}
+use Rattle.runs.proofs.inner.from_runs.Tie as tie
 
 -- the first i runs are written, up to position p, without those of length 0
 record Inv (runs values e₀ v₀ e v : List ℤ) (end : ℤ) (n i : ℕ) : Type 0 where

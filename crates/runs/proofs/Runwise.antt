@@ -16,8 +16,8 @@ use Rattle.num.proofs.Tests.{by-test}
 use Rattle.column.specs.Runs.{Run, Runs, endsOf, valuesOf, over, Filled}
 use Rattle.column.proofs.Buffer.{over-next}
 use Rattle.column.proofs.Sequences.{length-ends, length-values, ends-append, values-append}
-use Rattle.rle.specs.Rle.{runsFrom}
-use Rattle.rle.specs.Workers.{PutRun}
+use Rattle.runs.specs.Constructors.{runsFrom}
+use Rattle.runs.specs.Workers.{PutRun}
 
 -- one run of length k from position p on, and its value
 abbrev pub one : ℕ → ℕ → ℤ → Runs

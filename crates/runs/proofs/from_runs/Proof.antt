@@ -1,10 +1,10 @@
 use denote.Ref.{now}
 use Rattle.column.proofs.Promised.{asked-yes, asked-no, runs-written, runs-refused}
-use Rattle.rle.specs.Rle.{fromRuns}
-use Rattle.rle.proofs.Yes.{from-runs-yes}
+use Rattle.runs.specs.Constructors.{fromRuns}
+use Rattle.runs.proofs.Yes.{from-runs-yes}
 use borrow.Author.Needs.{needs}
-use Rattle.rle.proofs.from_runs.Statement.{statement}
-use Rattle.rle.proofs.from_runs.Tie as tie
+use Rattle.runs.proofs.from_runs.Statement.{statement}
+use Rattle.runs.proofs.from_runs.Tie as tie
 
 from-runs-asks-requires : tie.Need-from-runs-asks-requires
 from-runs-asks-requires c κs = search needs

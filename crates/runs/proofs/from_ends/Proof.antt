@@ -1,9 +1,9 @@
 use Rattle.column.proofs.Promised.{asked-yes, asked-no, value-answered, value-refused}
 use mathlib.Core.Path.{refl}
-use Rattle.rle.specs.Rle.{fromEnds}
+use Rattle.runs.specs.Constructors.{fromEnds}
 use borrow.Author.Needs.{needs}
-use Rattle.rle.proofs.from_ends.Statement.{statement}
-use Rattle.rle.proofs.from_ends.Tie as tie
+use Rattle.runs.proofs.from_ends.Statement.{statement}
+use Rattle.runs.proofs.from_ends.Tie as tie
 
 ask-sequence-requires : tie.Need-ask-sequence-requires
 ask-sequence-requires c κs = search needs

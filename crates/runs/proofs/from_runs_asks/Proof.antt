@@ -1,7 +1,7 @@
-use Rattle.rle.proofs.Asks.{from-runs-asked}
+use Rattle.runs.proofs.Asks.{from-runs-asked}
 use borrow.Author.Needs.{needs}
-use Rattle.rle.proofs.from_runs_asks.Statement.{statement}
-use Rattle.rle.proofs.from_runs_asks.Tie as tie
+use Rattle.runs.proofs.from_runs_asks.Statement.{statement}
+use Rattle.runs.proofs.from_runs_asks.Tie as tie
 
 ask-both-requires : tie.Need-ask-both-requires
 ask-both-requires c κs = search needs

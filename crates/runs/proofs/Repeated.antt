@@ -13,7 +13,7 @@ use Rattle.column.specs.Questions.{agree, notNegative, runByRun, room, both}
 use Rattle.column.specs.Runs.{magnitude}
 use Rattle.column.proofs.Naturals.{magnitude-below}
 use Rattle.column.proofs.YesNo.{fits-yes}
-use Rattle.rle.specs.Rle.{runsFrom, fromRunsAsked, fromRuns, repeat}
+use Rattle.runs.specs.Constructors.{runsFrom, fromRunsAsked, fromRuns, repeat}
 
 -- one run always fits
 runs-one : (run : ℤ) → SFits w64 run → runByRun 0 0 (run ∷ []) ≡ notNegative 0 run

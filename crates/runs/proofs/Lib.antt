@@ -1,0 +1,6 @@
+pub mod Asks
+pub mod Examples
+pub mod Repeated
+pub mod Runwise
+pub mod Shown
+pub mod Yes
