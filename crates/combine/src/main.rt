@@ -6,25 +6,30 @@
 //
 // CODE is a name or a number of document 01: 0 add, 1 subtract, 2 multiply, 3 smaller, 4 larger, 5 first, 6 second, 7 equal, 8 less,
 // 9 midpoint. Where a job is refused, nothing is written to standard output, and a message to standard error.
-mod job;
-mod output;
 mod refusal;
 mod seams;
 mod svg;
-mod words;
 
 use column::answer::Asked;
 use column::answer::Counted;
 use column::answer::Fill;
 use column::sequence;
-use job::Job;
-use output::put_form;
-use output::put_named;
-use output::say;
-use output::say_named;
+use job::inner::BYTES;
+use job::inner::Job;
+use job::inner::VALUES;
+use job::inner::new_runs;
+use job::inner::new_table;
+use job::inner::output;
+use job::inner::output::put_form;
+use job::inner::output::put_named;
+use job::inner::output::say;
+use job::inner::output::say_named;
+use job::inner::put_offsets;
+use job::inner::used_offsets;
+use job::inner::words;
+use job::inner::words::Value;
 use rle::Rle;
 use seams::Window;
-use words::Value;
 
 // A code; 255, which the library refuses, for a word that is none.
 fn code_of(codes: &[u8], word: &[u8]) -> u8 {
@@ -84,10 +89,10 @@ fn combine(
 ) -> Counted {
     let runs = job.runs;
     let ends = sequence::part(table, 0, runs);
-    let values = sequence::part(table, job::VALUES, num::saturating_add(job::VALUES, runs));
+    let values = sequence::part(table, VALUES, num::saturating_add(VALUES, runs));
     let mut offsets = [0usize; Rle::MAX_COLUMNS + 1];
-    job::put_offsets(table, &mut offsets);
-    let used = job::used_offsets(&offsets, job.columns);
+    put_offsets(table, &mut offsets);
+    let used = used_offsets(&offsets, job.columns);
     many::zip_many(used, ends, values, fill_of(job), code, out_ends, out_values)
 }
 
@@ -150,8 +155,8 @@ fn write(
 fn finish(drawn: bool, window: Window, argument: usize, job: Job, table: &[i64], bytes: &[u8]) {
     let codes = b"add subtract multiply smaller larger first second equal less midpoint";
     let code = code_argument(argument, codes);
-    let mut ends = job::new_runs();
-    let mut values = job::new_runs();
+    let mut ends = new_runs();
+    let mut values = new_runs();
     let combined = combine(job, table, code, &mut ends, &mut values);
     match combined {
         Counted::Count(n) => {
@@ -167,9 +172,9 @@ fn finish(drawn: bool, window: Window, argument: usize, job: Job, table: &[i64],
 }
 
 fn run(drawn: bool, window: Window, argument: usize) {
-    let mut bytes = [0u8; job::BYTES];
-    let mut table = job::new_table();
-    let job = job::read(&mut bytes, &mut table);
+    let mut bytes = [0u8; BYTES];
+    let mut table = new_table();
+    let job = job::inner::read(&mut bytes, &mut table);
     if job.valid {
         finish(drawn, window, argument, job, &table, &bytes);
     }

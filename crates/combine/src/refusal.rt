@@ -1,11 +1,13 @@
 // What the library refuses, said by document 01's name and number, with the line that it is about.
-use crate::job;
-use crate::output::say;
-use crate::output::say_named;
 use column::error::Error;
 use column::error::InKey;
 use column::error::Refusal;
 use column::sequence;
+use job::inner::ends_of;
+use job::inner::line_at;
+use job::inner::name_of;
+use job::inner::output::say;
+use job::inner::output::say_named;
 
 // The column that a refusal is about; 0 where it says none.
 fn column_of(in_key: InKey) -> usize {
@@ -25,22 +27,18 @@ fn say_code(argument: usize) {
 fn say_ends(table: &[i64], bytes: &[u8], column: usize, index: usize) {
     let form =
         b"combine: line @: column $: InvalidEnds (4): the end @ is not above @, where its run starts\n";
-    let ends = job::ends_of(table, column);
-    let line = job::line_at(table, column, num::saturating_add(index, 1));
+    let ends = ends_of(table, column);
+    let line = line_at(table, column, num::saturating_add(index, 1));
     let end = sequence::entry_or(ends, index, 0);
     let start = sequence::end_before(ends, index);
-    say_named(
-        form,
-        job::name_of(bytes, column),
-        [line, end, start, 0, 0, 0],
-    );
+    say_named(form, name_of(bytes, column), [line, end, start, 0, 0, 0]);
 }
 
 // The first column of a length.
 fn column_of_length(table: &[i64], columns: usize, length: i64) -> usize {
     let mut column = 0;
     while column < columns {
-        if sequence::length(job::ends_of(table, column)) == length {
+        if sequence::length(ends_of(table, column)) == length {
             return column;
         }
         column += 1;
@@ -51,13 +49,9 @@ fn column_of_length(table: &[i64], columns: usize, length: i64) -> usize {
 // Where a column ends: the line, and its length, in a form.
 fn say_length(form: &[u8], table: &[i64], bytes: &[u8], columns: usize, length: i64) {
     let column = column_of_length(table, columns, length);
-    let runs = job::ends_of(table, column).len();
-    let line = job::line_at(table, column, runs);
-    say_named(
-        form,
-        job::name_of(bytes, column),
-        [line, length, 0, 0, 0, 0],
-    );
+    let runs = ends_of(table, column).len();
+    let line = line_at(table, column, runs);
+    say_named(form, name_of(bytes, column), [line, length, 0, 0, 0, 0]);
 }
 
 // The shortest column and the longest.

@@ -1,6 +1,7 @@
 // Where columns break, by the x of a drawing.
-use crate::job;
 use column::sequence;
+use job::inner::ends_of;
+use job::inner::put_entry;
 
 // How many units wide a strip is: a power of 2, with this exponent.
 pub const UNITS: usize = 1024;
@@ -120,9 +121,9 @@ fn with_break(seam: Seam, position: i64) -> Seam {
 fn mark(marks: &mut [i64], x: i64, position: i64) {
     let seam = with_break(seam_at(marks, x), position);
     let at = num::as_unsigned(x) as usize;
-    job::put_entry(marks, at, seam.first);
-    job::put_entry(marks, num::saturating_add(LASTS, at), seam.last);
-    job::put_entry(marks, num::saturating_add(COUNTS, at), seam.count);
+    put_entry(marks, at, seam.first);
+    put_entry(marks, num::saturating_add(LASTS, at), seam.last);
+    put_entry(marks, num::saturating_add(COUNTS, at), seam.count);
 }
 
 // A break within the drawing.
@@ -147,7 +148,7 @@ fn mark_column(marks: &mut [i64], window: Window, ends: &[i64]) {
 pub fn mark_columns(marks: &mut [i64], window: Window, table: &[i64], columns: usize) {
     let mut c = 0;
     while c < columns {
-        mark_column(marks, window, job::ends_of(table, c));
+        mark_column(marks, window, ends_of(table, c));
         c += 1;
     }
 }

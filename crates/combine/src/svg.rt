@@ -1,14 +1,16 @@
 // Columns and their combination as strips, one above the other, as SVG. A position has the same x in every strip. A run narrower than a
 // unit is left out; where columns break at several positions on one x, the line there says so, and a drawing of fewer positions shows
 // them apart.
-use crate::job;
-use crate::job::Job;
-use crate::output::put_form;
-use crate::output::put_named;
 use crate::seams;
 use crate::seams::Seam;
 use crate::seams::Window;
 use column::sequence;
+use job::inner::Job;
+use job::inner::ends_of;
+use job::inner::name_of;
+use job::inner::output::put_form;
+use job::inner::output::put_named;
+use job::inner::values_of;
 
 // How many colours there are for values, c0 to c10 of the style.
 const COLOURS: u64 = 11;
@@ -183,9 +185,9 @@ fn draw_columns(
     let mut next = out;
     let mut c = 0;
     while c < columns {
-        let name = job::name_of(bytes, c);
-        let ends = job::ends_of(table, c);
-        let values = job::values_of(table, c);
+        let name = name_of(bytes, c);
+        let ends = ends_of(table, c);
+        let values = values_of(table, c);
         next = draw_strip(
             next,
             buffer,
