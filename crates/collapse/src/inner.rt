@@ -250,7 +250,7 @@ fn fold_group(
         (now («out_ends» .entry)) (now («out_ends» .exit)) (now («out_values» .entry)) (now («out_values» .exit)) (now («scratch_ends» .entry)) (now («scratch_ends» .exit)) (now («scratch_values» .entry)) (now («scratch_values» .exit)) r ⌝ }
 {
     let mut at = next_member(new_keys, together, first);
-    let mut count = merge::inner::merged(
+    let mut count = merged::inner::merged(
         part_at(offsets, ends, first),
         part_at(offsets, values, first),
         scratch_ends,
@@ -312,7 +312,7 @@ fn collapse_group(
         (2 * length (now (ends .entry))) (now («out_ends» .entry)) (now («out_ends» .exit)) (now («out_values» .entry)) (now («out_values» .exit)) (now («scratch_ends» .entry)) (now («scratch_ends» .exit)) (now («scratch_values» .entry)) (now («scratch_values» .exit)) r ⌝ }
 {
     if next_member(new_keys, together, first) == new_keys.len() {
-        return merge::inner::merged(
+        return merged::inner::merged(
             part_at(offsets, ends, first),
             part_at(offsets, values, first),
             out_ends,

@@ -1,10 +1,10 @@
 use denote.Ref.{now}
 use Rattle.column.proofs.Promised.{asked-yes, asked-no, runs-written, runs-refused}
 use Rattle.column.proofs.Told.{sequence-told}
-use Rattle.merge.specs.Merge.{merged}
+use Rattle.merged.specs.Merged.{merged}
 use borrow.Author.Needs.{needs}
-use Rattle.merge.proofs.merged.Statement.{statement}
-use Rattle.merge.proofs.merged.Tie as tie
+use Rattle.merged.proofs.merged.Statement.{statement}
+use Rattle.merged.proofs.merged.Tie as tie
 
 ask-sequence-into-requires : tie.Need-ask-sequence-into-requires
 ask-sequence-into-requires c κs = search needs

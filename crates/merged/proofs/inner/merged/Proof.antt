@@ -2,10 +2,10 @@ use denote.Ref.{now}
 use mathlib.Core.Path.{_∙_}
 use native.Mathlib.Omega.{arith}
 use Rattle.num.proofs.Bits.{back}
-use Rattle.merge.proofs.Appended.{merged-none, merged-some, merged-below, merged-appendable, merged-long, merged-at, merged-end}
+use Rattle.merged.proofs.Appended.{merged-none, merged-some, merged-below, merged-appendable, merged-long, merged-at, merged-end}
 use borrow.Author.Needs.{needs}
-use Rattle.merge.proofs.inner.merged.Statement.{statement}
-use Rattle.merge.proofs.inner.merged.Tie as tie
+use Rattle.merged.proofs.inner.merged.Statement.{statement}
+use Rattle.merged.proofs.inner.merged.Tie as tie
 
 length-requires : tie.Need-length-requires
 length-requires c κs = search needs
