@@ -17,8 +17,8 @@ use Rattle.column.specs.Runs.{runsOf, endsOf, valuesOf, over}
 use Rattle.column.proofs.Ends.{rising, ends-runs, values-runs}
 use Rattle.column.proofs.FirstNo.{all-yes, asked-last}
 use Rattle.column.proofs.Told.{both-told}
-use Rattle.keys.specs.Keys.{lowest}
-use Rattle.keys.proofs.Lowest.{lowest-within}
+use Rattle.index.specs.Lowest.{lowest}
+use Rattle.index.proofs.Lowest.{lowest-within}
 use Rattle.batch.specs.declared.Got.{Got}
 use Rattle.batch.specs.Batch.{batch, entries, batchValid, find}
 use Rattle.batch.specs.Calls.{get, WritesGot}

@@ -98,7 +98,7 @@ pub fn get(
         (calls.get (batch (now (keys .entry)) (now (offsets .entry)) (now (ends .entry)) (now (values .entry))) key (length (now («out_ends» .entry)) ∷ length (now («out_values» .entry)) ∷ [])) r
         (now («out_ends» .entry)) (now («out_ends» .exit)) (now («out_values» .entry)) (now («out_values» .exit)) ⌝ }
 {
-    let at = keys::inner::scan(keys, key);
+    let at = index::inner::scan(keys, key);
     let found_ends = inner::part_at(offsets, ends, at);
     let found_values = inner::part_at(offsets, values, at);
     let asked = questions::first_no(

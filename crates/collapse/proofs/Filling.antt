@@ -23,7 +23,7 @@ use Rattle.column.specs.Runs.{Runs, lengthOf, dense, encode}
 use Rattle.column.proofs.FirstNo.{alone}
 use Rattle.column.proofs.YesNo.{fills-first, fills-second}
 use Rattle.column.proofs.Rising.{Valid}
-use Rattle.keys.specs.Workers.{doubled, NextPosition}
+use Rattle.index.specs.Workers.{doubled, NextPosition}
 use Rattle.batch.specs.Batch.{Entry, entriesFrom}
 use Rattle.collapse.specs.Collapse.{filledFrom, filledGroup, filledGroups, members}
 use Rattle.collapse.proofs.Few.{merged-long, combined-long}

@@ -25,7 +25,7 @@ use Rattle.ops.specs.Ops.{sides}
 use Rattle.plan.proofs.Columns.{two-few}
 use Rattle.batch.specs.Batch.{batch}
 use Rattle.batch.proofs.Entries.{columnAt, column-is, column-valid, part-valid, parts-paired}
-use Rattle.keys.specs.Workers.{NextPosition}
+use Rattle.index.specs.Workers.{NextPosition}
 use Rattle.collapse.specs.Collapse.{collapseFrom, collapseRuns, members, renamed}
 use Rattle.collapse.specs.Workers.{Grouped, memberRuns, Foldable, FoldedMember, FoldRoom, Folded, FilledGroup}
 use Rattle.collapse.proofs.Columns.{new-many, all-valid, all-runs, part-runs}

@@ -14,8 +14,8 @@ use Rattle.column.specs.declared.answer.Fill.the-variants.{Missing}
 use Rattle.column.specs.Asking.{Question, eachFrom, inKey}
 use Rattle.column.specs.Paper.{PaperRefusal}
 use Rattle.column.proofs.FirstNo.{each-next, each-refused, each-end}
+use Rattle.index.specs.Workers.{doubled}
 use Rattle.keys.specs.Keys.{once}
-use Rattle.keys.specs.Workers.{doubled}
 use Rattle.keys.proofs.Once.{onceAt, once-start, once-doubled, once-single, once-end, once-few}
 use Rattle.batch.specs.Batch.{Entry}
 use Rattle.collapse.specs.Collapse.{members, filledGroup, filledGroups}

@@ -14,9 +14,9 @@ use Rattle.num.proofs.Tests.{by-test}
 use Rattle.column.specs.Lists.{any, total}
 use Rattle.column.specs.Runs.{Runs}
 use Rattle.column.proofs.All.{All}
-use Rattle.keys.specs.Workers.{doubled, NextPosition}
-use Rattle.keys.proofs.Lowest.{no-test}
-use Rattle.keys.proofs.Doubles.{among-not}
+use Rattle.index.specs.Workers.{doubled, NextPosition}
+use Rattle.index.proofs.Lowest.{no-test}
+use Rattle.index.proofs.Doubles.{among-not}
 use Rattle.keys.proofs.Once.{NoDoubles}
 use Rattle.batch.specs.Batch.{Entry, entriesFrom}
 use Rattle.collapse.specs.Collapse.{members}

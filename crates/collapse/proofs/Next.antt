@@ -8,8 +8,8 @@ use native.Mathlib.Omega.{arith}
 use lib.ListN.{length, getD}
 use borrow.Author.Count.{below-more}
 use borrow.Author.Tests.{ne-eqb}
-use Rattle.keys.specs.Workers.{doubled, NextPosition}
-use Rattle.keys.proofs.Lowest.{skip-start, next-found, next-end}
+use Rattle.index.specs.Workers.{doubled, NextPosition}
+use Rattle.index.proofs.Lowest.{skip-start, next-found, next-end}
 use Rattle.collapse.specs.Workers.{Together, NextGroup}
 use Rattle.collapse.proofs.Together.{together-gone}
 

@@ -12,10 +12,10 @@ use borrow.Author.Count.{below-more}
 use borrow.Author.Tests.{eqb-true, eqb-false, ne-eqb}
 use Rattle.num.proofs.Tests.{by-test}
 use Rattle.column.specs.Lists.{any}
-use Rattle.keys.specs.Keys.{lowest}
-use Rattle.keys.specs.Workers.{doubled, FirstDouble, every}
-use Rattle.keys.proofs.Lowest.{lowest-any}
-use Rattle.keys.proofs.Doubles.{among-not, among-none, among-at}
+use Rattle.index.specs.Lowest.{lowest}
+use Rattle.index.specs.Workers.{doubled, FirstDouble, every}
+use Rattle.index.proofs.Lowest.{lowest-any}
+use Rattle.index.proofs.Doubles.{among-not, among-none, among-at}
 use Rattle.collapse.specs.Workers.{Together}
 
 -- ---- keys that never fall: those before n

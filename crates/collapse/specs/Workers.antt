@@ -10,7 +10,7 @@ use Rattle.column.specs.declared.answer.RleBatch.{RleBatch}
 use Rattle.column.specs.Flat.{flat}
 use Rattle.column.specs.Lists.{total}
 use Rattle.column.specs.Runs.{Sequence, sequence, Runs, endsOf, valuesOf, Filled}
-use Rattle.keys.specs.Workers.{doubled}
+use Rattle.index.specs.Workers.{doubled}
 use Rattle.batch.specs.Batch.{Batch, Entry}
 use Rattle.batch.specs.Workers.{ValidBatch, FilledCounts}
 use Rattle.ops.specs.Workers.{Zippable}

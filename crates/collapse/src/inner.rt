@@ -15,7 +15,7 @@ ghost use Rattle.column.specs.declared.answer.Fill.the-variants.{Value, Missing
 ghost use Rattle.column.specs.Asking.{shownAsked};
 ghost use Rattle.column.specs.Combine.{combined};
 ghost use Rattle.column.specs.Runs.{sequence, over};
-ghost use Rattle.keys.specs.Workers.{doubled, NextPosition};
+ghost use Rattle.index.specs.Workers.{doubled, NextPosition};
 ghost use Rattle.ops.specs.Ops.{sides};
 ghost use Rattle.batch.specs.Batch.{batch};
 ghost use Rattle.keys.specs.Keys.{once};
@@ -60,7 +60,7 @@ fn stands_before(keys: &[u32], together: bool, i: usize) -> bool
     if together {
         return key == keys[i - 1];
     }
-    keys::inner::scan(&keys[..i], key) < i
+    index::inner::scan(&keys[..i], key) < i
 }
 
 // The next position, from one on, of a key that does not stand before it too.
@@ -86,7 +86,7 @@ fn next_member(keys: &[u32], together: bool, last: usize) -> usize
     let key = keys[last];
     let next = last + 1;
     if !together {
-        return keys::inner::scan_from(keys, next, key);
+        return index::inner::scan_from(keys, next, key);
     }
     if next < keys.len() {
         if keys[next] == key {
@@ -250,7 +250,7 @@ fn fold_group(
         (now («out_ends» .entry)) (now («out_ends» .exit)) (now («out_values» .entry)) (now («out_values» .exit)) (now («scratch_ends» .entry)) (now («scratch_ends» .exit)) (now («scratch_values» .entry)) (now («scratch_values» .exit)) r ⌝ }
 {
     let mut at = next_member(new_keys, together, first);
-    let mut count = merge::inner::merged(
+    let mut count = merged::inner::merged(
         part_at(offsets, ends, first),
         part_at(offsets, values, first),
         scratch_ends,
@@ -312,7 +312,7 @@ fn collapse_group(
         (2 * length (now (ends .entry))) (now («out_ends» .entry)) (now («out_ends» .exit)) (now («out_values» .entry)) (now («out_values» .exit)) (now («scratch_ends» .entry)) (now («scratch_ends» .exit)) (now («scratch_values» .entry)) (now («scratch_values» .exit)) r ⌝ }
 {
     if next_member(new_keys, together, first) == new_keys.len() {
-        return merge::inner::merged(
+        return merged::inner::merged(
             part_at(offsets, ends, first),
             part_at(offsets, values, first),
             out_ends,

@@ -14,7 +14,8 @@ use Rattle.column.specs.Runs.{magnitude, lengthOf, lengthOfEnds}
 use Rattle.column.proofs.Ends.{rising, runs-rise}
 use Rattle.column.proofs.FirstNo.{each-next, each-refused, each-end}
 use Rattle.column.proofs.Rising.{Valid}
-use Rattle.keys.specs.Keys.{lowest, once}
+use Rattle.index.specs.Lowest.{lowest}
+use Rattle.keys.specs.Keys.{once}
 use Rattle.batch.specs.declared.two.Joined.{Joined}
 use Rattle.batch.specs.Batch.{Entry, batch, entries, find}
 use Rattle.batch.specs.Workers.{ValidBatch, NextKept}

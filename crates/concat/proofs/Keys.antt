@@ -11,8 +11,8 @@ use borrow.Author.Tests.{eqb-true, eq-eqb}
 use Rattle.num.proofs.Tests.{by-test}
 use Rattle.column.specs.Lists.{any, total}
 use Rattle.column.proofs.Told.{both-false}
+use Rattle.index.proofs.Lowest.{no-test}
 use Rattle.keys.specs.Keys.{onceFrom, once}
-use Rattle.keys.proofs.Lowest.{no-test}
 use Rattle.keys.proofs.Once.{NoDoubles, once-no-doubles}
 use Rattle.batch.specs.Batch.{Entry, columnsOf, find}
 

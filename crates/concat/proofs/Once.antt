@@ -12,10 +12,11 @@ use lib.ListN.{length, getD, take, drop, length-append, length-drop}
 use lib.Seq.{drop-cons, getD-drop}
 use borrow.Author.Tests.{eqb-true, eqb-false, lt-ltb, le-ltb, ltb-true}
 use Rattle.column.specs.Lists.{any}
-use Rattle.keys.specs.Keys.{lowest, once}
-use Rattle.keys.specs.Workers.{doubled}
-use Rattle.keys.proofs.Doubles.{among-at}
-use Rattle.keys.proofs.Lowest.{found-step, lowest-within}
+use Rattle.index.specs.Lowest.{lowest}
+use Rattle.index.specs.Workers.{doubled}
+use Rattle.index.proofs.Doubles.{among-at}
+use Rattle.index.proofs.Lowest.{found-step, lowest-within}
+use Rattle.keys.specs.Keys.{once}
 use Rattle.keys.proofs.Once.{onceAt, once-end, once-doubled, once-single, once-few}
 use Rattle.batch.specs.declared.two.Joined.{Joined}
 use Rattle.batch.specs.Workers.{NextKept}

@@ -10,8 +10,8 @@ use lib.ListN.{length, getD, List·getD-append}
 use lib.Seq.{getD-append-add}
 use borrow.Author.Tests.{eqb-true, eqb-false, eq-eqb, ne-eqb, lt-ltb, le-ltb}
 use Rattle.num.proofs.Tests.{by-test}
-use Rattle.keys.specs.Keys.{lowest}
-use Rattle.keys.proofs.Lowest.{lowest-within}
+use Rattle.index.specs.Lowest.{lowest}
+use Rattle.index.proofs.Lowest.{lowest-within}
 use Rattle.batch.specs.Workers.{otherAt}
 use Rattle.concat.specs.Workers.{keyAt}
 use Rattle.concat.proofs.Once.{lowest-at}

@@ -8,7 +8,8 @@ use lib.ListN.{length, getD}
 use lib.Dec.{eqb}
 use Rattle.column.specs.Questions.{endsValid}
 use Rattle.column.specs.Runs.{runsOf, lengthOf}
-use Rattle.keys.specs.Keys.{lowest, once}
+use Rattle.index.specs.Lowest.{lowest}
+use Rattle.keys.specs.Keys.{once}
 use Rattle.batch.specs.declared.two.Joined.{Joined}
 use Rattle.batch.specs.Batch.{Batch, entries}
 use Rattle.batch.specs.Workers.{ValidBatch}

@@ -15,7 +15,7 @@ use Rattle.column.specs.Lists.{total, parts}
 use Rattle.column.specs.Questions.{endsValid}
 use Rattle.column.specs.Runs.{Runs, runsOf, Filled}
 use Rattle.column.proofs.Rest.{rest-length}
-use Rattle.keys.specs.Keys.{lowest}
+use Rattle.index.specs.Lowest.{lowest}
 use Rattle.slice.specs.declared.search.TouchedRuns.{TouchedRuns}
 use Rattle.slice.specs.Search.{touchedBy}
 use Rattle.slice.specs.Slice.{sliceRuns}

@@ -13,7 +13,7 @@ use Rattle.num.proofs.Tests.{by-test}
 use Rattle.column.specs.Flat.{columns}
 use Rattle.column.specs.Lists.{total}
 use Rattle.column.specs.Runs.{Runs}
-use Rattle.keys.specs.Keys.{lowest}
+use Rattle.index.specs.Lowest.{lowest}
 use Rattle.batch.specs.declared.two.Joined.{Joined}
 use Rattle.batch.specs.Batch.{Batch, Entry, entries, has, find}
 use Rattle.batch.specs.Workers.{ValidBatch, NextKept}

@@ -9,7 +9,7 @@ use lib.Dec.{eqb, ltb}
 use lib.ListN.{length, getD}
 use borrow.Author.Tests.{eq-eqb, ne-eqb, lt-ltb, le-ltb}
 use Rattle.num.proofs.Tests.{by-test}
-use Rattle.keys.specs.Keys.{lowest}
+use Rattle.index.specs.Lowest.{lowest}
 use Rattle.batch.specs.Workers.{otherAt}
 use Rattle.join.specs.Zip.{keepsLeft, keepsRight}
 use Rattle.join.specs.Workers.{placesOf, pairAt}

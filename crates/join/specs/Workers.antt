@@ -10,7 +10,7 @@ use Rattle.num.specs.Numbers.{saturated}
 use Rattle.column.specs.declared.answer.Fill.{Fill}
 use Rattle.column.specs.Asking.{shownAsked}
 use Rattle.column.specs.Lists.{total}
-use Rattle.keys.specs.Keys.{lowest}
+use Rattle.index.specs.Lowest.{lowest}
 use Rattle.batch.specs.declared.two.Joined.{Joined}
 use Rattle.batch.specs.Batch.{Batch}
 use Rattle.batch.specs.Workers.{ValidBatch}

@@ -11,9 +11,10 @@ use lib.Seq.{drop-cons}
 use borrow.Author.Tests.{ltb-true, ltb-false, lt-ltb, le-ltb}
 use Rattle.num.proofs.Tests.{by-test}
 use Rattle.column.proofs.Told.{both-true}
-use Rattle.keys.specs.Keys.{lowest}
+use Rattle.index.specs.Lowest.{lowest}
+use Rattle.index.proofs.Lowest.{lowest-is}
 use Rattle.keys.specs.Workers.{ascends, ascendsFrom}
-use Rattle.keys.proofs.Lowest.{lowest-is, stands, stands-not, Apart}
+use Rattle.keys.proofs.Standing.{stands, stands-not, Apart}
 
 above-first : (k : ℕ) (ks : List ℕ) (j : ℕ) → ascendsFrom k ks ≡ true → j < length ks → k < getD ks j 0
 above-first k [] j t h = let z : ⊥ = omega arith in absurd z

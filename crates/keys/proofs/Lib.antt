@@ -1,6 +1,5 @@
-pub mod Lowest
+pub mod Standing
 pub mod Ascending
 pub mod Doubles
 pub mod Once
-pub mod Indexing
-pub mod Shares
+pub mod Blocks

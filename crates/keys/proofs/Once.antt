@@ -12,9 +12,9 @@ use lib.Seq.{drop-cons, take-suc}
 use borrow.Author.Tests.{eqb-true, eq-eqb}
 use Rattle.num.proofs.Tests.{by-test}
 use Rattle.column.specs.Lists.{any}
+use Rattle.index.specs.Workers.{doubled}
+use Rattle.index.proofs.Lowest.{no-test}
 use Rattle.keys.specs.Keys.{onceFrom, once}
-use Rattle.keys.specs.Workers.{doubled}
-use Rattle.keys.proofs.Lowest.{no-test}
 
 -- what stands before counts by which keys it has
 once-same : (b c ks : List ℕ) → ((k : ℕ) → any (eqb k) b ≡ any (eqb k) c) → onceFrom b ks ≡ onceFrom c ks

@@ -1,5 +1,5 @@
 -- batch.rs: where a key stands, and each key once.
-use Prim.Native.Nat.{ℕ, suc}
+use Prim.Native.Nat.{ℕ}
 use mathlib.Core.Bool.{cond}
 use mathlib.Core.Option.{Option, none, some}
 use mathlib.Core.List.{List, [], _∷_}
@@ -7,11 +7,7 @@ use lib.Dec.{eqb, ltb}
 use lib.ListN.{length}
 use Rattle.column.specs.Lists.{any}
 use Rattle.column.specs.Paper.{Outcome, answers}
-
--- the lowest position of a key, or how many keys there are
-unfoldable pub lowest : ℕ → List ℕ → ℕ
-lowest key [] = 0
-lowest key (k ∷ ks) = cond (eqb key k) 0 (suc (lowest key ks))
+use Rattle.index.specs.Lowest.{lowest}
 
 -- "`position` (lowest; takes keys alone)"
 unfoldable pub position : List ℕ → ℕ → Outcome (Option ℕ)

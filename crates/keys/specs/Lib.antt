@@ -1,3 +1,3 @@
--- The keys of a batch; to be read after column's definitions.
+-- The keys of a batch; to be read after the definitions of column and index.
 pub mod Keys
 pub mod Workers

@@ -1,77 +1,13 @@
 // Searches for a key. Each finds its lowest position, or how many keys there are.
-pub mod index;
-
 use crate::Order;
-use index::widened;
+use index::inner::widened;
 ghost use Prim.Native.Nat.{_+_, _≤_, _<_, _^_};
 ghost use mathlib.Core.Bool.{true, _&&_, cond};
 ghost use mathlib.Core.Path.{_≡_};
 ghost use lib.Dec.{eqb, ltb};
 ghost use lib.ListN.{length, getD};
-ghost use Rattle.keys.specs.Keys.{lowest};
-ghost use Rattle.keys.specs.Workers.{ascends, Known, Others, Skipped, NextPosition, BlockEnd, BlockFound, Kept};
-
-// As many keys are compared at once.
-const STRIDE: usize = 32;
-
-// One more if the keys differ.
-fn count_if_other(count: u32, x: u32, y: u32) -> u32
-    requires { ⌜ count + 1 < 2 ^ 32 ⌝ }
-    ensures { λ r. ⌜ r ≡ cond (eqb x y) count (count + 1) ⌝ }
-{
-    if x == y { count } else { count + 1 }
-}
-
-// Whether the keys from `from` up to `to` are all known to be others. It counts, as that becomes vector instructions.
-fn all_others(keys: &[u32], from: usize, to: usize, key: u32) -> bool
-    requires { ⌜ (from ≤ to) × (to ≤ length (now keys)) × (to ≤ from + 32) ⌝ }
-    ensures { λ r. ⌜ (r ≡ true → Others key (now (keys .entry)) from to) ⌝ }
-{
-    let mut count: u32 = 0;
-    let mut i = from;
-    while i < to {
-        count = count_if_other(count, keys[i], key);
-        i += 1;
-    }
-    widened(count) == to - from
-}
-
-// How far from `from` on all keys are known to be others, a stride at a time.
-fn skip_others(keys: &[u32], from: usize, key: u32) -> usize
-    requires { ⌜ from ≤ length (now keys) ⌝ }
-    ensures { λ r. ⌜ Skipped key (now (keys .entry)) from r ⌝ }
-{
-    let mut i = from;
-    while keys.len() - i >= STRIDE {
-        let to = i + STRIDE;
-        if !all_others(keys, i, to, key) {
-            return i;
-        }
-        i = to;
-    }
-    i
-}
-
-// The lowest position of a key from `from` on, or how many keys there are.
-pub fn scan_from(keys: &[u32], from: usize, key: u32) -> usize
-    requires { ⌜ from ≤ length (now keys) ⌝ }
-    ensures { λ r. ⌜ NextPosition key (now (keys .entry)) from r ⌝ }
-{
-    let mut i = skip_others(keys, from, key);
-    while i < keys.len() {
-        if keys[i] == key {
-            return i;
-        }
-        i += 1;
-    }
-    i
-}
-
-pub fn scan(keys: &[u32], key: u32) -> usize
-    ensures { λ r. ⌜ r ≡ lowest key (now (keys .entry)) ⌝ }
-{
-    scan_from(keys, 0, key)
-}
+ghost use Rattle.index.specs.Lowest.{lowest};
+ghost use Rattle.keys.specs.Workers.{ascends, Known, BlockEnd, BlockFound, Kept};
 
 // Whether the key stands at a position.
 fn stands_at(keys: &[u32], position: usize, key: u32) -> bool
@@ -128,9 +64,9 @@ pub fn find(keys: &[u32], order: Order, near: usize, key: u32) -> usize
             if stands_at(keys, near, key) {
                 return near;
             }
-            scan(keys, key)
+            index::inner::scan(keys, key)
         }
-        Order::Unknown => scan(keys, key),
+        Order::Unknown => index::inner::scan(keys, key),
     }
 }
 
@@ -176,7 +112,7 @@ fn find_block(keys: &[u32], wanted: &[u32], i: usize, block: &mut [u32]) -> usiz
     ensures { λ r. ⌜ BlockFound (now (keys .entry)) (now (wanted .entry)) i (now (block .exit)) r ⌝ }
 {
     let end = block_end(i, wanted.len());
-    index::find_all(keys, &wanted[i..end], &mut *block);
+    index::inner::find_all(keys, &wanted[i..end], &mut *block);
     widened(block[0])
 }
 

@@ -1,6 +1,5 @@
 // The keys of a batch: where one stands, and whether one is given twice.
 pub mod inner;
-mod table;
 
 use column::answer::Asked;
 use column::answer::Found;
@@ -12,8 +11,9 @@ ghost use lib.ListN.{length};
 ghost use Rattle.column.specs.Asking.{shownAsked};
 ghost use Rattle.column.specs.Paper.{shownFound};
 ghost use Rattle.column.specs.Questions.{distinctKeys};
+ghost use Rattle.index.specs.Workers.{FirstDouble, every};
 ghost use Rattle.keys.specs.Keys as calls;
-ghost use Rattle.keys.specs.Workers.{ascends, Known, FirstDouble, every};
+ghost use Rattle.keys.specs.Workers.{ascends, Known};
 
 // What is known of keys: each is above the one before it; or none is given twice.
 pub enum Order {
@@ -45,7 +45,7 @@ pub fn first_duplicate(keys: &[u32]) -> usize
     if ascends(keys) {
         return keys.len();
     }
-    table::first_duplicate(keys)
+    index::table::first_duplicate(keys)
 }
 
 // 8
@@ -81,7 +81,7 @@ pub fn order_of(keys: &[u32]) -> Order
     if ascends(keys) {
         return Order::Ascending;
     }
-    if table::first_duplicate(keys) == keys.len() {
+    if index::table::first_duplicate(keys) == keys.len() {
         return Order::Distinct;
     }
     Order::Unknown
@@ -91,7 +91,7 @@ pub fn order_of(keys: &[u32]) -> Order
 pub fn position(keys: &[u32], key: u32) -> Found
     ensures { λ r. ⌜ shownFound r ≡ calls.position (now (keys .entry)) key ⌝ }
 {
-    let at = inner::scan(keys, key);
+    let at = index::inner::scan(keys, key);
     if at < keys.len() {
         Found::At(at)
     } else {

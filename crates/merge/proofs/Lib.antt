@@ -1,4 +1,3 @@
-pub mod Appended
 pub mod Asks
 pub mod Examples
 pub mod First

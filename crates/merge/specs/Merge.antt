@@ -9,13 +9,7 @@ use Rattle.num.specs.Numbers.{operation}
 use Rattle.column.specs.Asking.{Question, firstNo, _otherwise_}
 use Rattle.column.specs.Paper.{Outcome}
 use Rattle.column.specs.Questions.{listed, maskListed, agree, paired, endsValid, room, both, sequenceAsked}
-use Rattle.column.specs.Runs.{Sequence, Run, Runs, magnitude, runs, dense, encode}
-
--- ---- merge, merged
-
--- "merged when neighbouring values differ"; "n entries"
-unfoldable pub merged : Sequence → List ℕ → Outcome Runs
-merged s buffers = sequenceAsked s (length (s .ends)) buffers otherwise encode (dense (runs s))
+use Rattle.column.specs.Runs.{Sequence, Run, Runs, magnitude, runs}
 
 -- ---- groups of runs
 

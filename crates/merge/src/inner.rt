@@ -1,31 +1,10 @@
 // Workers that assume what the calls have asked.
-use column::inner::Writer;
-use column::mask;
-use column::sequence;
 ghost use Prim.Native.Nat.{_+_, _-_, _≤_, _<_, _^_};
-ghost use mathlib.Core.Bool.{true};
-ghost use mathlib.Core.Option.{none};
 ghost use mathlib.Core.Path.{_≡_};
 ghost use lib.ListN.{length};
-ghost use Rattle.column.specs.Questions.{endsValid};
-ghost use Rattle.column.specs.Runs.{runsOf, dense, encode, Filled};
+ghost use Rattle.column.specs.Runs.{runsOf, Filled};
 ghost use Rattle.merge.specs.Merge.{maskRuns, neighbours};
 ghost use Rattle.merge.specs.Workers.{placeAfter, keptAfter, Writable, WroteRun, Mergeable};
-
-// The runs of a sequence, merged.
-pub fn merged(ends: &[i64], values: &[i64], out_ends: &mut [i64], out_values: &mut [i64]) -> usize
-    requires { ⌜ (endsValid (now ends) ≡ none) × (length (now ends) ≡ length (now values)) × (length (now ends) ≤ length (now «out_ends»)) × (length (now ends) ≤ length (now «out_values»)) ⌝ }
-    ensures { λ r. ⌜ Filled (encode (dense (runsOf (now (ends .entry)) (now (values .entry)))))
-        (now («out_ends» .entry)) (now («out_ends» .exit)) (now («out_values» .entry)) (now («out_values» .exit)) r ⌝ }
-{
-    if sequence::length(ends) <= 0 {
-        return 0;
-    }
-    let first = values[0];
-    let writer = Writer { at: 0, last: first };
-    let end = column::inner::append_merged(writer, ends, values, 0, 0, out_ends, out_values);
-    end.at + 1
-}
 
 // The group that is being written: its place, and the run whose value it keeps.
 pub struct GroupWriter {

@@ -33,6 +33,7 @@ ghost use Rattle.join.specs.Zip as join;
 ghost use Rattle.keys.specs.Keys as lookup;
 ghost use Rattle.many.specs.Many as many;
 ghost use Rattle.merge.specs.Merge as merge;
+ghost use Rattle.merged.specs.Merged as merged;
 ghost use Rattle.ops.specs.Ops as ops;
 ghost use Rattle.plan.specs.Plan as plan;
 ghost use Rattle.ranges.specs.Ranges as ranges;
@@ -394,10 +395,10 @@ pub extern "C" fn rl_merge(
     out_values: &mut [i64],
 ) -> RlCounted
     ensures { λ r. ⌜ LaidRuns
-        (merge.merged (sequence (now (ends .entry)) (now (values .entry))) (length (now («out_ends» .entry)) ∷ length (now («out_values» .entry)) ∷ [])) r
+        (merged.merged (sequence (now (ends .entry)) (now (values .entry))) (length (now («out_ends» .entry)) ∷ length (now («out_values» .entry)) ∷ [])) r
         (now («out_ends» .entry)) (now («out_ends» .exit)) (now («out_values» .entry)) (now («out_values» .exit)) ⌝ }
 {
-    ffi::counted(merge::merge(ends, values, out_ends, out_values))
+    ffi::counted(merged::merge(ends, values, out_ends, out_values))
 }
 
 #[no_mangle]
@@ -408,10 +409,10 @@ pub extern "C" fn rl_merged(
     out_values: &mut [i64],
 ) -> RlCounted
     ensures { λ r. ⌜ LaidRuns
-        (merge.merged (sequence (now (ends .entry)) (now (values .entry))) (length (now («out_ends» .entry)) ∷ length (now («out_values» .entry)) ∷ [])) r
+        (merged.merged (sequence (now (ends .entry)) (now (values .entry))) (length (now («out_ends» .entry)) ∷ length (now («out_values» .entry)) ∷ [])) r
         (now («out_ends» .entry)) (now («out_ends» .exit)) (now («out_values» .entry)) (now («out_values» .exit)) ⌝ }
 {
-    ffi::counted(merge::merged(ends, values, out_ends, out_values))
+    ffi::counted(merged::merged(ends, values, out_ends, out_values))
 }
 
 #[no_mangle]

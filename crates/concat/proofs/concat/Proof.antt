@@ -1,7 +1,7 @@
 use Prim.Native.Nat.{ℕ}
 use lib.ListN.{length-replicate}
 use Rattle.column.proofs.Promised.{asked-yes, asked-no}
-use Rattle.keys.proofs.Lowest.{no-test}
+use Rattle.index.proofs.Lowest.{no-test}
 use Rattle.concat.proofs.Promised.{invalid-refused}
 use borrow.Author.Needs.{needs}
 use Rattle.concat.proofs.concat.Statement.{statement}

@@ -5,7 +5,7 @@ use mathlib.Core.Path.{_≡_}
 use denote.Ref.{now}
 use lib.ListN.{length, length-replicate}
 use Rattle.column.proofs.Promised.{asked-yes, asked-no}
-use Rattle.keys.proofs.Lowest.{no-test}
+use Rattle.index.proofs.Lowest.{no-test}
 use Rattle.batch.specs.Batch.{batch}
 use Rattle.batch.proofs.Laying.{batch-refused}
 use Rattle.join.specs.Zip.{zipAsked, zipWith}

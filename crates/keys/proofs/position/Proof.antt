@@ -1,4 +1,4 @@
-use Rattle.keys.proofs.Lowest.{position-found, position-none}
+use Rattle.keys.proofs.Standing.{position-found, position-none}
 use borrow.Author.Needs.{needs}
 use Rattle.keys.proofs.position.Statement.{statement}
 use Rattle.keys.proofs.position.Tie as tie

@@ -1,5 +1,5 @@
 use mathlib.Core.Path.{refl}
-use Rattle.keys.proofs.Lowest.{no-test}
+use Rattle.index.proofs.Lowest.{no-test}
 use Prim.Native.Nat.{_-_}
 use lib.ListN.{length}
 use Rattle.collapse.proofs.Together.{Level, level-start, level-next, level-end}

@@ -4,7 +4,7 @@ use native.Mathlib.Omega.{arith}
 use lib.ListN.{length}
 use Rattle.num.proofs.Bits.{back}
 use Rattle.keys.specs.Workers.{Kept}
-use Rattle.keys.proofs.Indexing.{kept-start}
+use Rattle.keys.proofs.Blocks.{kept-start}
 use Rattle.batch.specs.Batch.{batch, entries}
 use Rattle.items.specs.Items.{itemRuns}
 use Rattle.items.proofs.Keyed.{items-many, item-count, Counting, counting-start, counting-next, counting-end}

@@ -7,7 +7,7 @@ use lib.ListN.{length, getD, take, drop, length-set}
 use Rattle.num.proofs.Bits.{back}
 use Rattle.column.specs.Runs.{Filled}
 use Rattle.keys.specs.Workers.{Kept}
-use Rattle.keys.proofs.Indexing.{kept-start}
+use Rattle.keys.proofs.Blocks.{kept-start}
 use Rattle.slice.proofs.Items.{Laying}
 use Rattle.batch.specs.Batch.{batch, entries}
 use Rattle.items.specs.Items.{itemRuns}

@@ -8,7 +8,7 @@ use mir.Syntax.{w64}
 use mir.Val.{toZ, ofZ}
 use Rattle.num.proofs.Bits.{back}
 use Rattle.keys.specs.Workers.{Kept}
-use Rattle.keys.proofs.Indexing.{kept-start}
+use Rattle.keys.proofs.Blocks.{kept-start}
 use Rattle.reduce.specs.Reduce.{reduction}
 use Rattle.reduce.proofs.Intervals.{Filling, filling-start, filling-next, filling-end}
 use Rattle.batch.specs.Batch.{batch, entries}

@@ -1,5 +1,5 @@
 use denote.Ref.{now}
-use Rattle.keys.proofs.Lowest.{apart-found}
+use Rattle.keys.proofs.Standing.{apart-found}
 use Rattle.keys.proofs.Ascending.{ascends-apart}
 use Rattle.keys.proofs.Doubles.{known-ascends, known-distinct, distinct-apart}
 use borrow.Author.Needs.{needs}

@@ -1,4 +1,4 @@
-use Rattle.keys.proofs.Indexing.{block-kept}
+use Rattle.keys.proofs.Blocks.{block-kept}
 use borrow.Author.Needs.{needs}
 use Rattle.keys.proofs.inner.find_block.Statement.{statement}
 use Rattle.keys.proofs.inner.find_block.Tie as tie

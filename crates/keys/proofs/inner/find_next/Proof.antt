@@ -1,6 +1,6 @@
 use native.Mathlib.Omega.{arith}
 use mathlib.Core.Path.{_∙_}
-use Rattle.keys.proofs.Indexing.{kept-block, kept-at, kept-next, kept-not}
+use Rattle.keys.proofs.Blocks.{kept-block, kept-at, kept-next, kept-not}
 use borrow.Author.Needs.{needs}
 use Rattle.keys.proofs.inner.find_next.Statement.{statement}
 use Rattle.keys.proofs.inner.find_next.Tie as tie

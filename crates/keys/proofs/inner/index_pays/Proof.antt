@@ -1,7 +1,7 @@
 use mathlib.Core.Path.{refl}
 use native.Mathlib.Omega.{arith}
 use borrow.Author.Tests.{ltb-true}
-use Rattle.keys.proofs.Lowest.{no-test}
+use Rattle.index.proofs.Lowest.{no-test}
 use borrow.Author.Needs.{needs}
 use Rattle.keys.proofs.inner.index_pays.Statement.{statement}
 use Rattle.keys.proofs.inner.index_pays.Tie as tie

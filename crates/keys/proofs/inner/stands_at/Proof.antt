@@ -1,5 +1,5 @@
 use denote.Ref.{now}
-use Rattle.keys.proofs.Lowest.{stands-within, stands-behind}
+use Rattle.keys.proofs.Standing.{stands-within, stands-behind}
 use borrow.Author.Needs.{needs}
 use Rattle.keys.proofs.inner.stands_at.Statement.{statement}
 use Rattle.keys.proofs.inner.stands_at.Tie as tie

@@ -1,0 +1,3 @@
+// Where keys stand: one key after another, or by a table of the positions of many.
+pub mod inner;
+pub mod table;

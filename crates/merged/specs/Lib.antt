@@ -1,0 +1,2 @@
+-- merge and merged, of merge.rs; to be read after column's definitions.
+pub mod Merged
