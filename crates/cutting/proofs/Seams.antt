@@ -31,7 +31,8 @@ use Rattle.slice.specs.Slice as slice
 use Rattle.batch.specs.Batch.{Entry, keysOf, columnsOf, batchValid, entriesFrom, entries}
 use Rattle.batch.specs.Batch as batch
 use Rattle.each.specs.Each.{eachAsked, mapRlesSlice}
-use Rattle.transform.specs.Transform.{shown, concatAsked, shiftValues, shift}
+use Rattle.shift.specs.Shift.{shiftValues, shift}
+use Rattle.transform.specs.Transform.{shown, concatAsked}
 use Rattle.transform.specs.Transform as transform
 use Rattle.cutting.specs.Cut.{cutPoints, spans, batchOf, _then_, inTurn, refusedWith, someRefusedWith, addWrapping}
 use Rattle.cutting.specs.Claim.{cutBatch, zipWith, zipPieces, concat, sum}

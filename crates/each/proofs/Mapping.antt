@@ -27,9 +27,9 @@ use Rattle.slice.specs.Slice.{sliceRuns}
 use Rattle.slice.specs.Workers.{Touches}
 use Rattle.slice.proofs.Items.{length-all}
 use Rattle.slice.proofs.Touching.{touched-inside, touches, touched-count}
+use Rattle.shift.proofs.Shifting.{shift-few}
 use Rattle.transform.specs.Transform.{reverseRuns}
 use Rattle.transform.proofs.Reversing.{reverse-count}
-use Rattle.transform.proofs.Shifting.{shift-few}
 use Rattle.batch.specs.Batch.{Batch, batch, Entry, entries, keysOf, columnsOf, WritesBatch, batchValid, batchNeeds}
 use Rattle.batch.specs.Workers.{ValidBatch, FilledBatch}
 use Rattle.batch.proofs.Asks.{valid-told, Room, batch-room}

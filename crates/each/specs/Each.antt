@@ -8,7 +8,8 @@ use Rattle.column.specs.Paper.{Outcome}
 use Rattle.column.specs.Questions.{room}
 use Rattle.column.specs.Runs.{Runs, dense, encode}
 use Rattle.slice.specs.Slice.{sliceRuns}
-use Rattle.transform.specs.Transform.{shiftValues, reverseRuns}
+use Rattle.shift.specs.Shift.{shiftValues}
+use Rattle.transform.specs.Transform.{reverseRuns}
 use Rattle.batch.specs.Batch.{Batch, Entry, entries, batchValid, batchNeeds}
 
 -- the same keys, each with its new sequence

@@ -1,3 +1,3 @@
--- The calls of batch.rs through `map_rles`; to be read after the definitions of column, slice, transform and batch.
+-- The calls of batch.rs through `map_rles`; to be read after the definitions of column, slice, shift, transform and batch.
 pub mod Each
 pub mod Workers

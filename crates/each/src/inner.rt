@@ -32,7 +32,7 @@ fn map_runs(
 {
     match mapping {
         Mapping::Shift { distance, fill } => {
-            transform::inner::shift(ends, values, distance, fill, out_ends, out_values)
+            shift::inner::shift(ends, values, distance, fill, out_ends, out_values)
         }
         Mapping::Reversed => transform::inner::reversed(ends, values, out_ends, out_values),
         Mapping::Slice { start, end } => {

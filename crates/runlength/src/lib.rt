@@ -40,6 +40,7 @@ ghost use Rattle.ranges.specs.Ranges as ranges;
 ghost use Rattle.reduce.specs.Reduce as reduce;
 ghost use Rattle.rle.specs.Rle as calls;
 ghost use Rattle.runs.specs.Constructors as constructors;
+ghost use Rattle.shift.specs.Shift as shift;
 ghost use Rattle.slice.specs.Slice as slice;
 ghost use Rattle.transform.specs.Transform as transform;
 
@@ -351,10 +352,10 @@ pub extern "C" fn rl_shift(
     out_values: &mut [i64],
 ) -> RlCounted
     ensures { λ r. ⌜ LaidRuns
-        (transform.shift (sequence (now (ends .entry)) (now (values .entry))) distance fill (length (now («out_ends» .entry)) ∷ length (now («out_values» .entry)) ∷ [])) r
+        (shift.shift (sequence (now (ends .entry)) (now (values .entry))) distance fill (length (now («out_ends» .entry)) ∷ length (now («out_values» .entry)) ∷ [])) r
         (now («out_ends» .entry)) (now («out_ends» .exit)) (now («out_values» .entry)) (now («out_values» .exit)) ⌝ }
 {
-    ffi::counted(transform::shift(ends, values, distance, fill, out_ends, out_values))
+    ffi::counted(shift::shift(ends, values, distance, fill, out_ends, out_values))
 }
 
 #[no_mangle]

@@ -1,4 +1,3 @@
 pub mod Joining
 pub mod Natural
 pub mod Reversing
-pub mod Shifting

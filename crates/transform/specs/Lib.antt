@@ -1,3 +1,3 @@
--- The calls of transform.rs; to be read after column's definitions.
+-- concat and reversed, of transform.rs; to be read after column's definitions.
 pub mod Transform
 pub mod Workers

@@ -1,8 +1,8 @@
--- transform.rs with concat: sequences joined, moved and turned round.
-use Prim.Native.Nat.{ℕ, suc, _+_, _-_, min}
+-- transform.rs with concat: sequences joined and turned round.
+use Prim.Native.Nat.{ℕ, _-_}
 use mathlib.Core.List.{List, [], _∷_, _++_, map}
-use lib.IntN.{ℤ, pos, negsuc}
-use lib.ListN.{length, take, drop, replicate}
+use lib.IntN.{ℤ}
+use lib.ListN.{length}
 use Rattle.column.specs.Asking.{Question, firstNo, _otherwise_}
 use Rattle.column.specs.Flat.{Flat, columns, pairedFlat, offsetsFlat, endsFlat}
 use Rattle.column.specs.Lists.{total}
@@ -25,17 +25,6 @@ concatAsked f buffers =
 -- "`concat` merges across joints"
 unfoldable pub concat : Flat → List ℕ → Outcome Runs
 concat f buffers = let result = encode (shown (columns f)) in concatAsked f buffers otherwise result
-
--- ---- shift
-
--- "moves towards higher positions when positive": the fill stands where no value was moved to
-unfoldable pub shiftValues : ℤ → ℤ → List ℤ → List ℤ
-shiftValues (pos n) fill xs = replicate (min n (length xs)) fill ++ take (length xs - n) xs
-shiftValues (negsuc n) fill xs = drop (suc n) xs ++ replicate (min (suc n) (length xs)) fill
-
--- "always merged, n + 1 entries"
-unfoldable pub shift : Sequence → ℤ → ℤ → List ℕ → Outcome Runs
-shift s distance fill buffers = sequenceAsked s (length (s .ends) + 1) buffers otherwise encode (shiftValues distance fill (dense (runs s)))
 
 -- ---- reversed
 

@@ -1,14 +1,13 @@
 -- What the workers require and leave.
-use Prim.Native.Nat.{ℕ, _+_, _-_, _≤_, _<_, _^_}
+use Prim.Native.Nat.{ℕ, _-_, _≤_, _<_, _^_}
 use mathlib.Core.Option.{none}
 use mathlib.Core.List.{List, [], _∷_, _++_, map}
 use mathlib.Core.Path.{_≡_}
 use lib.IntN.{ℤ, pos}
-use lib.ListN.{length, take, drop, replicate}
+use lib.ListN.{length}
 use Rattle.column.specs.Flat.{Flat, columns, offsetsFlat, endsFlat}
 use Rattle.column.specs.Lists.{total}
-use Rattle.column.specs.Questions.{endsValid}
-use Rattle.column.specs.Runs.{magnitude, runsOf, lengthOf, lengthOfEnds}
+use Rattle.column.specs.Runs.{magnitude, lengthOf, lengthOfEnds}
 
 -- every question of concat answered "yes"
 pub record Joinable (f : Flat) (e v : List ℤ) : Type 0 where
@@ -18,24 +17,6 @@ pub record Joinable (f : Flat) (e v : List ℤ) : Type 0 where
   pub fitting : total (map lengthOf (columns f)) < 2 ^ 63
   pub room-ends : length (f .ends) ≤ length e
   pub room-values : length (f .ends) ≤ length v
-
--- ---- shift, by less than the length
-
-abbrev pub shiftedUp : ℕ → ℤ → List ℤ → List ℤ
-shiftedUp by fill xs = replicate by fill ++ take (length xs - by) xs
-
-abbrev pub shiftedDown : ℕ → ℤ → List ℤ → List ℤ
-shiftedDown by fill xs = drop by xs ++ replicate by fill
-
--- a sequence of that length, and room for one run more
-pub record Shiftable (es vs : List ℤ) (by n : ℕ) (e v : List ℤ) : Type 0 where
-  pub valid : endsValid es ≡ none
-  pub paired : length es ≡ length vs
-  pub whole : n ≡ lengthOf (runsOf es vs)
-  pub short : by < n
-  pub fitting : n < 2 ^ 63
-  pub room-ends : length es + 1 ≤ length e
-  pub room-values : length es + 1 ≤ length v
 
 -- ---- reversed
 

@@ -32,8 +32,8 @@ use Rattle.column.proofs.Pushed.{place}
 use Rattle.column.proofs.Rising.{Rising}
 use Rattle.column.proofs.Merging.{merge-start, merge-more, merge-at, merge-end, fill-none}
 use Rattle.slice.specs.Search.{firstWhere, firstEndAbove}
-use Rattle.transform.specs.Transform.{shiftValues}
-use Rattle.transform.specs.Workers.{shiftedUp, shiftedDown, Shiftable}
+use Rattle.shift.specs.Shift.{shiftValues}
+use Rattle.shift.specs.Workers.{shiftedUp, shiftedDown, Shiftable}
 
 -- ---- equal values in front
 

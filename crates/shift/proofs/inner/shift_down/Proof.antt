@@ -3,10 +3,10 @@ use mir.Facts.{toZ-pos, toZ-ofZ}
 use mir.Syntax.{w64}
 use mir.Val.{toZ, ofZ}
 use Rattle.num.proofs.Bits.{back}
-use Rattle.transform.proofs.Shifting.{found, first-inside, down-appendable, down-long, down-at, down-whole, down-room, down-kept, down-end}
+use Rattle.shift.proofs.Shifting.{found, first-inside, down-appendable, down-long, down-at, down-whole, down-room, down-kept, down-end}
 use borrow.Author.Needs.{needs}
-use Rattle.transform.proofs.inner.shift_down.Statement.{statement}
-use Rattle.transform.proofs.inner.shift_down.Tie as tie
+use Rattle.shift.proofs.inner.shift_down.Statement.{statement}
+use Rattle.shift.proofs.inner.shift_down.Tie as tie
 
 cast-first-end-above : tie.Need-cast-first-end-above
 cast-first-end-above c = let s = c in let q = s .pre in omega (arith, q .short, q .fitting)

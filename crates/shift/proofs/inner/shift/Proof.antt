@@ -7,10 +7,10 @@ use mir.Facts.{toZ-pos, toZ-ofZ}
 use mir.Syntax.{w64}
 use mir.Val.{toZ, ofZ}
 use Rattle.column.specs.Runs.{magnitude}
-use Rattle.transform.proofs.Shifting.{fill-place, fill-run, fill-kept, filled, shift-none, shift-all, shift-up, shift-down, above-zero, up-some, length-told, length-fits, shiftable}
+use Rattle.shift.proofs.Shifting.{fill-place, fill-run, fill-kept, filled, shift-none, shift-all, shift-up, shift-down, above-zero, up-some, length-told, length-fits, shiftable}
 use borrow.Author.Needs.{needs}
-use Rattle.transform.proofs.inner.shift.Statement.{statement}
-use Rattle.transform.proofs.inner.shift.Tie as tie
+use Rattle.shift.proofs.inner.shift.Statement.{statement}
+use Rattle.shift.proofs.inner.shift.Tie as tie
 
 length-requires : tie.Need-length-requires
 length-requires c κs = search needs

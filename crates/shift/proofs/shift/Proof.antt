@@ -2,10 +2,10 @@ use mir.Facts.{toZ-ofZ}
 use denote.Ref.{now}
 use Rattle.column.proofs.Promised.{asked-yes, asked-no, runs-written, runs-refused}
 use Rattle.column.proofs.Told.{sequence-told}
-use Rattle.transform.specs.Transform.{shift}
+use Rattle.shift.specs.Shift.{shift}
 use borrow.Author.Needs.{needs}
-use Rattle.transform.proofs.shift.Statement.{statement}
-use Rattle.transform.proofs.shift.Tie as tie
+use Rattle.shift.proofs.shift.Statement.{statement}
+use Rattle.shift.proofs.shift.Tie as tie
 
 add-ask-sequence-into : tie.Need-add-ask-sequence-into
 add-ask-sequence-into c = search needs

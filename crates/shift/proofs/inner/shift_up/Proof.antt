@@ -4,10 +4,10 @@ use mir.Syntax.{w64}
 use mir.Val.{toZ, ofZ}
 use Prim.Native.Nat.{_-_}
 use Rattle.num.proofs.Bits.{back}
-use Rattle.transform.proofs.Shifting.{found, fill-place, fill-run, last-inside, up-appendable, up-room, up-kept, up-end}
+use Rattle.shift.proofs.Shifting.{found, fill-place, fill-run, last-inside, up-appendable, up-room, up-kept, up-end}
 use borrow.Author.Needs.{needs}
-use Rattle.transform.proofs.inner.shift_up.Statement.{statement}
-use Rattle.transform.proofs.inner.shift_up.Tie as tie
+use Rattle.shift.proofs.inner.shift_up.Statement.{statement}
+use Rattle.shift.proofs.inner.shift_up.Tie as tie
 
 cast-push-merged : tie.Need-cast-push-merged
 cast-push-merged c = let s = c .before .before in let q = s .pre .1 in omega (arith, q .short, q .fitting)
