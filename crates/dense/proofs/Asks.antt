@@ -1,4 +1,4 @@
--- The questions of each call, as the code joins them. Of what is asked later only what holds after a "yes" is used.
+-- The questions of `to_dense`, as the code joins them. Of what is asked later only what holds after a "yes" is used.
 -- Assumes nothing.
 use Prim.Native.Nat.{ℕ}
 use mathlib.Core.List.{List, [], _∷_}
@@ -6,13 +6,13 @@ use mathlib.Core.Path.{_≡_, ap, sym, _∙_}
 use lib.IntN.{ℤ}
 use lib.ListN.{length}
 use Rattle.column.specs.Asking.{Question, firstNo}
-use Rattle.column.specs.Questions.{agree, paired, endsValid, roomAt, room}
+use Rattle.column.specs.Questions.{paired, endsValid, roomAt, room}
 use Rattle.column.specs.Runs.{sequence, magnitude, runsOf, lengthOf, lengthOfEnds}
 use Rattle.column.proofs.Ends.{length-of-ends}
-use Rattle.column.proofs.FirstNo.{all-yes, asked-next, asked-last, first-several}
+use Rattle.column.proofs.FirstNo.{all-yes, asked-last, first-several}
 use Rattle.column.proofs.Told.{agree-told}
 use Rattle.column.proofs.YesNo.{room-one}
-use Rattle.dense.specs.Dense.{toDenseAsked, equalsAsked}
+use Rattle.dense.specs.Dense.{toDenseAsked}
 
 pub to-dense-asked : (es vs : List ℤ) (g : ℕ) {r a b : Question} {n : ℕ} {x : ℤ} → r ≡ firstNo (a ∷ b ∷ []) → a ≡ firstNo (paired (sequence es vs) ∷ endsValid es ∷ [])
     → b ≡ roomAt 0 n g → n ≡ magnitude x → x ≡ lengthOfEnds es → r ≡ toDenseAsked (sequence es vs) (g ∷ [])
@@ -23,11 +23,3 @@ to-dense-asked es vs g h p q en ex =
     let l = length-of-ends es vs (z .1 .0) (agree-told 3 (length es) (length vs) (z .0)) in
     q ∙ ap (λ (k : ℕ). roomAt 0 k g) (en ∙ ap magnitude (ex ∙ l)) ∙ sym (room-one (lengthOf (runsOf es vs)) g))
     ∙ sym (first-several (paired (sequence es vs) ∷ endsValid es ∷ []) (room (lengthOf (runsOf es vs) ∷ []) (g ∷ []) ∷ []))
-
-pub equals-asked : (ae av be bv : List ℤ) {r a b c d f g : Question} → r ≡ firstNo (a ∷ b ∷ []) → a ≡ agree 3 (length ae) (length av)
-    → b ≡ firstNo (c ∷ d ∷ []) → c ≡ agree 3 (length be) (length bv) → d ≡ firstNo (f ∷ g ∷ []) → f ≡ endsValid ae → g ≡ endsValid be
-    → r ≡ equalsAsked (sequence ae av) (sequence be bv)
-unfolding equalsAsked paired
-equals-asked ae av be bv hr ha hb hc hd hf hg =
-    asked-next (paired (sequence ae av)) (paired (sequence be bv) ∷ endsValid ae ∷ endsValid be ∷ []) hr ha
-    (λ y. asked-next (paired (sequence be bv)) (endsValid ae ∷ endsValid be ∷ []) hb hc (λ z. asked-last (endsValid ae) hd hf (λ w. hg)))

@@ -1,4 +1,4 @@
--- What a call's questions tell where all are answered "yes": what its worker requires.
+-- What the questions of `to_dense` tell where all are answered "yes": what its worker requires.
 -- Assumes nothing.
 use Prim.Native.Nat.{_≤_}
 use mathlib.Core.Option.{none}
@@ -13,8 +13,7 @@ use Rattle.column.proofs.Ends.{rising, runs-rise}
 use Rattle.column.proofs.FirstNo.{all-yes}
 use Rattle.column.proofs.Told.{agree-told, room-told}
 use Rattle.column.proofs.YesNo.{room-one}
-use Rattle.dense.specs.Dense.{toDenseAsked, equalsAsked}
-use Rattle.dense.specs.Workers.{Comparable}
+use Rattle.dense.specs.Dense.{toDenseAsked}
 
 pub to-dense-yes : (es vs out : List ℤ) → toDenseAsked (sequence es vs) (length out ∷ []) ≡ none
     → (endsValid es ≡ none) × (length es ≡ length vs) × (length (dense (runsOf es vs)) ≤ length out)
@@ -24,14 +23,3 @@ to-dense-yes es vs out h =
     let y = all-yes (paired (sequence es vs) ∷ endsValid es ∷ room (n ∷ []) (length out ∷ []) ∷ []) h in
     let r = room-told 0 n (length out) (sym (room-one n (length out)) ∙ y .1 .1 .0) in
     (y .1 .0, agree-told 3 (length es) (length vs) (y .0), rw (length-dense (runsOf es vs) (runs-rise 0 es vs (rising es (y .1 .0)))) r)
-
-pub equals-yes : (ae av be bv : List ℤ) → equalsAsked (sequence ae av) (sequence be bv) ≡ none → Comparable (sequence ae av) (sequence be bv)
-unfolding equalsAsked paired
-equals-yes ae av be bv h =
-    let y = all-yes (paired (sequence ae av) ∷ paired (sequence be bv) ∷ endsValid ae ∷ endsValid be ∷ []) h in
-    record {
-      valid-a = y .1 .1 .0;
-      valid-b = y .1 .1 .1 .0;
-      paired-a = agree-told 3 (length ae) (length av) (y .0);
-      paired-b = agree-told 3 (length be) (length bv) (y .1 .0);
-    }

@@ -1,17 +1,12 @@
--- rle.rs: sequences made from values, the values that they show, and whether two show the same.
+-- rle.rs: sequences made from values, and the values that they show.
 use Prim.Native.Nat.{ℕ}
-use mathlib.Core.Bool.{Bool, true, false, _&&_}
 use mathlib.Core.List.{List, [], _∷_}
 use lib.IntN.{ℤ}
 use lib.ListN.{length}
-use Rattle.num.specs.Numbers.{eqZ}
 use Rattle.column.specs.Asking.{Question, firstNo, _otherwise_}
-use Rattle.column.specs.Paper.{Outcome, answers, refuses, paper}
+use Rattle.column.specs.Paper.{Outcome}
 use Rattle.column.specs.Questions.{paired, endsValid, room, both}
-use Rattle.dense.specs.declared.Equality.{Equality}
 use Rattle.column.specs.Runs.{Sequence, Runs, runs, lengthOf, dense, encode}
-
--- ---- from_dense, to_dense
 
 -- "for `from_dense` as many as values given"
 unfoldable pub fromDense : List ℤ → List ℕ → Outcome Runs
@@ -23,24 +18,3 @@ toDenseAsked s buffers = firstNo (paired s ∷ endsValid (s .ends) ∷ room (len
 
 unfoldable pub toDense : Sequence → List ℕ → Outcome (List ℤ)
 toDense s buffers = toDenseAsked s buffers otherwise dense (runs s)
-
--- ---- equals
-
--- are two lists of values equal, position by position
-abbrev pub same : List ℤ → List ℤ → Bool
-same [] [] = true
-same [] (y ∷ ys) = false
-same (x ∷ xs) [] = false
-same (x ∷ xs) (y ∷ ys) = eqZ x y && same xs ys
-
-unfoldable pub equalsAsked : Sequence → Sequence → Question
-equalsAsked a b = firstNo (paired a ∷ paired b ∷ endsValid (a .ends) ∷ endsValid (b .ends) ∷ [])
-
--- "the same values at every position", however the runs are split
-unfoldable pub equals : Sequence → Sequence → Outcome Bool
-equals a b = equalsAsked a b otherwise same (dense (runs a)) (dense (runs b))
-
-abbrev pub shownEquality : Equality → Outcome Bool
-shownEquality Equality.Equal = answers true
-shownEquality Equality.Different = answers false
-shownEquality (Equality.Refused r) = refuses (paper r)

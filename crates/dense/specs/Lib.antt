@@ -1,3 +1,3 @@
--- The calls of rle.rs on the values that a sequence shows; to be read after column's definitions.
+-- from_dense and to_dense, of rle.rs; to be read after column's definitions.
 pub mod Dense
 pub mod Workers

@@ -1,12 +1,10 @@
 -- What the workers leave and require.
 use Prim.Native.Nat.{ℕ, _-_, _≤_}
-use mathlib.Core.Option.{none}
 use mathlib.Core.List.{List, _++_}
 use mathlib.Core.Path.{_≡_}
 use lib.IntN.{ℤ, pos}
 use lib.ListN.{length, take, getD, replicate}
-use Rattle.column.specs.Questions.{endsValid}
-use Rattle.column.specs.Runs.{Sequence, endsOf, valuesOf, encode, over}
+use Rattle.column.specs.Runs.{endsOf, valuesOf, encode, over}
 use Rattle.column.specs.declared.inner.Writer.{Writer}
 
 -- from i up to j all of xs are x
@@ -27,10 +25,3 @@ pub record Encodable (xs e v : List ℤ) (w : Writer) (i j : ℕ) : Type 0 where
   pub room-ends : length xs ≤ length e
   pub room-values : length xs ≤ length v
   pub written : Encoded xs e e v v w i
-
--- two sequences, each valid
-pub record Comparable (a b : Sequence) : Type 0 where
-  pub valid-a : endsValid (a .ends) ≡ none
-  pub valid-b : endsValid (b .ends) ≡ none
-  pub paired-a : length (a .ends) ≡ length (a .values)
-  pub paired-b : length (b .ends) ≡ length (b .values)

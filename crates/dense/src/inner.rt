@@ -1,7 +1,5 @@
 // Workers that assume what the calls have asked.
 use column::inner::Writer;
-use column::sequence;
-use plan::inner::Segments;
 ghost use Prim.Native.Nat.{_+_, _-_, _≤_, _<_, _^_};
 ghost use mathlib.Core.Bool.{true, cond};
 ghost use mathlib.Core.List.{_++_};
@@ -10,9 +8,8 @@ ghost use mathlib.Core.Path.{_≡_};
 ghost use lib.ListN.{length, take, drop, replicate};
 ghost use Rattle.num.specs.Numbers.{eqZ};
 ghost use Rattle.column.specs.Questions.{endsValid};
-ghost use Rattle.column.specs.Runs.{sequence, runsOf, dense, encode, over, Filled};
-ghost use Rattle.dense.specs.Dense.{same};
-ghost use Rattle.dense.specs.Workers.{Constant, Encoded, Encodable, Comparable};
+ghost use Rattle.column.specs.Runs.{runsOf, dense, encode, over, Filled};
+ghost use Rattle.dense.specs.Workers.{Constant, Encoded, Encodable};
 
 // As many values are compared at once: so many that short runs never fill a block, and the branch on it is predicted.
 const BLOCK: usize = 32;
@@ -130,25 +127,4 @@ pub fn to_dense(ends: &[i64], values: &[i64], out: &mut [i64]) -> usize
         r += 1;
     }
     p
-}
-
-// Columns of one length are compared at every segment, up to the first that shows two values.
-pub fn equals(a_ends: &[i64], a_values: &[i64], b_ends: &[i64], b_values: &[i64]) -> bool
-    requires { ⌜ Comparable (sequence (now «a_ends») (now «a_values»)) (sequence (now «b_ends») (now «b_values»)) ⌝ }
-    ensures { λ r. ⌜ r ≡ same (dense (runsOf (now («a_ends» .entry)) (now («a_values» .entry)))) (dense (runsOf (now («b_ends» .entry)) (now («b_values» .entry)))) ⌝ }
-{
-    if sequence::length(a_ends) != sequence::length(b_ends) {
-        return false;
-    }
-    let mut here = Segments::start(a_ends, b_ends);
-    while here.more() {
-        let x = sequence::entry_or(a_values, here.a.index, 0);
-        let y = sequence::entry_or(b_values, here.b.index, 0);
-        let segment = here.next(a_ends, b_ends);
-        if x != y {
-            return false;
-        }
-        here = segment.next;
-    }
-    true
 }

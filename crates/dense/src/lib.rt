@@ -2,7 +2,6 @@ pub mod inner;
 
 use column::answer::Asked;
 use column::answer::Counted;
-use column::error::Refusal;
 use column::sequence;
 ghost use mathlib.Core.List.{[], _∷_};
 ghost use mathlib.Core.Path.{_≡_};
@@ -10,15 +9,7 @@ ghost use lib.ListN.{length};
 ghost use Rattle.column.specs.Asking.{shownAsked};
 ghost use Rattle.column.specs.Paper.{WritesRuns, WritesEntries};
 ghost use Rattle.column.specs.Runs.{sequence};
-ghost use Rattle.dense.specs.Dense.{shownEquality};
 ghost use Rattle.dense.specs.Dense as calls;
-
-// The answer of `equals`.
-pub enum Equality {
-    Equal,
-    Different,
-    Refused(Refusal),
-}
 
 // The merged sequence that shows the values.
 pub fn from_dense(values: &[i64], out_ends: &mut [i64], out_values: &mut [i64]) -> Counted
@@ -59,36 +50,5 @@ pub fn to_dense(ends: &[i64], values: &[i64], out: &mut [i64]) -> Counted
             Counted::Count(n)
         }
         Asked::No(r) => Counted::Refused(r),
-    }
-}
-
-fn equals_asks(a_ends: &[i64], a_values: &[i64], b_ends: &[i64], b_values: &[i64]) -> Asked
-    ensures { λ r. ⌜ shownAsked r ≡ calls.equalsAsked (sequence (now («a_ends» .entry)) (now («a_values» .entry))) (sequence (now («b_ends» .entry)) (now («b_values» .entry))) ⌝ }
-{
-    let valid = questions::first_no(questions::ask_ends(a_ends), questions::ask_ends(b_ends));
-    let paired = questions::first_no(
-        questions::ask_lengths(3, b_ends.len(), b_values.len()),
-        valid,
-    );
-    questions::first_no(
-        questions::ask_lengths(3, a_ends.len(), a_values.len()),
-        paired,
-    )
-}
-
-// Whether two sequences show the same values at every position, however their runs are split.
-pub fn equals(a_ends: &[i64], a_values: &[i64], b_ends: &[i64], b_values: &[i64]) -> Equality
-    ensures { λ r. ⌜ shownEquality r ≡ calls.equals (sequence (now («a_ends» .entry)) (now («a_values» .entry))) (sequence (now («b_ends» .entry)) (now («b_values» .entry))) ⌝ }
-{
-    let asked = equals_asks(a_ends, a_values, b_ends, b_values);
-    match asked {
-        Asked::Yes => {
-            if inner::equals(a_ends, a_values, b_ends, b_values) {
-                Equality::Equal
-            } else {
-                Equality::Different
-            }
-        }
-        Asked::No(r) => Equality::Refused(r),
     }
 }

@@ -28,7 +28,7 @@ use Rattle.reduce.specs.declared.Reduced.{Reduced}
 use Rattle.reduce.specs.declared.Reduction.{Reduction}
 use Rattle.reduce.specs.declared.Reduction.the-variants.{Whole, Fraction, Nothing}
 use Rattle.reduce.specs.declared.Summed.{Summed}
-use Rattle.dense.specs.declared.Equality.{Equality}
+use Rattle.equals.specs.declared.Equality.{Equality}
 use Rattle.slice.specs.declared.View.{View}
 use Rattle.slice.specs.declared.Viewed.{Viewed}
 use Rattle.ffi.specs.declared.RlBatched.{RlBatched}

@@ -36,8 +36,8 @@ use Rattle.reduce.specs.declared.Reduction.{Reduction}
 use Rattle.reduce.specs.declared.Reduction.the-variants.{Whole, Fraction, Nothing}
 use Rattle.reduce.specs.declared.Summed.{Summed}
 use Rattle.reduce.specs.Reduce.{plusZero, kindOf, shownSummed, Reduces, WritesReductions}
-use Rattle.dense.specs.declared.Equality.{Equality}
-use Rattle.dense.specs.Dense.{shownEquality}
+use Rattle.equals.specs.declared.Equality.{Equality}
+use Rattle.equals.specs.Equals.{shownEquality}
 use Rattle.slice.specs.declared.Part.{Part}
 use Rattle.slice.specs.declared.View.{View}
 use Rattle.slice.specs.declared.Viewed.{Viewed}

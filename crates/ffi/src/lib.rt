@@ -8,7 +8,7 @@ use column::answer::Found;
 use column::error::Error;
 use column::error::InKey;
 use column::error::Refusal;
-use dense::Equality;
+use equals::Equality;
 use many::PlannedMany;
 use reduce::Reduced;
 use reduce::Reduction;

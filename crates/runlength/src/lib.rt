@@ -25,6 +25,7 @@ ghost use Rattle.column.specs.Runs.{sequence};
 ghost use Rattle.concat.specs.Concat as concat;
 ghost use Rattle.dense.specs.Dense as dense;
 ghost use Rattle.each.specs.Each as each;
+ghost use Rattle.equals.specs.Equals as equals;
 ghost use Rattle.ffi.specs.Reading.{readFill, LaidCheck, LaidEquality, LaidFound, LaidViewed, LaidSum, LaidReduced, LaidPart, LaidRuns, LaidEntries, LaidRanges, LaidGroups, LaidReductions, LaidPlan, LaidPlanMany, LaidFlat, LaidGot, LaidBatch, LaidCollapse};
 ghost use Rattle.groups.specs.Groups as groups;
 ghost use Rattle.intervals.specs.Intervals as intervals;
@@ -145,9 +146,9 @@ pub extern "C" fn rl_equals(
     b_ends: &[i64],
     b_values: &[i64],
 ) -> RlEquality
-    ensures { λ r. ⌜ LaidEquality (dense.equals (sequence (now («a_ends» .entry)) (now («a_values» .entry))) (sequence (now («b_ends» .entry)) (now («b_values» .entry)))) r ⌝ }
+    ensures { λ r. ⌜ LaidEquality (equals.equals (sequence (now («a_ends» .entry)) (now («a_values» .entry))) (sequence (now («b_ends» .entry)) (now («b_values» .entry)))) r ⌝ }
 {
-    ffi::equality(dense::equals(a_ends, a_values, b_ends, b_values))
+    ffi::equality(equals::equals(a_ends, a_values, b_ends, b_values))
 }
 
 #[no_mangle]

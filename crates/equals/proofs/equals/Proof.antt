@@ -1,10 +1,10 @@
 use mathlib.Core.Path.{sym, _∙_}
 use Rattle.column.proofs.Promised.{asked-yes, asked-no, value-answered, value-refused}
-use Rattle.dense.specs.Dense.{equals}
-use Rattle.dense.proofs.Yes.{equals-yes}
+use Rattle.equals.specs.Equals.{equals}
+use Rattle.equals.proofs.Asks.{equals-yes}
 use borrow.Author.Needs.{needs}
-use Rattle.dense.proofs.equals.Statement.{statement}
-use Rattle.dense.proofs.equals.Tie as tie
+use Rattle.equals.proofs.equals.Statement.{statement}
+use Rattle.equals.proofs.equals.Tie as tie
 
 equals-asks-requires : tie.Need-equals-asks-requires
 equals-asks-requires c κs = search needs

@@ -9,10 +9,10 @@ use Rattle.num.proofs.Bits.{back, bits-eqZ, bits-neZ}
 use Rattle.column.specs.Runs.{lengthOfEnds}
 use Rattle.plan.proofs.Walking.{walk-moves}
 use Rattle.plan.proofs.Step.{more-left, none-more}
-use Rattle.dense.proofs.Comparing.{Compared, compared-start, compared-end, compared-next, compared-differ, other-lengths}
+use Rattle.equals.proofs.Comparing.{Compared, compared-start, compared-end, compared-next, compared-differ, other-lengths}
 use borrow.Author.Needs.{needs}
-use Rattle.dense.proofs.inner.equals.Statement.{statement}
-use Rattle.dense.proofs.inner.equals.Tie as tie
+use Rattle.equals.proofs.inner.equals.Statement.{statement}
+use Rattle.equals.proofs.inner.equals.Tie as tie
 
 abbrev Inv-loop : tie.InvT-loop
 Inv-loop a-ends a-values b-ends b-values here₀ here = Compared a-ends a-values b-ends b-values here

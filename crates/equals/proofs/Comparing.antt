@@ -20,9 +20,9 @@ use Rattle.plan.specs.Walk.{placesAt, Starts, Walks}
 use Rattle.plan.proofs.Columns.{ends-in, both-shown}
 use Rattle.plan.proofs.Listing.{segmentAt, segments-first}
 use Rattle.plan.proofs.Walking.{Walk, walk-start, walk-next, walk-end}
-use Rattle.dense.specs.Dense.{same}
-use Rattle.dense.specs.Workers.{Comparable}
-use Rattle.dense.proofs.Same.{same-segments, same-lengths}
+use Rattle.equals.specs.Equals.{same}
+use Rattle.equals.specs.Workers.{Comparable}
+use Rattle.equals.proofs.Same.{same-segments, same-lengths}
 
 -- a run of code 7 that says that the values differ
 abbrev differs : Run → Bool

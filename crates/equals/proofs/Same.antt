@@ -18,7 +18,7 @@ use Rattle.column.proofs.Positions.{zipDense, table-two}
 use Rattle.column.proofs.Rising.{Valid}
 use Rattle.plan.specs.Plan.{segmentRuns}
 use Rattle.plan.proofs.Raw.{raw-dense, raw-rises}
-use Rattle.dense.specs.Dense.{same}
+use Rattle.equals.specs.Equals.{same}
 
 same-zip : (x y : ℤ) (xs ys : List ℤ) → length xs ≡ length ys → same xs ys ≡ not (any (λ z. eqZ z (pos 0)) (zipDense (operation 7) x y xs ys))
 unfolding zipDense operation

@@ -1,7 +1,7 @@
-use Rattle.dense.proofs.Asks.{equals-asked}
+use Rattle.equals.proofs.Asks.{equals-asked}
 use borrow.Author.Needs.{needs}
-use Rattle.dense.proofs.equals_asks.Statement.{statement}
-use Rattle.dense.proofs.equals_asks.Tie as tie
+use Rattle.equals.proofs.equals_asks.Statement.{statement}
+use Rattle.equals.proofs.equals_asks.Tie as tie
 
 ask-ends-requires : tie.Need-ask-ends-requires
 ask-ends-requires c κs = search needs

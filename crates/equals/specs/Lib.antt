@@ -1,0 +1,3 @@
+-- equals, of rle.rs; to be read after column's definitions.
+pub mod Equals
+pub mod Workers

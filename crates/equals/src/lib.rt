@@ -1,0 +1,47 @@
+pub mod inner;
+
+use column::answer::Asked;
+use column::error::Refusal;
+ghost use mathlib.Core.Path.{_≡_};
+ghost use Rattle.column.specs.Asking.{shownAsked};
+ghost use Rattle.column.specs.Runs.{sequence};
+ghost use Rattle.equals.specs.Equals.{shownEquality};
+ghost use Rattle.equals.specs.Equals as calls;
+
+// The answer of `equals`.
+pub enum Equality {
+    Equal,
+    Different,
+    Refused(Refusal),
+}
+
+fn equals_asks(a_ends: &[i64], a_values: &[i64], b_ends: &[i64], b_values: &[i64]) -> Asked
+    ensures { λ r. ⌜ shownAsked r ≡ calls.equalsAsked (sequence (now («a_ends» .entry)) (now («a_values» .entry))) (sequence (now («b_ends» .entry)) (now («b_values» .entry))) ⌝ }
+{
+    let valid = questions::first_no(questions::ask_ends(a_ends), questions::ask_ends(b_ends));
+    let paired = questions::first_no(
+        questions::ask_lengths(3, b_ends.len(), b_values.len()),
+        valid,
+    );
+    questions::first_no(
+        questions::ask_lengths(3, a_ends.len(), a_values.len()),
+        paired,
+    )
+}
+
+// Whether two sequences show the same values at every position, however their runs are split.
+pub fn equals(a_ends: &[i64], a_values: &[i64], b_ends: &[i64], b_values: &[i64]) -> Equality
+    ensures { λ r. ⌜ shownEquality r ≡ calls.equals (sequence (now («a_ends» .entry)) (now («a_values» .entry))) (sequence (now («b_ends» .entry)) (now («b_values» .entry))) ⌝ }
+{
+    let asked = equals_asks(a_ends, a_values, b_ends, b_values);
+    match asked {
+        Asked::Yes => {
+            if inner::equals(a_ends, a_values, b_ends, b_values) {
+                Equality::Equal
+            } else {
+                Equality::Different
+            }
+        }
+        Asked::No(r) => Equality::Refused(r),
+    }
+}
