@@ -12,11 +12,12 @@ use Rattle.keys.proofs.Blocks.{kept-start}
 use Rattle.reduce.specs.Reduce.{reduction}
 use Rattle.reduce.proofs.Intervals.{Filling, filling-start, filling-next, filling-end}
 use Rattle.batch.specs.Batch.{batch, entries}
-use Rattle.items.specs.Items.{itemRuns}
-use Rattle.items.proofs.Keyed.{item-asked, item-reduced, reductions-many}
+use Rattle.batch.specs.Slices.{itemRuns}
+use Rattle.batch.proofs.Slices.{item-asked}
+use Rattle.batch_reduce.proofs.Reducing.{item-reduced, reductions-many}
 use borrow.Author.Needs.{needs}
-use Rattle.items.proofs.inner.slice_reduce_by.Statement.{statement}
-use Rattle.items.proofs.inner.slice_reduce_by.Tie as tie
+use Rattle.batch_reduce.proofs.inner.slice_reduce_by.Statement.{statement}
+use Rattle.batch_reduce.proofs.inner.slice_reduce_by.Tie as tie
 
 abbrev Inv-loop : tie.InvT-loop
 Inv-loop keys offsets ends values order get-keys starts stops indexed block₀ code ddof out-kinds₀ out-bits₀ at₀ i₀ block out-kinds out-bits at i =

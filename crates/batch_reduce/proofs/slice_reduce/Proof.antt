@@ -2,11 +2,11 @@ use denote.Ref.{now}
 use mir.Facts.{toZ-ofZ}
 use Rattle.column.proofs.Promised.{asked-yes, asked-no}
 use Rattle.reduce.proofs.Intervals.{reductions-written, reductions-refused}
-use Rattle.items.specs.Items.{sliceReduce}
-use Rattle.items.proofs.Asks.{reduce-told}
+use Rattle.batch_reduce.specs.SliceReduce.{sliceReduce}
+use Rattle.batch_reduce.proofs.Asks.{reduce-told}
 use borrow.Author.Needs.{needs}
-use Rattle.items.proofs.slice_reduce.Statement.{statement}
-use Rattle.items.proofs.slice_reduce.Tie as tie
+use Rattle.batch_reduce.proofs.slice_reduce.Statement.{statement}
+use Rattle.batch_reduce.proofs.slice_reduce.Tie as tie
 
 slice-reduce-asks-requires : tie.Need-slice-reduce-asks-requires
 slice-reduce-asks-requires c κs = search needs

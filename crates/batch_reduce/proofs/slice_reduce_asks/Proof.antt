@@ -1,7 +1,7 @@
-use Rattle.items.proofs.Asks.{reduce-asked}
+use Rattle.batch_reduce.proofs.Asks.{reduce-asked}
 use borrow.Author.Needs.{needs}
-use Rattle.items.proofs.slice_reduce_asks.Statement.{statement}
-use Rattle.items.proofs.slice_reduce_asks.Tie as tie
+use Rattle.batch_reduce.proofs.slice_reduce_asks.Statement.{statement}
+use Rattle.batch_reduce.proofs.slice_reduce_asks.Tie as tie
 
 ask-intervals-requires : tie.Need-ask-intervals-requires
 ask-intervals-requires c κs = search needs

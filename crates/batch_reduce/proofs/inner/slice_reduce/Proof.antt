@@ -4,8 +4,8 @@ use lib.ListN.{length-replicate}
 use Rattle.index.proofs.Lowest.{no-test}
 use mir.Facts.{toZ-ofZ}
 use borrow.Author.Needs.{needs}
-use Rattle.items.proofs.inner.slice_reduce.Statement.{statement}
-use Rattle.items.proofs.inner.slice_reduce.Tie as tie
+use Rattle.batch_reduce.proofs.inner.slice_reduce.Statement.{statement}
+use Rattle.batch_reduce.proofs.inner.slice_reduce.Tie as tie
 
 index-pays-requires : tie.Need-index-pays-requires
 index-pays-requires c κs = search needs
