@@ -43,6 +43,7 @@ ghost use Rattle.rle.specs.Rle as calls;
 ghost use Rattle.runs.specs.Constructors as constructors;
 ghost use Rattle.slice.specs.Slice as slice;
 ghost use Rattle.transform.specs.Transform as transform;
+ghost use Rattle.zip_many.specs.ZipMany as zip-many;
 
 #[no_mangle]
 pub extern "C" fn rl_empty() -> RlRle
@@ -251,10 +252,10 @@ pub extern "C" fn rl_zip_many(
     out_values: &mut [i64],
 ) -> RlCounted
     ensures { λ r. ⌜ LaidRuns
-        (many.zipMany (flat (now (offsets .entry)) (now (ends .entry)) (now (values .entry))) (readFill fill) code (length (now («out_ends» .entry)) ∷ length (now («out_values» .entry)) ∷ [])) r
+        (zip-many.zipMany (flat (now (offsets .entry)) (now (ends .entry)) (now (values .entry))) (readFill fill) code (length (now («out_ends» .entry)) ∷ length (now («out_values» .entry)) ∷ [])) r
         (now («out_ends» .entry)) (now («out_ends» .exit)) (now («out_values» .entry)) (now («out_values» .exit)) ⌝ }
 {
-    ffi::counted(many::zip_many(
+    ffi::counted(zip_many::zip_many(
         offsets,
         ends,
         values,

@@ -3,10 +3,10 @@ use native.Mathlib.Omega.{arith}
 use lib.IntN.{pos}
 use mir.Facts.{toZ-ofZ}
 use Rattle.column.proofs.Flattened.{offsets-some}
 use Rattle.many.proofs.Walking.{take-zeros, length-front}
 use borrow.Author.Needs.{needs}
-use Rattle.many.proofs.inner.zip_many.Statement.{statement}
-use Rattle.many.proofs.inner.zip_many.Tie as tie
+use Rattle.zip_many.proofs.inner.zip_many.Statement.{statement}
+use Rattle.zip_many.proofs.inner.zip_many.Tie as tie
 
 sub-k : tie.Need-sub-k
 sub-k c = omega (arith, offsets-some _ _ (c .before .pre .offsets))

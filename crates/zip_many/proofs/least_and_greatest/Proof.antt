@@ -6,10 +6,10 @@ use lib.ListN.{length}
 use mir.Syntax.{w64}
 use mir.Val.{toZ}
 use Rattle.num.proofs.Bits.{back}
-use Rattle.many.proofs.Ranging.{Ranging, ranging-none, ranging-start, ranging-next, ranging-end}
+use Rattle.zip_many.proofs.Ranging.{Ranging, ranging-none, ranging-start, ranging-next, ranging-end}
 use borrow.Author.Needs.{needs}
-use Rattle.many.proofs.least_and_greatest.Statement.{statement}
-use Rattle.many.proofs.least_and_greatest.Tie as tie
+use Rattle.zip_many.proofs.least_and_greatest.Statement.{statement}
+use Rattle.zip_many.proofs.least_and_greatest.Tie as tie
 
 abbrev Inv-loop : tie.InvT-loop
 Inv-loop offsets ends least₀ greatest₀ c₀ least greatest c = Ranging offsets ends (toZ w64 least) (toZ w64 greatest) c

@@ -5,10 +5,10 @@ use mir.Val.{toZ}
 use mir.Syntax.{w64}
 use Rattle.num.specs.Numbers.{operation}
 use Rattle.num.proofs.Bits.{back}
-use Rattle.many.proofs.Folding.{Folding, fold-start, fold-next, fold-end}
+use Rattle.zip_many.proofs.Folding.{Folding, fold-start, fold-next, fold-end}
 use borrow.Author.Needs.{needs}
-use Rattle.many.proofs.inner.fold_by.Statement.{statement}
-use Rattle.many.proofs.inner.fold_by.Tie as tie
+use Rattle.zip_many.proofs.inner.fold_by.Statement.{statement}
+use Rattle.zip_many.proofs.inner.fold_by.Tie as tie
 
 abbrev Inv-loop : tie.InvT-loop
 Inv-loop code shown value₀ c₀ value c = Folding (operation code) shown (toZ w64 value) c

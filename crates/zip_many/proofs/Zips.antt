@@ -21,10 +21,12 @@ use Rattle.plan.specs.Walk.{spent}
 use Rattle.plan.proofs.Listing.{Listing}
 use Rattle.plan.proofs.Segments.{left}
 use Rattle.plan.proofs.Zipping.{starts, shownAt, mergedRuns, zip-none, zip-at, zip-last, zip-more, zip-end}
-use Rattle.many.specs.Workers.{placesOf, Stepped, Combinable}
+use Rattle.many.specs.Workers.{placesOf, Stepped}
+use Rattle.many.proofs.Flats.{many-valid}
 use Rattle.many.proofs.Places.{valuesAt}
-use Rattle.many.proofs.Flats.{ends-many, many-valid, values-columns}
 use Rattle.many.proofs.Walking.{endsOfParts, first-total, Walk, walk-start, walk-none, walk-indexes, walk-few, walk-steps, walk-next}
+use Rattle.zip_many.specs.Workers.{Combinable}
+use Rattle.zip_many.proofs.Flats.{ends-many, values-columns}
 
 module _ (op : ℤ → ℤ → ℤ) (fill : ℤ) (os : List ℕ) (es vs e₀ v₀ : List ℤ) where
   abbrev cs : List Column

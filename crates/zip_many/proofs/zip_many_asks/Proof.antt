@@ -1,10 +1,10 @@
 use mathlib.Core.Path.{_≡_}
 use mir.Syntax.{w64}
 use mir.Val.{toZ, ofZ}
-use Rattle.many.proofs.Asks.{zip-many-asked}
+use Rattle.zip_many.proofs.Asks.{zip-many-asked}
 use borrow.Author.Needs.{needs}
-use Rattle.many.proofs.zip_many_asks.Statement.{statement}
-use Rattle.many.proofs.zip_many_asks.Tie as tie
+use Rattle.zip_many.proofs.zip_many_asks.Statement.{statement}
+use Rattle.zip_many.proofs.zip_many_asks.Tie as tie
 
 ask-both-requires : tie.Need-ask-both-requires
 ask-both-requires c κs = search needs

@@ -2,13 +2,13 @@ use denote.Ref.{now}
 use Rattle.column.specs.Flat.{flat, columns}
 use mathlib.Core.Path.{_∙_}
 use Rattle.num.proofs.Bits.{back}
-use Rattle.many.proofs.Flats.{combined-filled}
+use Rattle.zip_many.proofs.Flats.{combined-filled}
 use Rattle.column.proofs.Promised.{asked-yes, asked-no, runs-written, runs-refused}
-use Rattle.many.specs.Many.{zipMany}
-use Rattle.many.proofs.Asks.{zip-many-yes}
+use Rattle.zip_many.specs.ZipMany.{zipMany}
+use Rattle.zip_many.proofs.Asks.{zip-many-yes}
 use borrow.Author.Needs.{needs}
-use Rattle.many.proofs.zip_many.Statement.{statement}
-use Rattle.many.proofs.zip_many.Tie as tie
+use Rattle.zip_many.proofs.zip_many.Statement.{statement}
+use Rattle.zip_many.proofs.zip_many.Tie as tie
 
 zip-many-asks-requires : tie.Need-zip-many-asks-requires
 zip-many-asks-requires c κs = search needs

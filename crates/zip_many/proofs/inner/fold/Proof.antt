@@ -1,8 +1,8 @@
 use mathlib.Core.Path.{_∙_}
 use Rattle.num.proofs.Bits.{back}
 use borrow.Author.Needs.{needs}
-use Rattle.many.proofs.inner.fold.Statement.{statement}
-use Rattle.many.proofs.inner.fold.Tie as tie
+use Rattle.zip_many.proofs.inner.fold.Statement.{statement}
+use Rattle.zip_many.proofs.inner.fold.Tie as tie
 
 fold-by-requires : tie.Need-fold-by-requires
 fold-by-requires c κs = search needs

@@ -8,13 +8,13 @@ use Rattle.num.specs.Numbers.{operation}
 use Rattle.num.proofs.Bits.{back}
 use Rattle.column.specs.Combine.{folded}
 use Rattle.plan.proofs.Segments.{left}
 use Rattle.many.specs.Workers.{placesOf, Kept}
-use Rattle.many.proofs.Zips.{Zipped, zipped-none, zipped-start, zipped-last, zipped-end, zipped-room, zipped-more}
 use Rattle.many.proofs.Walking.{walk-placed, walk-start, walk-less}
 use Rattle.many.proofs.Keeping.{kept-shown}
-use Rattle.many.proofs.Flats.{placed-some}
-use Rattle.many.proofs.inner.zip_walk.Statement.{statement}
-use Rattle.many.proofs.inner.zip_walk.Tie as tie
+use Rattle.zip_many.proofs.Zips.{Zipped, zipped-none, zipped-start, zipped-last, zipped-end, zipped-room, zipped-more}
+use Rattle.zip_many.proofs.Flats.{placed-some}
+use Rattle.zip_many.proofs.inner.zip_walk.Statement.{statement}
+use Rattle.zip_many.proofs.inner.zip_walk.Tie as tie
 
 abbrev Inv-loop : tie.InvT-loop
 Inv-loop offsets ends values fill code places₀ current₀ shown₀ out-ends₀ out-values₀ end₀ first writer₀ places current shown out-ends out-values end writer = Zipped (operation code) (toZ w64 fill) offsets ends values out-ends₀ out-values₀ places out-ends out-values writer end × Kept offsets ends values (toZ w64 fill) places current shown (length places)
