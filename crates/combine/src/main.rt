@@ -93,7 +93,7 @@ fn combine(
     let mut offsets = [0usize; Rle::MAX_COLUMNS + 1];
     put_offsets(table, &mut offsets);
     let used = used_offsets(&offsets, job.columns);
-    many::zip_many(used, ends, values, fill_of(job), code, out_ends, out_values)
+    zip_many::zip_many(used, ends, values, fill_of(job), code, out_ends, out_values)
 }
 
 fn put_runs(out: usize, buffer: &mut [u8], ends: &[i64], values: &[i64]) -> usize {

@@ -20,7 +20,7 @@ use Rattle.column.proofs.Encoded.{valid-encode}
 use Rattle.column.proofs.Positions.{eachPosition-length}
 use Rattle.column.proofs.Rising.{Valid}
 use Rattle.slice.specs.Slice.{slice}
-use Rattle.many.proofs.Ranging.{longest-sides}
+use Rattle.zip_many.proofs.Ranging.{longest-sides}
 use Rattle.cutting.specs.Cut.{cutPoints, Span, spansFrom, spans}
 use Rattle.cutting.specs.Claim.{NeverShows, cut, JoinsUp}
 use Rattle.cutting.proofs.Tests.{any-map}

@@ -16,7 +16,7 @@ use Rattle.slice.specs.Slice as slice
 use Rattle.transform.specs.Transform as transform
 use Rattle.reduce.specs.Reduce as reduce
 use Rattle.ops.specs.Ops as ops
-use Rattle.many.specs.Many as many
+use Rattle.zip_many.specs.ZipMany as zip-many
 use Rattle.batch.specs.Batch.{Batch, Entry, entries, keysOf, columnsOf, batchValid, batchNeeds}
 use Rattle.each.specs.Each as each
 use Rattle.join.specs.Zip as join
@@ -69,7 +69,7 @@ module _ (lent : List ℕ → List ℕ) where
   zipWith fa fb code a b = ops.zipWith a b fa fb code (lent (both (length (a .ends) + length (b .ends))))
 
   abbrev pub zipMany : Fill → ℕ → Flat → Outcome Runs
-  zipMany fill code f = many.zipMany f fill code (lent (both (length (f .ends))))
+  zipMany fill code f = zip-many.zipMany f fill code (lent (both (length (f .ends))))
 
   abbrev pub zipBatches : ℕ → Fill → Fill → ℕ → Batch → Batch → Outcome (List Entry)
   zipBatches how fa fb code a b = join.zipWith a b how fa fb code (lent (join.zipNeeds a b (join.pairs how (entries a) (entries b))))

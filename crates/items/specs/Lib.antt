@@ -1,3 +1,3 @@
--- The calls of batch.rs that take intervals; to be read after the definitions of column, slice, reduce and batch.
+-- getitems of batch.rs, by intervals each with a key; to be read after the definitions of column, slice and batch.
 pub mod Items
 pub mod Workers

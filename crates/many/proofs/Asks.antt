@@ -1,4 +1,4 @@
--- The questions of the many-way calls, as the code joins them, what a "yes" to all of them tells, and what is promised then.
+-- The questions of plan_many, as the code joins them, what a "yes" to all of them tells, and what is promised then.
 -- Assumes nothing.
 use Prim.Native.Nat.{ℕ, _*_, _-_, _≤_, _<_, _^_}
 use mathlib.Core.Option.{none, some}
@@ -7,27 +7,20 @@ use mathlib.Core.Path.{_≡_, refl, ap, ap₂, sym, _∙_}
 use lib.IntN.{ℤ}
 use lib.ListN.{length}
 use Rattle.num.specs.Numbers.{saturated}
-use Rattle.column.specs.declared.answer.Fill.{Fill}
 use Rattle.column.specs.declared.error.Refusal.{Refusal}
 use Rattle.column.specs.Asking.{Question, firstNo, _otherwise_}
-use Rattle.column.specs.Combine.{many, greatestLength, allFilled}
 use Rattle.column.specs.Flat.{Flat, flat, count, columns, flatAsked}
-use Rattle.column.specs.Lists.{parts}
 use Rattle.column.specs.Paper.{answers, paper}
-use Rattle.column.specs.Questions.{listed, paired, offsetsValid, sequencesValid, atMost, side, filled, roomAt, room, both}
-use Rattle.column.specs.Runs.{lengthOfEnds}
-use Rattle.column.proofs.FirstNo.{AllYes, all-yes, rest-yes, first-several, asked-next, asked-last}
-use Rattle.column.proofs.Flattened.{sequences-told, lengths-by-ends}
-use Rattle.column.proofs.Told.{agree-told, most-told, room-told, both-told}
+use Rattle.column.specs.Questions.{paired, offsetsValid, sequencesValid, atMost, roomAt, room}
+use Rattle.column.proofs.FirstNo.{AllYes, all-yes, first-several, asked-next, asked-last}
+use Rattle.column.proofs.Told.{agree-told, most-told, room-told}
 use Rattle.column.proofs.YesNo.{room-each, room-saturated}
 use Rattle.plan.specs.Plan.{Segment, endsIn, segments}
 use Rattle.many.specs.declared.PlannedMany.{PlannedMany}
 use Rattle.many.specs.declared.inner.Counts.{Counts}
-use Rattle.many.specs.declared.Lengths.{Lengths}
-use Rattle.many.specs.Many.{mostColumns, planManyAsked, leastLength, zipManyAsked, WritesPlanMany}
-use Rattle.many.specs.Workers.{Plannable, Zippable, PlanManyFilled, LengthsOf, fromFirst, leastFrom, greatestFrom}
+use Rattle.many.specs.Many.{mostColumns, planManyAsked, WritesPlanMany}
+use Rattle.many.specs.Workers.{Plannable, PlanManyFilled}
 use Rattle.many.proofs.Flats.{ends-columns}
-use Rattle.many.proofs.Ranging.{least-is, greatest-is, many-filled}
 use Rattle.many.proofs.Walking.{endsOfParts}
 
 module _ (os : List ℕ) (es vs : List ℤ) where
@@ -36,8 +29,6 @@ module _ (os : List ℕ) (es vs : List ℤ) where
 
   abbrev most : Question
   most = atMost mostColumns (count f)
-
-  -- ---- plan_many
 
   abbrev needs : List ℕ
   needs = length es ∷ length es * count f ∷ []
@@ -55,8 +46,8 @@ module _ (os : List ℕ) (es vs : List ℤ) where
       ∙ sym (room-each needs (e ∷ x ∷ []))))
       ∙ sym (first-several (flatAsked f) (most ∷ room needs (e ∷ x ∷ []) ∷ []))
 
-  -- what a "yes" to the questions of both tells
-  flat-yes : (qs : List Question) → firstNo (flatAsked f ++ most ∷ qs) ≡ none
+  -- what a "yes" to the questions of a many-way call tells
+  pub flat-yes : (qs : List Question) → firstNo (flatAsked f ++ most ∷ qs) ≡ none
       → (length es ≡ length vs) × (offsetsValid os (length es) ≡ none) × (sequencesValid os es ≡ none) × (length os - 1 ≤ mostColumns) × AllYes qs
   unfolding paired
   flat-yes qs h =
@@ -81,45 +72,6 @@ module _ (os : List ℕ) (es vs : List ℤ) where
   pub plan-many-segments : (buffers : List ℕ) → planManyAsked f buffers ≡ none → segments (map endsIn (columns f)) ≡ segments (endsOfParts os es)
   unfolding planManyAsked
   plan-many-segments buffers h = let y = flat-yes (room needs buffers ∷ []) h in ap segments (ends-columns os es vs (y .0) (y .2))
-
-  -- ---- zip_many
-
-  module _ (fill : Fill) where
-    abbrev fills : Question
-    fills = allFilled (leastLength (columns f)) (greatestLength (many fill (columns f))) (many fill (columns f))
-
-    -- 10, by the last ends
-    filled-asked : {q : Question} {x y : ℤ} {n : Lengths} → q ≡ filled x y (side x fill ∷ side y fill ∷ []) → x ≡ n .least → y ≡ n .greatest
-        → LengthsOf (map lengthOfEnds (parts os es)) n → length es ≡ length vs → sequencesValid os es ≡ none → q ≡ fills
-    filled-asked hq ex ey n l v =
-        let e = lengths-by-ends os es vs l (sequences-told os es v) in
-        hq
-        ∙ many-filled fill (columns f)
-        (ex ∙ n .least ∙ ap (fromFirst leastFrom) (sym e) ∙ least-is (columns f)) (ey ∙ n .greatest ∙ ap (fromFirst greatestFrom) (sym e) ∙ greatest-is fill (columns f))
-
-    pub zip-many-asked : (code e v : ℕ) {r s t : Question} → r ≡ firstNo (s ∷ t ∷ []) → s ≡ listed 0 9 code
-        → {a b : Question} → t ≡ firstNo (a ∷ b ∷ []) → a ≡ firstNo (flatAsked f)
-        → {c d : Question} {k : ℕ} → b ≡ firstNo (c ∷ d ∷ []) → c ≡ atMost mostColumns k → k ≡ length os - 1
-        → {g h : Question} {x y : ℤ} {n : Lengths} → d ≡ firstNo (g ∷ h ∷ []) → g ≡ filled x y (side x fill ∷ side y fill ∷ []) → x ≡ n .least → y ≡ n .greatest
-        → LengthsOf (map lengthOfEnds (parts os es)) n → h ≡ room (both (length es)) (e ∷ v ∷ [])
-        → r ≡ zipManyAsked f fill code (e ∷ v ∷ [])
-    unfolding zipManyAsked paired
-    zip-many-asked code e v hr hs ht ha hb hc ek hd hg ex ey hn hh =
-        let space = room (both (length es)) (e ∷ v ∷ []) in
-        asked-next (listed 0 9 code) (flatAsked f ++ most ∷ fills ∷ space ∷ []) hr hs
-        (λ y. asked-next (firstNo (flatAsked f)) (most ∷ fills ∷ space ∷ []) ht ha
-        (λ z. let w = all-yes (flatAsked f) z in
-        asked-next most (fills ∷ space ∷ []) hb (hc ∙ ap (atMost mostColumns) ek)
-        (λ o. asked-last fills hd (filled-asked hg ex ey hn (agree-told 3 (length es) (length vs) (w .0)) (w .1 .1 .0)) (λ p. hh)))
-        ∙ sym (first-several (flatAsked f) (most ∷ fills ∷ space ∷ [])))
-
-    pub zip-many-yes : (code : ℕ) (e v : List ℤ) → zipManyAsked f fill code (length e ∷ length v ∷ []) ≡ none → Zippable os es vs e v
-    unfolding zipManyAsked
-    zip-many-yes code e v h =
-        let space = room (both (length es)) (length e ∷ length v ∷ []) in
-        let y = flat-yes (fills ∷ space ∷ []) (rest-yes (listed 0 9 code) (flatAsked f ++ most ∷ fills ∷ space ∷ []) h) in
-        let r = both-told (length es) (length e) (length v) (y .4 .1 .0) in
-        record { offsets = y .1; valid = y .2; columns = y .3; paired = y .0; room-ends = r .0; room-values = r .1 }
 
 -- ---- what is promised
 

@@ -1,12 +1,9 @@
 pub mod Asks
 pub mod Entries
 pub mod Flats
-pub mod Folding
 pub mod Keeping
 pub mod Places
 pub mod Planning
-pub mod Ranging
 pub mod Shown
 pub mod Stepping
 pub mod Walking
-pub mod Zips

@@ -1,4 +1,4 @@
--- What the workers of the many-way calls require and leave.
+-- What the workers of the walk and of plan_many require and leave.
 use Prim.Native.Nat.{ℕ, _+_, _*_, _-_, _≤_, _<_, _^_}
 use mathlib.Core.Bool.{cond}
 use mathlib.Core.Option.{Option, none, some}
@@ -7,14 +7,12 @@ use mathlib.Core.Path.{_≡_}
 use lib.Dec.{eqb, ltb}
 use lib.IntN.{ℤ, pos}
 use lib.ListN.{length, getD, drop, set, replicate}
-use Rattle.num.specs.Numbers.{smallerOf, largerOf}
 use Rattle.column.specs.Lists.{part, parts}
 use Rattle.column.specs.Questions.{endsValid, offsetsValid, sequencesValid}
 use Rattle.column.specs.Runs.{magnitude, over}
 use Rattle.plan.specs.Plan.{Place, Segment, leastEnd, rests, indexes, stepped, segmentEnds}
 use Rattle.plan.specs.Walk.{placeAt, spent, EndAt}
 use Rattle.many.specs.declared.inner.Counts.{Counts}
-use Rattle.many.specs.declared.Lengths.{Lengths}
 use Rattle.many.specs.Many.{mostColumns, allIndexes}
 
 -- where columns stand, by the index of each one's current run
@@ -89,14 +87,7 @@ pub record Walkable (os : List ℕ) (es : List ℤ) (is : List ℕ) : Type 0 whe
   pub valid : sequencesValid os es ≡ none
   pub first : is ≡ replicate (length os - 1) 0
 
--- and as many values as ends, and two buffers with room for a run of each of their segments
-pub record Combinable (os : List ℕ) (es vs : List ℤ) (is : List ℕ) (e v : List ℤ) : Type 0 where
-  pub walkable : Walkable os es is
-  pub paired : length es ≡ length vs
-  pub room-ends : length es ≤ length e
-  pub room-values : length es ≤ length v
-
--- every question of plan_many answered "yes", and of zip_many
+-- every question of plan_many answered "yes"
 pub record Plannable (os : List ℕ) (es vs e : List ℤ) (x : List ℕ) : Type 0 where
   pub paired : length es ≡ length vs
   pub offsets : offsetsValid os (length es) ≡ none
@@ -105,36 +96,9 @@ pub record Plannable (os : List ℕ) (es vs e : List ℤ) (x : List ℕ) : Type 
   pub room-ends : length es ≤ length e
   pub room-indexes : length es * (length os - 1) ≤ length x
 
-pub record Zippable (os : List ℕ) (es vs e v : List ℤ) : Type 0 where
-  pub offsets : offsetsValid os (length es) ≡ none
-  pub valid : sequencesValid os es ≡ none
-  pub columns : length os - 1 ≤ mostColumns
-  pub paired : length es ≡ length vs
-  pub room-ends : length es ≤ length e
-  pub room-values : length es ≤ length v
-
 -- the segments in two buffers, each before and after, and how many entries each got
 pub record PlanManyFilled (ss : List Segment) (e e′ : List ℤ) (x x′ : List ℕ) (r : Counts) : Type 0 where
   pub segments : r .segments ≡ length ss
   pub indexes : r .indexes ≡ length (allIndexes ss)
   pub ends-written : e′ ≡ over (segmentEnds ss) e
   pub indexes-written : x′ ≡ over (allIndexes ss) x
-
--- ---- the least and the greatest of lengths
-
-abbrev pub leastFrom : ℤ → List ℤ → ℤ
-leastFrom n [] = n
-leastFrom n (m ∷ ms) = leastFrom (smallerOf n m) ms
-
-abbrev pub greatestFrom : ℤ → List ℤ → ℤ
-greatestFrom n [] = n
-greatestFrom n (m ∷ ms) = greatestFrom (largerOf n m) ms
-
--- from the first of them on, or 0 where there is none
-abbrev pub fromFirst : (ℤ → List ℤ → ℤ) → List ℤ → ℤ
-fromFirst f [] = pos 0
-fromFirst f (n ∷ ns) = f n ns
-
-pub record LengthsOf (ns : List ℤ) (r : Lengths) : Type 0 where
-  pub least : r .least ≡ fromFirst leastFrom ns
-  pub greatest : r .greatest ≡ fromFirst greatestFrom ns

@@ -1,5 +1,4 @@
-// Workers that assume what the calls have asked, and the walk over the segments of many columns. The ends are valid.
-use column::inner::Writer;
+// Workers that assume what the call has asked, and the walk over the segments of many columns. The ends are valid.
 use column::sequence;
 use plan::inner::SPENT;
 ghost use Prim.Native.Nat.{_+_, _*_, _-_, _≤_, _<_, _^_};
@@ -9,16 +8,12 @@ ghost use mathlib.Core.Option.{none};
 ghost use mathlib.Core.Path.{_≡_};
 ghost use lib.Dec.{eqb};
 ghost use lib.ListN.{length, getD, take, drop};
-ghost use Rattle.num.specs.Numbers.{operation};
-ghost use Rattle.column.specs.declared.answer.Fill.the-variants.{Value};
-ghost use Rattle.column.specs.Combine.{many, folded, combined};
-ghost use Rattle.column.specs.Flat.{flat, columns};
 ghost use Rattle.column.specs.Lists.{part, parts};
 ghost use Rattle.column.specs.Questions.{endsValid};
-ghost use Rattle.column.specs.Runs.{magnitude, lengthOfEnds, over, Filled};
+ghost use Rattle.column.specs.Runs.{magnitude, lengthOfEnds, over};
 ghost use Rattle.plan.specs.Plan.{segments};
 ghost use Rattle.plan.specs.Walk.{spent, EndAt};
-ghost use Rattle.many.specs.Workers.{InColumn, Placed, Paired, Kept, ColumnPlaced, ColumnStepped, Stepped, Walkable, Combinable, Plannable, Zippable, PlanManyFilled};
+ghost use Rattle.many.specs.Workers.{InColumn, Placed, Paired, Kept, ColumnPlaced, ColumnStepped, Stepped, Walkable, Plannable, PlanManyFilled};
 
 // How many segments were written, and how many indexes.
 pub struct Counts {
@@ -60,7 +55,7 @@ fn value_at(values: &[i64], from: usize, to: usize, place: usize, fill: i64) -> 
 }
 
 // The end and the value of each column's run where it stands, read into `current` and `shown`.
-fn read_current(
+pub fn read_current(
     offsets: &[usize],
     ends: &[i64],
     values: &[i64],
@@ -119,7 +114,7 @@ fn step_column(
 
 // Each column whose current run ends at `start` goes on to its next one. The least of the ends of the runs that are current then, or
 // `SPENT`. What a column shows is kept beside its place: of many columns few go on, and only those are looked up.
-fn step(
+pub fn step(
     offsets: &[usize],
     ends: &[i64],
     values: &[i64],
@@ -152,39 +147,6 @@ fn step(
         c += 1;
     }
     least
-}
-
-// What the columns show, folded from the first one.
-fn fold_by(code: u8, shown: &[i64]) -> i64
-    requires { ⌜ 0 < length (now shown) ⌝ }
-    ensures { λ r. ⌜ r ≡ folded (operation code) (now (shown .entry)) ⌝ }
-{
-    let mut value = shown[0];
-    let mut c: usize = 1;
-    while c < shown.len() {
-        value = num::apply(code, value, shown[c]);
-        c += 1;
-    }
-    value
-}
-
-// The same, with a loop for each operation: where the code is written out, the compiler keeps its test out of the loop.
-fn fold(code: u8, shown: &[i64]) -> i64
-    requires { ⌜ 0 < length (now shown) ⌝ }
-    ensures { λ r. ⌜ r ≡ folded (operation code) (now (shown .entry)) ⌝ }
-{
-    match code {
-        0 => fold_by(0, shown),
-        1 => fold_by(1, shown),
-        2 => fold_by(2, shown),
-        3 => fold_by(3, shown),
-        4 => fold_by(4, shown),
-        5 => fold_by(5, shown),
-        6 => fold_by(6, shown),
-        7 => fold_by(7, shown),
-        8 => fold_by(8, shown),
-        _ => fold_by(code, shown),
-    }
 }
 
 // The places, written from `at` on; the index behind them.
@@ -254,68 +216,5 @@ pub fn plan_many(
         &mut shown[..k],
         out_ends,
         out_idx,
-    )
-}
-
-// What the columns show together, merged, with the columns' places in a lent buffer.
-fn zip_walk(
-    offsets: &[usize],
-    ends: &[i64],
-    values: &[i64],
-    fill: i64,
-    code: u8,
-    places: &mut [usize],
-    current: &mut [usize],
-    shown: &mut [i64],
-    out_ends: &mut [i64],
-    out_values: &mut [i64],
-) -> usize
-    requires { ⌜ Combinable (now offsets) (now ends) (now values) (now places) (now «out_ends») (now «out_values») × Paired (now ends) (now values) (now places) (now current) (now shown) ⌝ }
-    ensures { λ r. ⌜ Filled (combined (operation code) (many (Value fill) (columns (flat (now (offsets .entry)) (now (ends .entry)) (now (values .entry))))))
-        (now («out_ends» .entry)) (now («out_ends» .exit)) (now («out_values» .entry)) (now («out_values» .exit)) r ⌝ }
-{
-    if ends.len() == 0 {
-        return 0;
-    }
-    read_current(offsets, ends, values, fill, places, current, shown);
-    let mut end = step(offsets, ends, values, fill, 0, places, current, shown);
-    let first = fold(code, shown);
-    let mut writer = Writer { at: 0, last: first };
-    while end < SPENT {
-        let value = fold(code, shown);
-        writer = column::inner::push_merged(writer, out_ends, out_values, end as i64, value);
-        end = step(offsets, ends, values, fill, end, places, current, shown);
-    }
-    writer.at + 1
-}
-
-pub fn zip_many(
-    offsets: &[usize],
-    ends: &[i64],
-    values: &[i64],
-    fill: i64,
-    code: u8,
-    out_ends: &mut [i64],
-    out_values: &mut [i64],
-) -> usize
-    requires { ⌜ Zippable (now offsets) (now ends) (now values) (now «out_ends») (now «out_values») ⌝ }
-    ensures { λ r. ⌜ Filled (combined (operation code) (many (Value fill) (columns (flat (now (offsets .entry)) (now (ends .entry)) (now (values .entry))))))
-        (now («out_ends» .entry)) (now («out_ends» .exit)) (now («out_values» .entry)) (now («out_values» .exit)) r ⌝ }
-{
-    let k = offsets.len() - 1;
-    let mut places = [0usize; rle::Rle::MAX_COLUMNS];
-    let mut current = [0usize; rle::Rle::MAX_COLUMNS];
-    let mut shown = [0i64; rle::Rle::MAX_COLUMNS];
-    zip_walk(
-        offsets,
-        ends,
-        values,
-        fill,
-        code,
-        &mut places[..k],
-        &mut current[..k],
-        &mut shown[..k],
-        out_ends,
-        out_values,
     )
 }

@@ -19,6 +19,7 @@ ghost use mathlib.Core.Path.{_≡_};
 ghost use lib.ListN.{length};
 ghost use Rattle.batch.specs.Batch.{batch};
 ghost use Rattle.batch.specs.Calls as batches;
+ghost use Rattle.batch_reduce.specs.SliceReduce as batch-reduce;
 ghost use Rattle.collapse.specs.Collapse as collapse;
 ghost use Rattle.column.specs.Flat.{flat};
 ghost use Rattle.column.specs.Runs.{sequence};
@@ -44,6 +45,7 @@ ghost use Rattle.runs.specs.Constructors as constructors;
 ghost use Rattle.shift.specs.Shift as shift;
 ghost use Rattle.slice.specs.Slice as slice;
 ghost use Rattle.transform.specs.Transform as transform;
+ghost use Rattle.zip_many.specs.ZipMany as zip-many;
 
 #[no_mangle]
 pub extern "C" fn rl_empty() -> RlRle
@@ -252,10 +254,10 @@ pub extern "C" fn rl_zip_many(
     out_values: &mut [i64],
 ) -> RlCounted
     ensures { λ r. ⌜ LaidRuns
-        (many.zipMany (flat (now (offsets .entry)) (now (ends .entry)) (now (values .entry))) (readFill fill) code (length (now («out_ends» .entry)) ∷ length (now («out_values» .entry)) ∷ [])) r
+        (zip-many.zipMany (flat (now (offsets .entry)) (now (ends .entry)) (now (values .entry))) (readFill fill) code (length (now («out_ends» .entry)) ∷ length (now («out_values» .entry)) ∷ [])) r
         (now («out_ends» .entry)) (now («out_ends» .exit)) (now («out_values» .entry)) (now («out_values» .exit)) ⌝ }
 {
-    ffi::counted(many::zip_many(
+    ffi::counted(zip_many::zip_many(
         offsets,
         ends,
         values,
@@ -594,10 +596,10 @@ pub extern "C" fn rl_batch_slice_reduce(
     out_bits: &mut [u64],
 ) -> RlCounted
     ensures { λ r. ⌜ LaidReductions
-        (items.sliceReduce (batch (now (keys .entry)) (now (offsets .entry)) (now (ends .entry)) (now (values .entry))) (now («get_keys» .entry)) (now (starts .entry)) (now (stops .entry)) code ddof (length (now («out_kinds» .entry)) ∷ length (now («out_bits» .entry)) ∷ [])) r
+        (batch-reduce.sliceReduce (batch (now (keys .entry)) (now (offsets .entry)) (now (ends .entry)) (now (values .entry))) (now («get_keys» .entry)) (now (starts .entry)) (now (stops .entry)) code ddof (length (now («out_kinds» .entry)) ∷ length (now («out_bits» .entry)) ∷ [])) r
         (now («out_kinds» .entry)) (now («out_kinds» .exit)) (now («out_bits» .entry)) (now («out_bits» .exit)) ⌝ }
 {
-    ffi::counted(items::slice_reduce(
+    ffi::counted(batch_reduce::slice_reduce(
         keys,
         offsets,
         ends,

@@ -7,9 +7,9 @@ use Rattle.column.specs.Asking.{shownAsked}
 use Rattle.column.proofs.Promised.{asked-yes, asked-no}
 use Rattle.slice.proofs.Items.{flat-written, flat-refused}
 use Rattle.batch.specs.Batch.{batch}
+use Rattle.batch.proofs.Slices.{items-many}
 use Rattle.items.specs.Items.{getitemsAsked, getitems}
 use Rattle.items.proofs.Asks.{items-told, roomAsked, room-asked, first-refused, then-room, gettable}
-use Rattle.items.proofs.Keyed.{items-many}
 use borrow.Author.Needs.{needs}
 use Rattle.items.proofs.getitems.Statement.{statement}
 use Rattle.items.proofs.getitems.Tie as tie

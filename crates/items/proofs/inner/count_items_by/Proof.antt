@@ -6,8 +6,9 @@ use Rattle.num.proofs.Bits.{back}
 use Rattle.keys.specs.Workers.{Kept}
 use Rattle.keys.proofs.Blocks.{kept-start}
 use Rattle.batch.specs.Batch.{batch, entries}
-use Rattle.items.specs.Items.{itemRuns}
-use Rattle.items.proofs.Keyed.{items-many, item-count, Counting, counting-start, counting-next, counting-end}
+use Rattle.batch.specs.Slices.{itemRuns}
+use Rattle.batch.proofs.Slices.{items-many}
+use Rattle.items.proofs.Keyed.{item-count, Counting, counting-start, counting-next, counting-end}
 use borrow.Author.Needs.{needs}
 use Rattle.items.proofs.inner.count_items_by.Statement.{statement}
 use Rattle.items.proofs.inner.count_items_by.Tie as tie

@@ -10,7 +10,7 @@ use Rattle.keys.specs.Workers.{Kept}
 use Rattle.keys.proofs.Blocks.{kept-start}
 use Rattle.slice.proofs.Items.{Laying}
 use Rattle.batch.specs.Batch.{batch, entries}
-use Rattle.items.specs.Items.{itemRuns}
+use Rattle.batch.specs.Slices.{itemRuns}
 use Rattle.items.proofs.Keyed.{item-touches, item-filled, laid-start, laid-room, laid-next, laid-end}
 use borrow.Author.Needs.{needs}
 use Rattle.items.proofs.inner.getitems_by.Statement.{statement}

@@ -1,0 +1,5 @@
+pub mod Asks
+pub mod Flats
+pub mod Folding
+pub mod Ranging
+pub mod Zips

@@ -1,0 +1,109 @@
+// zip_many, above the walk over many columns.
+pub mod inner;
+
+use column::answer::Asked;
+use column::answer::Counted;
+use column::answer::Fill;
+ghost use mathlib.Core.List.{[], _∷_, map};
+ghost use mathlib.Core.Path.{_≡_};
+ghost use lib.ListN.{length};
+ghost use Rattle.column.specs.Asking.{shownAsked};
+ghost use Rattle.column.specs.Flat.{flat};
+ghost use Rattle.column.specs.Lists.{parts};
+ghost use Rattle.column.specs.Paper.{WritesRuns};
+ghost use Rattle.column.specs.Runs.{lengthOfEnds};
+ghost use Rattle.zip_many.specs.ZipMany as calls;
+ghost use Rattle.zip_many.specs.Workers.{LengthsOf};
+
+// The least and the greatest length of columns.
+pub struct Lengths {
+    pub least: i64,
+    pub greatest: i64,
+}
+
+fn least_and_greatest(offsets: &[usize], ends: &[i64]) -> Lengths
+    ensures { λ r. ⌜ LengthsOf (map lengthOfEnds (parts (now (offsets .entry)) (now (ends .entry)))) r ⌝ }
+{
+    if offsets.len() < 2 {
+        return Lengths {
+            least: 0,
+            greatest: 0,
+        };
+    }
+    let mut least = many::inner::length_at(offsets, ends, 0);
+    let mut greatest = least;
+    let mut c: usize = 1;
+    while c + 1 < offsets.len() {
+        let length = many::inner::length_at(offsets, ends, c);
+        least = num::smaller(least, length);
+        greatest = num::larger(greatest, length);
+        c += 1;
+    }
+    Lengths { least, greatest }
+}
+
+// The least and the greatest length stand for all: a column that is shorter than another lacks its fill exactly if the shortest does.
+fn zip_many_asks(
+    offsets: &[usize],
+    ends: &[i64],
+    values: &[i64],
+    fill: Fill,
+    code: u8,
+    out_ends: usize,
+    out_values: usize,
+) -> Asked
+    ensures { λ r. ⌜ shownAsked r ≡ calls.zipManyAsked (flat (now (offsets .entry)) (now (ends .entry)) (now (values .entry))) fill code («out_ends» ∷ «out_values» ∷ []) ⌝ }
+{
+    let room = questions::ask_both(ends.len(), out_ends, out_values);
+    let lengths = least_and_greatest(offsets, ends);
+    let filled = questions::first_no(
+        questions::ask_fills(lengths.least, lengths.greatest, fill, fill),
+        room,
+    );
+    let most = questions::first_no(
+        questions::ask_columns(rle::Rle::MAX_COLUMNS, many::columns(offsets)),
+        filled,
+    );
+    let valid = questions::first_no(questions::ask_flat(offsets, ends, values), most);
+    questions::first_no(questions::ask_code(0, 9, code), valid)
+}
+
+// Many columns combined position by position, folded from the first, merged.
+pub fn zip_many(
+    offsets: &[usize],
+    ends: &[i64],
+    values: &[i64],
+    fill: Fill,
+    code: u8,
+    out_ends: &mut [i64],
+    out_values: &mut [i64],
+) -> Counted
+    ensures { λ r. ⌜ WritesRuns
+        (calls.zipMany (flat (now (offsets .entry)) (now (ends .entry)) (now (values .entry))) fill code (length (now («out_ends» .entry)) ∷ length (now («out_values» .entry)) ∷ [])) r
+        (now («out_ends» .entry)) (now («out_ends» .exit)) (now («out_values» .entry)) (now («out_values» .exit)) ⌝ }
+{
+    let asked = zip_many_asks(
+        offsets,
+        ends,
+        values,
+        fill,
+        code,
+        out_ends.len(),
+        out_values.len(),
+    );
+    match asked {
+        Asked::Yes => {
+            let n = inner::zip_many(
+                offsets,
+                ends,
+                values,
+                fill.value(),
+                code,
+                out_ends,
+                out_values,
+            );
+            Counted::Count(n)
+        }
+        Asked::No(r) => Counted::Refused(r),
+    }
+}
