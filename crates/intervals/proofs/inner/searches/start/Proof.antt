@@ -1,19 +1,20 @@
+use mathlib.Core.Path.{_∙_}
+use Prim.Native.Nat.{_-_}
+use native.Mathlib.Omega.{arith}
+use Rattle.num.proofs.Bits.{back}
+use Rattle.intervals.proofs.Searches.{Beginning, beginning-start, beginning-next, beginning-end}
 use borrow.Author.Needs.{needs}
 use Rattle.intervals.proofs.inner.searches.start.Statement.{statement}
 use Rattle.intervals.proofs.inner.searches.start.Tie as tie
-use Rattle.intervals.proofs.inner.searches.start.Reads as reads
-use Rattle.intervals.proofs.inner.searches.start.Lts as lts
-use Rattle.column.proofs.sequence.entry_or.Reads as entry-or-reads
-use Rattle.intervals.proofs.inner.searches.place.Reads as place-reads
 
 abbrev Inv-loop : tie.InvT-loop
-Inv-loop ends positions from back places₀ lows₀ k₀ places lows k = ?
+Inv-loop ends positions from back places₀ lows₀ k₀ places lows k = Beginning ends positions from back places lows k
 
 abbrev μ-loop : tie.MeasureT-loop
-μ-loop ends positions from back places₀ lows₀ k₀ places lows k = ?
+μ-loop ends positions from back places₀ lows₀ k₀ places lows k = 16 - k
 
 loop-holds : tie.Need-loop-holds Inv-loop μ-loop
-loop-holds c = search needs
+loop-holds c = beginning-start _ _ _ _ (c .before .before .pre .0) (c .before .before .pre .1)
 
 add-entry-or : tie.Need-add-entry-or Inv-loop μ-loop
 add-entry-or c = search needs
@@ -43,7 +44,8 @@ loop-less : tie.Need-loop-less Inv-loop μ-loop
 loop-less c = search needs
 
 loop-again : tie.Need-loop-again Inv-loop μ-loop
-loop-again c = search needs
+loop-again c = let e = c .before in
+    beginning-next (e .before .before .loop .inv) (e .before .loop-test .taken) (back _ (e .entry-or .ok) ∙ e .entry-or .ensures) (c .place .ensures)
 
 same-length : tie.Need-same-length Inv-loop μ-loop
 same-length c = search needs
@@ -52,7 +54,7 @@ same-length-2 : tie.Need-same-length-2 Inv-loop μ-loop
 same-length-2 c = search needs
 
 returns : tie.Need-returns Inv-loop μ-loop
-returns c = search needs
+returns c = beginning-end (c .before .loop .inv) (c .loop-test .left)
 
 pub start-spec : {M : Type 1} → statement M
 start-spec =
