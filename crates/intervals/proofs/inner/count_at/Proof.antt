@@ -1,11 +1,6 @@
 use borrow.Author.Needs.{needs}
 use Rattle.intervals.proofs.inner.count_at.Statement.{statement}
 use Rattle.intervals.proofs.inner.count_at.Tie as tie
-use Rattle.intervals.proofs.inner.count_at.Reads as reads
-use Rattle.intervals.proofs.inner.count_at.Lts as lts
-use Rattle.column.proofs.sequence.length.Reads as length-reads
-use Rattle.num.proofs.larger.Reads as larger-reads
-use Rattle.num.proofs.smaller.Reads as smaller-reads
 
 larger-requires : tie.Need-larger-requires
 larger-requires c κs = search needs

@@ -1,11 +1,6 @@
 use borrow.Author.Needs.{needs}
 use Rattle.intervals.proofs.inner.slice_at.Statement.{statement}
 use Rattle.intervals.proofs.inner.slice_at.Tie as tie
-use Rattle.intervals.proofs.inner.slice_at.Reads as reads
-use Rattle.intervals.proofs.inner.slice_at.Lts as lts
-use Rattle.column.proofs.sequence.length.Reads as length-reads
-use Rattle.num.proofs.larger.Reads as larger-reads
-use Rattle.num.proofs.smaller.Reads as smaller-reads
 
 abbrev Inv-loop : tie.InvT-loop
 Inv-loop ends values first start stop out-ends₀ out-values₀ from to n₀ more₀ out-ends out-values n more =

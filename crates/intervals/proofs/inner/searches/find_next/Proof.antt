@@ -1,4 +1,3 @@
-use native.Mathlib.Omega.{arith}
 use mathlib.Core.Path.{refl}
 use Rattle.intervals.proofs.Searches.{kept-at, kept-next, kept-block}
 use borrow.Author.Needs.{needs}

@@ -1,8 +1,7 @@
 use Prim.Native.Nat.{ℕ, _+_, _<_}
 use mathlib.Core.Path.{_≡_, sym, _∙_}
-use native.Mathlib.Omega.{arith}
 use lib.IntN.{pos}
-use lib.ListN.{length, getD}
+use lib.ListN.{getD}
 use Rattle.intervals.specs.Searches.{sought, Halvings}
 use Rattle.intervals.proofs.Searches.{searches-end}
 use borrow.Author.Needs.{needs}

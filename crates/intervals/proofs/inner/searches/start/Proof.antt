@@ -1,6 +1,5 @@
 use mathlib.Core.Path.{_∙_}
 use Prim.Native.Nat.{_-_}
-use native.Mathlib.Omega.{arith}
 use Rattle.num.proofs.Bits.{back}
 use Rattle.intervals.proofs.Searches.{Beginning, beginning-start, beginning-next, beginning-end}
 use borrow.Author.Needs.{needs}
