@@ -2,3 +2,4 @@ pub mod Asks
 pub mod Examples
 pub mod Items
 pub mod Reductions
+pub mod Until
