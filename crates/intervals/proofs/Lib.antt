@@ -3,3 +3,4 @@ pub mod Examples
 pub mod Items
 pub mod Reductions
 pub mod Searches
+pub mod Until
