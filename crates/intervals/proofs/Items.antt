@@ -14,13 +14,12 @@ use Rattle.column.specs.Lists.{total}
 use Rattle.column.specs.Questions.{endsValid}
 use Rattle.column.specs.Runs.{Runs, runsOf, Filled}
 use Rattle.column.proofs.Rest.{rest-length}
-use Rattle.slice.specs.declared.search.TouchedRuns.{TouchedRuns}
 use Rattle.slice.specs.Search.{touchedBy}
 use Rattle.slice.specs.Slice.{sliceRuns}
 use Rattle.intervals.specs.Intervals.{intervalRuns}
-use Rattle.slice.specs.Workers.{cutRuns, Touches}
-use Rattle.intervals.specs.Workers.{intervalCounts}
-use Rattle.slice.proofs.Touching.{cut-touched, touches, touched-count}
+use Rattle.intervals.specs.Searches.{found}
+use Rattle.intervals.specs.Workers.{intervalCounts, SliceAt}
+use Rattle.slice.proofs.Touching.{touched-count}
 
 -- ---- the slice of each interval
 
@@ -44,29 +43,27 @@ counts-are [] stops es vs v l = refl
 counts-are (s ∷ ss) [] es vs v l = refl
 counts-are (s ∷ ss) (e ∷ ts) es vs v l = ap₂ (λ (n : ℕ) (ns : List ℕ). n ∷ ns) (touched-count s e es vs v l) (counts-are ss ts es vs v l)
 
--- the slice of the interval at i, by the runs that the code found
+-- the slice of the interval at i
 module _ (es vs starts stops : List ℤ) (valid : endsValid es ≡ none) (l : length es ≡ length vs) (m : length starts ≡ length stops) (i : ℕ) (h : i < length starts)
-    {x y : ℤ} {t : TouchedRuns} (ex : x ≡ getD starts i (pos 0)) (ey : y ≡ getD stops i (pos 0)) (et : endsValid es ≡ none → t ≡ touchedBy x y es) where
+    {x y : ℤ} (ex : x ≡ getD starts i (pos 0)) (ey : y ≡ getD stops i (pos 0)) where
   abbrev item : Runs
   item = getD (intervalRuns starts stops (runsOf es vs)) i []
 
-  found : t ≡ touchedBy (getD starts i (pos 0)) (getD stops i (pos 0)) es
-  found = et valid ∙ ap₂ (λ (a b : ℤ). touchedBy a b es) ex ey
+  item-is : sliceRuns x y (runsOf es vs) ≡ item
+  item-is = ap₂ (λ (a b : ℤ). sliceRuns a b (runsOf es vs)) ex ey ∙ sym (item-at starts stops (runsOf es vs) i m h)
 
-  item-cut : cutRuns t (runsOf es vs) ≡ item
-  item-cut = ap (λ (r : TouchedRuns). cutRuns r (runsOf es vs)) found ∙ cut-touched (getD starts i (pos 0)) (getD stops i (pos 0)) es vs valid l ∙ sym (item-at starts stops (runsOf es vs) i m h)
+  pub item-sliceable : {first : ℕ} → (endsValid es ≡ none → first ≡ found es 0 (getD starts i (pos 0))) → (e v : List ℤ) (used : ℕ) → used + length item ≤ length e → used + length item ≤ length v
+      → SliceAt es vs first x y (take (length e - used) (drop used e)) (take (length v - used) (drop used v))
+  item-sliceable f e v used he hv = record {
+    valid = valid;
+    paired = l;
+    first-found = f valid ∙ ap (found es 0) (sym ex);
+    room-ends = rw (item-is, rest-length) (omega arith);
+    room-values = rw (item-is, rest-length) (omega arith);
+  }
 
-  item-count : touchedBy (getD starts i (pos 0)) (getD stops i (pos 0)) es .count ≡ length item
-  item-count = touched-count (getD starts i (pos 0)) (getD stops i (pos 0)) es vs valid l ∙ ap length (sym (item-at starts stops (runsOf es vs) i m h))
-
-  pub item-touches : (e v : List ℤ) (used : ℕ) → used + length item ≤ length e → used + length item ≤ length v
-      → Touches t es vs (take (length e - used) (drop used e)) (take (length v - used) (drop used v))
-  item-touches e v used he hv =
-      rw found (touches (getD starts i (pos 0)) (getD stops i (pos 0)) es vs _ _ valid l
-      (rw rest-length (omega (arith, item-count))) (rw rest-length (omega (arith, item-count))))
-
-  pub item-filled : {e e′ v v′ : List ℤ} {n : ℕ} → Filled (cutRuns t (runsOf es vs)) e e′ v v′ n → Filled item e e′ v v′ n
-  item-filled f = rw item-cut at f
+  pub item-filled : {e e′ v v′ : List ℤ} {n : ℕ} → Filled (sliceRuns x y (runsOf es vs)) e e′ v v′ n → Filled item e e′ v v′ n
+  item-filled f = rw item-is at f
 
 -- ---- their runs counted, up to the greatest number that is shown: the first i are counted
 
@@ -80,17 +77,17 @@ pub counting-start : (starts stops es : List ℤ) → Counting starts stops es 0
 counting-start starts stops es = record { within = omega arith; shown = omega arith; left = λ v l. omega arith }
 
 module _ {starts stops es : List ℤ} {n i : ℕ} (c : Counting starts stops es n i) where
-  pub counting-next : i < length starts → {x y : ℤ} {t : TouchedRuns} {m : ℕ} → x ≡ getD starts i (pos 0) → y ≡ getD stops i (pos 0)
-      → (endsValid es ≡ none → t ≡ touchedBy x y es) → m ≡ saturated (n + t .count) → Counting starts stops es m (i + 1)
+  pub counting-next : i < length starts → {x y : ℤ} {k m : ℕ} → x ≡ getD starts i (pos 0) → y ≡ getD stops i (pos 0)
+      → (endsValid es ≡ none → k ≡ touchedBy x y es .count) → m ≡ saturated (n + k) → Counting starts stops es m (i + 1)
   unfolding intervalCounts
-  counting-next h {x} {y} {t} ex ey et em = record {
+  counting-next h {x} {y} {k} ex ey ek em = record {
     within = omega arith;
     shown = omega arith;
-    left = λ v l. let k : i < length stops = omega arith in
-        let e : t .count ≡ touchedBy (getD starts i (pos 0)) (getD stops i (pos 0)) es .count = ap (λ (r : TouchedRuns). r .count) (et v) ∙ rw (ex, ey) in
+    left = λ v l. let j : i < length stops = omega arith in
+        let e : k ≡ touchedBy (getD starts i (pos 0)) (getD stops i (pos 0)) es .count = ek v ∙ rw (ex, ey) in
         let r = total (intervalCounts (drop (i + 1) starts) (drop (i + 1) stops) es) in
-        let d : total (intervalCounts (drop i starts) (drop i stops) es) ≡ t .count + total (intervalCounts (drop (i + 1) starts) (drop (i + 1) stops) es) =
-        rw (add-one i, drop-cons starts i (pos 0) h, drop-cons stops i (pos 0) k, e) in
+        let d : total (intervalCounts (drop i starts) (drop i stops) es) ≡ k + total (intervalCounts (drop (i + 1) starts) (drop (i + 1) stops) es) =
+        rw (add-one i, drop-cons starts i (pos 0) h, drop-cons stops i (pos 0) j, e) in
         omega (arith, c .left v l);
   }
 

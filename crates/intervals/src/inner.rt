@@ -1,12 +1,70 @@
 // Workers that assume what the calls have asked.
-use slice::search;
+pub mod searches;
+
+use column::sequence;
+ghost use Prim.Native.Nat.{_<_, _^_};
 ghost use mathlib.Core.List.{map};
-ghost use Rattle.column.specs.Runs.{sequence, runsOf};
+ghost use mathlib.Core.Option.{none};
+ghost use mathlib.Core.Path.{_≡_};
+ghost use Rattle.column.specs.Questions.{endsValid};
+ghost use Rattle.column.specs.Runs.{sequence, runsOf, Filled};
+ghost use Rattle.slice.specs.Search.{touchedBy};
+ghost use Rattle.slice.specs.Slice.{sliceRuns};
 ghost use Rattle.slice.specs.Workers.{FilledFlat};
 ghost use Rattle.reduce.specs.Reduce.{reduction};
 ghost use Rattle.reduce.specs.Workers.{FilledReductions};
 ghost use Rattle.intervals.specs.Intervals.{intervalRuns};
-ghost use Rattle.intervals.specs.Workers.{Gettable, Reducible};
+ghost use Rattle.intervals.specs.Searches.{found};
+ghost use Rattle.intervals.specs.Workers.{SliceAt, Gettable, Reducible};
+
+// How many runs a slice has, by the first of them and the first end at or past the slice's end.
+pub fn count_at(ends: &[i64], start: i64, stop: i64, first: usize, last: usize) -> usize
+    requires { ⌜ last < 2 ^ 63 ⌝ }
+    ensures { λ r. ⌜ (endsValid (now (ends .entry)) ≡ none → first ≡ found (now (ends .entry)) 0 start → last ≡ found (now (ends .entry)) 1 stop → r ≡ touchedBy start stop (now (ends .entry)) .count) ⌝ }
+{
+    let from = num::larger(start, 0);
+    let to = num::smaller(stop, sequence::length(ends));
+    if to <= from {
+        return 0;
+    }
+    if last < first {
+        return 0;
+    }
+    last - first + 1
+}
+
+// A slice, from its first run up to the run that ends at or past its end: looking for that one first takes longer than it saves where slices
+// are short.
+fn slice_at(
+    ends: &[i64],
+    values: &[i64],
+    first: usize,
+    start: i64,
+    stop: i64,
+    out_ends: &mut [i64],
+    out_values: &mut [i64],
+) -> usize
+    requires { ⌜ SliceAt (now ends) (now values) first start stop (now «out_ends») (now «out_values») ⌝ }
+    ensures { λ r. ⌜ Filled (sliceRuns start stop (runsOf (now (ends .entry)) (now (values .entry))))
+        (now («out_ends» .entry)) (now («out_ends» .exit)) (now («out_values» .entry)) (now («out_values» .exit)) r ⌝ }
+{
+    let from = num::larger(start, 0);
+    let to = num::smaller(stop, sequence::length(ends));
+    if to <= from {
+        return 0;
+    }
+    let mut n: usize = 0;
+    let mut more = true;
+    while more {
+        let end = ends[first + n];
+        let value = values[first + n];
+        out_ends[n] = num::smaller(end, to) - from;
+        out_values[n] = value;
+        n += 1;
+        more = end < to;
+    }
+    n
+}
 
 // The slice of each interval, behind those of the intervals before it.
 pub fn getitems(
@@ -23,16 +81,19 @@ pub fn getitems(
         (now («out_offsets» .entry)) (now («out_offsets» .exit)) (now («out_ends» .entry)) (now («out_ends» .exit)) (now («out_values» .entry)) (now («out_values» .exit)) r ⌝ }
 {
     out_offsets[0] = 0;
+    let mut firsts = [0usize; 16];
     let mut used: usize = 0;
     let mut i: usize = 0;
     while i < starts.len() {
         let start = starts[i];
         let stop = stops[i];
-        let touched = search::touched(ends, start, stop);
-        used += slice::inner::slice(
+        let first = searches::find_next(ends, starts, i, 0, &mut firsts);
+        used += slice_at(
             ends,
             values,
-            touched,
+            first,
+            start,
+            stop,
             &mut out_ends[used..],
             &mut out_values[used..],
         );

@@ -5,8 +5,7 @@ use column::answer::Asked;
 use column::answer::Batched;
 use column::answer::Counted;
 use column::answer::RleBatch;
-use column::sequence;
-use slice::search;
+use inner::searches;
 ghost use Prim.Native.Nat.{_+_, _<_, _^_};
 ghost use Rattle.column.specs.Asking.{shownAsked};
 ghost use Rattle.column.specs.Flat.{WritesFlat};
@@ -26,13 +25,20 @@ ghost use Rattle.intervals.specs.Workers.{intervalCounts};
 fn count_runs(ends: &[i64], starts: &[i64], stops: &[i64]) -> usize
     ensures { λ r. ⌜ (endsValid (now (ends .entry)) ≡ none → length (now (starts .entry)) ≡ length (now (stops .entry)) → r ≡ saturated (total (intervalCounts (now (starts .entry)) (now (stops .entry)) (now (ends .entry))))) ⌝ }
 {
+    if starts.len() != stops.len() {
+        return 0;
+    }
+    let mut firsts = [0usize; 16];
+    let mut lasts = [0usize; 16];
     let mut total: usize = 0;
     let mut i: usize = 0;
     while i < starts.len() {
         let start = starts[i];
-        let stop = sequence::entry_or(stops, i, 0);
-        let touched = search::touched(ends, start, stop);
-        total = num::saturating_add(total, touched.count);
+        let stop = stops[i];
+        let first = searches::find_next(ends, starts, i, 0, &mut firsts);
+        let last = searches::find_next(ends, stops, i, 1, &mut lasts);
+        let count = inner::count_at(ends, start, stop, first, last);
+        total = num::saturating_add(total, count);
         i += 1;
     }
     total

@@ -25,6 +25,7 @@ use mir.Facts.{toZ-ofZ}
 use Rattle.num.specs.Numbers.{residue}
 use Rattle.slice.proofs.Difference.{difference-of, difference-fits}
 use Rattle.slice.specs.Search.{firstWhere, firstEndAbove, firstEndAtLeast}
+use Rattle.slice.specs.Workers.{Halving}
 
 -- ---- any ends
 
@@ -128,18 +129,13 @@ module _ (low step : ℕ) (h : low + step < 2 ^ 63) where
 
 -- ---- the halving: the index is from `low` up to `low + size`
 
-pub record Halving (p : ℤ) (es : List ℤ) (low size : ℕ) : Type 0 where
-  pub inside : low + size ≤ length es
-  pub from-low : endsValid es ≡ none → low ≤ firstEndAbove p es
-  pub to-high : endsValid es ≡ none → firstEndAbove p es ≤ low + size
-
-module _ (p : ℤ) (es : List ℤ) where
+module _ (p : ℕ) (es : List ℤ) where
   pub halving-start : Halving p es 0 (length es)
   unfolding firstEndAbove
-  halving-start = record { inside = omega arith; from-low = λ v. omega arith; to-high = λ v. omega (arith, where-within (λ e. ltZ p e) es) }
+  halving-start = record { inside = omega arith; from-low = λ v. omega arith; to-high = λ v. omega (arith, where-within (λ e. ltZ (pos p) e) es) }
 
-module _ {p : ℤ} {es : List ℤ} {low size : ℕ} (s : Halving p es low size) where
-  pub halving-end : size ≤ 0 → (low ≤ length es) × (endsValid es ≡ none → low ≡ firstEndAbove p es)
+module _ {p : ℕ} {es : List ℤ} {low size : ℕ} (s : Halving p es low size) where
+  pub halving-end : size ≤ 0 → (low ≤ length es) × (endsValid es ≡ none → low ≡ firstEndAbove (pos p) es)
   halving-end h = (omega (arith, s .inside), λ v. omega (arith, s .from-low v, s .to-high v))
 
   pub halving-inside : 0 < size → low + (size - size / 2) - 1 < length es
@@ -150,27 +146,27 @@ module _ {p : ℤ} {es : List ℤ} {low size : ℕ} (s : Halving p es low size) 
     at = low + (size - size / 2) - 1
 
     -- where the ends are valid the step tells whether the end is above the position
-    told-above : {n above : ℕ} → p ≡ pos n → (ltZ x (pos 0) ≡ false → above ≡ cond (ltZ (pos n) x) 1 0) → endsValid es ≡ none → eqb above 0 ≡ leZ x p
-    told-above {n} ep ea v =
+    told-above : {above : ℕ} → (ltZ x (pos 0) ≡ false → above ≡ cond (ltZ (pos p) x) 1 0) → endsValid es ≡ none → eqb above 0 ≡ leZ x (pos p)
+    told-above ea v =
         let i = halving-inside h in
         let m = rising-at 0 es at (rising es v) i in
         let natural : ltZ x (pos 0) ≡ false = rw (ex, m .0) (le-ltb (magnitude (getD es at (pos 0))) 0 (omega arith)) in
-        rw ep (by-test (ltZ (pos n) x) (λ t. rw (ea natural, t, lt-le (pos n) x t)) (λ t. rw (ea natural, t, lt-le (pos n) x t)))
+        by-test (ltZ (pos p) x) (λ t. rw (ea natural, t, lt-le (pos p) x t)) (λ t. rw (ea natural, t, lt-le (pos p) x t))
 
-    pub halving-next : {n above next : ℕ} → p ≡ pos n → (ltZ x (pos 0) ≡ false → above ≡ cond (ltZ (pos n) x) 1 0) → next ≡ cond (eqb above 0) (low + (size - size / 2)) low
+    pub halving-next : {above next : ℕ} → (ltZ x (pos 0) ≡ false → above ≡ cond (ltZ (pos p) x) 1 0) → next ≡ cond (eqb above 0) (low + (size - size / 2)) low
         → Halving p es next (size / 2)
-    halving-next {n} {above} ep ea e =
+    halving-next {above} ea e =
         let i = halving-inside h in
         rw e (by-test (eqb above 0)
         (λ t. rw t (record {
           inside = omega (arith, s .inside);
-          from-low = λ v. omega (arith, above-past p es at v i (rw ex at (sym (told-above ep ea v) ∙ t)));
+          from-low = λ v. omega (arith, above-past (pos p) es at v i (rw ex at (sym (told-above ea v) ∙ t)));
           to-high = λ v. omega (arith, s .to-high v);
         }))
         (λ t. rw t (record {
           inside = omega (arith, s .inside);
           from-low = s .from-low;
-          to-high = λ v. omega (arith, above-least p es at i (rw ex at (sym (told-above ep ea v) ∙ t)));
+          to-high = λ v. omega (arith, above-least (pos p) es at i (rw ex at (sym (told-above ea v) ∙ t)));
         })))
 
 -- ---- an end at or above a position: one above the position before it

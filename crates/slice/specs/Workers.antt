@@ -1,13 +1,22 @@
 -- What the workers leave and require.
 use Prim.Native.Nat.{ℕ, _+_, _-_, _≤_, _<_, min}
 use mathlib.Core.List.{List, map}
+use mathlib.Core.Option.{none}
 use mathlib.Core.Path.{_≡_}
 use lib.IntN.{ℤ, pos}
 use lib.ListN.{length, getD, take, drop}
 use Rattle.column.specs.Flat.{flatOffsets, flatEnds, flatValues}
 use Rattle.column.specs.Lists.{total}
+use Rattle.column.specs.Questions.{endsValid}
 use Rattle.column.specs.Runs.{Run, Runs, magnitude, over}
+use Rattle.slice.specs.Search.{firstEndAbove}
 use Rattle.slice.specs.declared.search.TouchedRuns.{TouchedRuns}
+
+-- a search of the first end above a position: it is from `low` up to `low + size`
+pub record Halving (p : ℕ) (es : List ℤ) (low size : ℕ) : Type 0 where
+  pub inside : low + size ≤ length es
+  pub from-low : endsValid es ≡ none → low ≤ firstEndAbove (pos p) es
+  pub to-high : endsValid es ≡ none → firstEndAbove (pos p) es ≤ low + size
 
 -- a run as it stands in a slice from x up to y
 abbrev pub clipped : ℕ → ℕ → Run → Run

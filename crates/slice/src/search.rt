@@ -1,4 +1,5 @@
 // Searches in ends. Where ends are not valid they end all the same, somewhere inside.
+use crate::inner;
 use column::sequence;
 ghost use Prim.Native.Nat.{_+_, _≤_, _<_, _^_};
 ghost use mathlib.Core.Bool.{false, cond};
@@ -11,42 +12,18 @@ ghost use lib.Signed.{ltZ};
 ghost use Rattle.column.specs.Questions.{endsValid};
 ghost use Rattle.slice.specs.Search.{firstEndAbove, firstEndAtLeast, touchedBy};
 
-// The least number of 64 bits whose top bit is set.
-const TOP: u64 = 0x8000_0000_0000_0000;
-
-// 1 if the end is above the position, else 0, where neither is negative: the top bit of their difference. A test of the two becomes a
-// branch, which half of the steps of a search would mispredict.
-fn is_above(end: i64, position: u64) -> usize
-    ensures { λ r. ⌜ (r ≤ 1) × (ltZ end (pos 0) ≡ false → position < 2 ^ 63 → r ≡ cond (ltZ (pos position) end) 1 0) ⌝ }
-{
-    let difference = std::num::wrapping_sub_u64(position, num::as_unsigned(end));
-    (difference / TOP) as usize
-}
-
-// Where the search goes on: `step` further, unless the end there is above the position. Nothing is left of a step that is shifted by 63; a
-// product or a choice would become a branch again.
-fn low_after(low: usize, step: usize, above: usize) -> usize
-    requires { ⌜ (above ≤ 1) × (low + step < 2 ^ 63) ⌝ }
-    ensures { λ r. ⌜ r ≡ cond (eqb above 0) (low + step) low ⌝ }
-{
-    low + (step >> (above * 63))
-}
-
-// The lowest index of an end above a position, or how many ends there are. Of `size` ends the half is left either way, so that nothing
-// but the number of ends decides how many steps there are. Valid ends are above every negative position.
+// The lowest index of an end above a position, or how many ends there are. Valid ends are above every negative position.
 pub fn first_end_above(ends: &[i64], position: i64) -> usize
     ensures { λ r. ⌜ (r ≤ length (now (ends .entry))) × (endsValid (now (ends .entry)) ≡ none → r ≡ firstEndAbove position (now (ends .entry))) ⌝ }
 {
     if position < 0 {
         return 0;
     }
-    let bits = position as u64;
+    let place = sequence::magnitude(position);
     let mut low: usize = 0;
     let mut size = ends.len();
     while 0 < size {
-        let step = size - size / 2;
-        let end = ends[low + step - 1];
-        low = low_after(low, step, is_above(end, bits));
+        low = inner::half(ends, low, size, place);
         size /= 2;
     }
     low

@@ -1,8 +1,8 @@
 use native.Mathlib.Omega.{arith}
 use Rattle.slice.proofs.Searching.{above-bit}
 use borrow.Author.Needs.{needs}
-use Rattle.slice.proofs.search.is_above.Statement.{statement}
-use Rattle.slice.proofs.search.is_above.Tie as tie
+use Rattle.slice.proofs.inner.is_above.Statement.{statement}
+use Rattle.slice.proofs.inner.is_above.Tie as tie
 
 as-unsigned-requires : tie.Need-as-unsigned-requires
 as-unsigned-requires c κs = search needs

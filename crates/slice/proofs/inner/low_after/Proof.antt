@@ -1,8 +1,8 @@
 use native.Mathlib.Omega.{arith}
 use Rattle.slice.proofs.Searching.{stepped, step-within}
 use borrow.Author.Needs.{needs}
-use Rattle.slice.proofs.search.low_after.Statement.{statement}
-use Rattle.slice.proofs.search.low_after.Tie as tie
+use Rattle.slice.proofs.inner.low_after.Statement.{statement}
+use Rattle.slice.proofs.inner.low_after.Tie as tie
 
 mul-result : tie.Need-mul-result
 mul-result c = search needs
