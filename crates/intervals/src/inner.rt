@@ -81,7 +81,7 @@ pub fn getitems(
         (now («out_offsets» .entry)) (now («out_offsets» .exit)) (now («out_ends» .entry)) (now («out_ends» .exit)) (now («out_values» .entry)) (now («out_values» .exit)) r ⌝ }
 {
     out_offsets[0] = 0;
-    let mut firsts = [0usize; 16];
+    let mut firsts = [0usize; searches::BLOCK];
     let mut used: usize = 0;
     let mut i: usize = 0;
     while i < starts.len() {

@@ -28,8 +28,8 @@ fn count_runs(ends: &[i64], starts: &[i64], stops: &[i64]) -> usize
     if starts.len() != stops.len() {
         return 0;
     }
-    let mut firsts = [0usize; 16];
-    let mut lasts = [0usize; 16];
+    let mut firsts = [0usize; searches::BLOCK];
+    let mut lasts = [0usize; searches::BLOCK];
     let mut total: usize = 0;
     let mut i: usize = 0;
     while i < starts.len() {

@@ -10,7 +10,7 @@ ghost use Rattle.column.specs.Runs.{magnitude, lengthOfEnds};
 ghost use Rattle.intervals.specs.Searches.{sought, found, Begun, Halvings, Searched, Kept};
 
 // How many are looked for at once.
-const BLOCK: usize = 16;
+pub const BLOCK: usize = 16;
 
 // What is looked for: the position as clamped to the sequence, or the one before it.
 fn place(ends: &[i64], position: i64, back: usize) -> usize
