@@ -1,3 +1,3 @@
--- The calls of merge.rs; to be read after column's definitions.
+-- merge_mask and merge_by, of merge.rs; to be read after column's definitions.
 pub mod Merge
 pub mod Workers

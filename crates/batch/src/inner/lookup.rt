@@ -23,13 +23,13 @@ fn enough(a_keys: usize, b_keys: usize) -> bool
     false
 }
 
-// Whether each key of the first batch stands at the same position of the second, where it is looked for first.
+// Whether both have the same keys at the same positions, where a key is looked for first.
 fn aligned(a_keys: &[u32], b_keys: &[u32]) -> bool {
+    if a_keys.len() != b_keys.len() {
+        return false;
+    }
     let mut i: usize = 0;
     while i < a_keys.len() {
-        if i >= b_keys.len() {
-            return false;
-        }
         if a_keys[i] != b_keys[i] {
             return false;
         }

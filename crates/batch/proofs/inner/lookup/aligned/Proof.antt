@@ -10,11 +10,11 @@ Inv-loop a-keys b-keys i₀ i = Unit {0}
 abbrev μ-loop : tie.MeasureT-loop
 μ-loop a-keys b-keys i₀ i = length a-keys - i
 
-loop-holds : tie.Need-loop-holds Inv-loop μ-loop
-loop-holds c = search needs
-
 returns : tie.Need-returns Inv-loop μ-loop
 returns c = search needs
+
+loop-holds : tie.Need-loop-holds Inv-loop μ-loop
+loop-holds c = search needs
 
 mul-if2 : tie.Need-mul-if2 Inv-loop μ-loop
 mul-if2 c = search needs
@@ -49,8 +49,8 @@ aligned-spec =
     (tie.spec
     Inv-loop
     μ-loop
-    loop-holds
     returns
+    loop-holds
     mul-if2
     shared-slice-read-if2
     mul-if2-2
