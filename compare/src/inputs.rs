@@ -1154,8 +1154,9 @@ pub enum Fit {
     Short,
 }
 
-/// Arguments of a call on batches, with so many keys and wanted keys that an index is made of them.
-pub fn large_batch(call: &Call, number: usize, rng: &mut Rng) -> Vec<Arg> {
+/// Arguments of a call on batches, with so many keys and wanted keys that an index is made of them, or of a call that takes intervals, so
+/// many that the library looks them up block by block.
+pub fn large(call: &Call, number: usize, rng: &mut Rng) -> Vec<Arg> {
     let column = Column::random(rng);
     let keys = keys(number, rng);
     let columns = keys.iter().map(|_| column.related(3, false, rng)).collect();

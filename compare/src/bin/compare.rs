@@ -20,8 +20,8 @@ const PRINTED: u64 = 10;
 /// Cases between two looks at the clock.
 const BATCH: usize = 256;
 
-/// Cases of each call on batches with many keys, between two looks at the clock.
-const LARGE_BATCHES: usize = 4;
+/// Cases with many keys or intervals, between two looks at the clock.
+const LARGE: usize = 4;
 
 /// More keys than an index of the library takes at once, and than are looked for at once.
 const SHARES: usize = 40_000;
@@ -158,7 +158,7 @@ impl Run {
         let joined = JOINED.iter().filter(|_| self.share == 1);
         for name in INDEXED.iter().chain(joined) {
             let call = Call::named(name);
-            comparison.compare(call, inputs::large_batch(call, SHARES, &mut rng));
+            comparison.compare(call, inputs::large(call, SHARES, &mut rng));
         }
         repeat_for(self.time - cutting, || {
             for call in CALLS.iter().filter(|call| call.takes_arguments()) {
@@ -166,10 +166,11 @@ impl Run {
                     comparison.compare(call, inputs::random(call, &mut rng).0);
                 }
             }
-            for call in CALLS.iter().filter(|call| call.takes(Role::Keys)) {
-                for _ in 0..LARGE_BATCHES {
+            let many = |call: &&Call| call.takes(Role::Keys) || call.takes(Role::Starts);
+            for call in CALLS.iter().filter(many) {
+                for _ in 0..LARGE {
                     let number = rng.below(2 * inputs::MANY);
-                    comparison.compare(call, inputs::large_batch(call, number, &mut rng));
+                    comparison.compare(call, inputs::large(call, number, &mut rng));
                 }
             }
         });
