@@ -169,7 +169,7 @@ impl Run {
             let many = |call: &&Call| call.takes(Role::Keys) || call.takes(Role::Starts);
             for call in CALLS.iter().filter(many) {
                 for _ in 0..LARGE {
-                    let number = rng.below(2 * inputs::MANY);
+                    let number = 1 + rng.below(2 * inputs::MANY);
                     comparison.compare(call, inputs::large(call, number, &mut rng));
                 }
             }
