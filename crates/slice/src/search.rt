@@ -1,14 +1,10 @@
 // Searches in ends. Where ends are not valid they end all the same, somewhere inside.
 use crate::inner;
 use column::sequence;
-ghost use Prim.Native.Nat.{_+_, _≤_, _<_, _^_};
-ghost use mathlib.Core.Bool.{false, cond};
+ghost use Prim.Native.Nat.{_≤_};
 ghost use mathlib.Core.Option.{none};
 ghost use mathlib.Core.Path.{_≡_};
 ghost use lib.ListN.{length};
-ghost use lib.Dec.{eqb};
-ghost use lib.IntN.{pos};
-ghost use lib.Signed.{ltZ};
 ghost use Rattle.column.specs.Questions.{endsValid};
 ghost use Rattle.slice.specs.Search.{firstEndAbove, firstEndAtLeast, touchedBy};
 

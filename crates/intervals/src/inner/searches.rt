@@ -1,12 +1,11 @@
 // Searches for the positions of a block of intervals, step by step beside each other, so that none waits for the memory of another.
 use column::sequence;
-ghost use Prim.Native.Nat.{_+_, _-_, _≤_, _<_, _/_, _^_, min};
+ghost use Prim.Native.Nat.{_+_, _≤_, _<_, _/_, _^_};
 ghost use mathlib.Core.Option.{none};
 ghost use mathlib.Core.Path.{_≡_};
 ghost use lib.IntN.{pos};
 ghost use lib.ListN.{length, getD};
 ghost use Rattle.column.specs.Questions.{endsValid};
-ghost use Rattle.column.specs.Runs.{magnitude, lengthOfEnds};
 ghost use Rattle.intervals.specs.Searches.{sought, found, Begun, Halvings, Searched, Kept};
 
 // How many are looked for at once.
