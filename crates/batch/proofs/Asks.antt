@@ -13,8 +13,7 @@ use Rattle.column.specs.Questions.{agree, paired, offsetsValid, sequencesValid,
 use Rattle.column.proofs.FirstNo.{all-yes, asked-next, asked-last}
 use Rattle.column.proofs.Told.{agree-told, room-told}
 use Rattle.column.proofs.YesNo.{room-each, room-saturated}
-use Rattle.batch.specs.Batch.{Batch, batch, keyed, lengthsAsked, contentAsked, batchValid, batchNeeds}
-use Rattle.batch.specs.Two.{bothLengths, bothContent, bothValid}
+use Rattle.batch.specs.Batch.{Batch, batch, keyed, lengthsAsked, contentAsked, batchValid, batchNeeds, bothLengths, bothContent, bothValid}
 use Rattle.batch.specs.Workers.{ValidBatch}
 
 -- what 2 and what 3

@@ -19,8 +19,8 @@ use Rattle.column.proofs.Ends.{rising, runs-rise, length-runs, length-of-ends}
 use Rattle.column.proofs.Flattened.{AllValid, length-parts, total-parts, sequences-told, columns-by-ends, columns-valid}
 use Rattle.column.proofs.Parts.{part-paired}
 use Rattle.column.proofs.Rising.{Valid}
-use Rattle.index.specs.Lowest.{lowest}
-use Rattle.index.proofs.Lowest.{lowest-any}
+use Rattle.batch_index.specs.Calls.{lowest}
+use Rattle.batch_index.proofs.Lowest.{lowest-any}
 use Rattle.batch.specs.Batch.{Batch, batch, Entry, entriesFrom, entries, keysOf, columnsOf, has, find}
 use Rattle.batch.specs.Workers.{ValidBatch}
 

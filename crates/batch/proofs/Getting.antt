@@ -17,8 +17,8 @@ use Rattle.column.specs.Runs.{runsOf, endsOf, valuesOf, over}
 use Rattle.column.proofs.Ends.{rising, ends-runs, values-runs}
 use Rattle.column.proofs.FirstNo.{all-yes, asked-last}
 use Rattle.column.proofs.Told.{both-told}
-use Rattle.index.specs.Lowest.{lowest}
-use Rattle.index.proofs.Lowest.{lowest-within}
+use Rattle.batch_index.specs.Calls.{lowest}
+use Rattle.batch_index.proofs.Lowest.{lowest-within}
 use Rattle.batch.specs.declared.Got.{Got}
 use Rattle.batch.specs.Batch.{batch, entries, batchValid, find}
 use Rattle.batch.specs.Calls.{get, WritesGot}

@@ -7,9 +7,9 @@ use mathlib.Core.Path.{_≡_, _∙_}
 use native.Mathlib.Omega.{arith}
 use lib.ListN.{length, getD}
 use borrow.Author.Tests.{lt-ltb, le-ltb}
-use Rattle.index.specs.Lowest.{lowest}
-use Rattle.keys.specs.Workers.{Kept}
-use Rattle.keys.proofs.Blocks.{kept-start}
+use Rattle.batch_index.specs.Calls.{lowest}
+use Rattle.batch_keys.specs.Workers.{Kept}
+use Rattle.batch_keys.proofs.Blocks.{kept-start}
 use Rattle.batch.specs.declared.inner.lookup.Lookup.{Lookup}
 use Rattle.batch.specs.Workers.{KnownKeys, otherAt, KeptOther}
 

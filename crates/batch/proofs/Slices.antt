@@ -10,8 +10,8 @@ use lib.ListN.{length, getD}
 use Rattle.column.specs.Lists.{parts}
 use Rattle.column.specs.Questions.{endsValid}
 use Rattle.column.specs.Runs.{Runs, runsOf}
-use Rattle.index.specs.Lowest.{lowest}
-use Rattle.slice.specs.Slice.{sliceRuns}
+use Rattle.batch_index.specs.Calls.{lowest}
+use Rattle.slice.specs.Calls.{sliceRuns}
 use Rattle.batch.specs.Batch.{batch, Entry, entries, find}
 use Rattle.batch.specs.Slices.{itemRuns}
 use Rattle.batch.specs.Workers.{Intervals}

@@ -83,3 +83,16 @@ find k (e ∷ es) = cond (eqb k (e .key)) (e .runs) (find k es)
 -- "Needed: runs of all inputs, keys of all inputs, that many keys + 1 offsets": so many keys, and so many runs
 abbrev pub batchNeeds : ℕ → ℕ → List ℕ
 batchNeeds keys runs = keys ∷ (keys + 1) ∷ runs ∷ runs ∷ []
+
+-- ---- what two batches are asked
+
+-- "the first is asked first, within each question and each what": what 2 and what 3
+abbrev pub bothLengths : Batch → Batch → List Question
+bothLengths a b = keyed a ∷ keyed b ∷ pairedFlat (a .flat) ∷ pairedFlat (b .flat) ∷ []
+
+-- 3 and 4
+abbrev pub bothContent : Batch → Batch → List Question
+bothContent a b = offsetsFlat (a .flat) ∷ offsetsFlat (b .flat) ∷ endsFlat (a .flat) ∷ endsFlat (b .flat) ∷ []
+
+unfoldable pub bothValid : Batch → Batch → Question
+bothValid a b = firstNo (firstNo (bothLengths a b) ∷ firstNo (bothContent a b) ∷ [])

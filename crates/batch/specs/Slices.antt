@@ -3,7 +3,7 @@ use Prim.Native.Nat.{ℕ}
 use mathlib.Core.List.{List, [], _∷_}
 use lib.IntN.{ℤ}
 use Rattle.column.specs.Runs.{Runs}
-use Rattle.slice.specs.Slice.{sliceRuns}
+use Rattle.slice.specs.Calls.{sliceRuns}
 use Rattle.batch.specs.Batch.{Entry, find}
 
 -- the slice of each interval, of the sequence of its key

@@ -11,8 +11,8 @@ use Rattle.column.specs.declared.answer.RleBatch.{RleBatch}
 use Rattle.column.specs.Flat.{offsetsFlat, endsFlat, flatOffsets, flatEnds, flatValues}
 use Rattle.column.specs.Lists.{total}
 use Rattle.column.specs.Runs.{over}
-use Rattle.index.specs.Lowest.{lowest}
-use Rattle.keys.specs.Workers.{Known, Kept}
+use Rattle.batch_index.specs.Calls.{lowest}
+use Rattle.batch_keys.specs.Workers.{Known, Kept}
 use Rattle.batch.specs.Batch.{Batch, Entry, keysOf, columnsOf}
 use Rattle.batch.specs.declared.inner.lookup.Lookup.{Lookup}
 use Rattle.batch.specs.declared.two.Joined.{Joined}

@@ -77,7 +77,7 @@ pub fn ask_room(
 pub fn from_parts(keys: &[u32], offsets: &[usize], ends: &[i64], values: &[i64]) -> Checked
     ensures { λ r. ⌜ shownChecked r ≡ calls.fromParts (batch (now (keys .entry)) (now (offsets .entry)) (now (ends .entry)) (now (values .entry))) ⌝ }
 {
-    let asked = questions::first_no(ask_batch(keys, offsets, ends, values), keys::ask_keys(keys));
+    let asked = questions::first_no(ask_batch(keys, offsets, ends, values), batch_keys::ask_keys(keys));
     match asked {
         Asked::Yes => Checked::Valid,
         Asked::No(r) => Checked::Refused(r),
@@ -98,7 +98,7 @@ pub fn get(
         (calls.get (batch (now (keys .entry)) (now (offsets .entry)) (now (ends .entry)) (now (values .entry))) key (length (now («out_ends» .entry)) ∷ length (now («out_values» .entry)) ∷ [])) r
         (now («out_ends» .entry)) (now («out_ends» .exit)) (now («out_values» .entry)) (now («out_values» .exit)) ⌝ }
 {
-    let at = index::inner::scan(keys, key);
+    let at = batch_index::inner::scan(keys, key);
     let found_ends = inner::part_at(offsets, ends, at);
     let found_values = inner::part_at(offsets, values, at);
     let asked = questions::first_no(

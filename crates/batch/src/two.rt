@@ -3,8 +3,7 @@
 use column::answer::Asked;
 ghost use mathlib.Core.Path.{_≡_};
 ghost use Rattle.column.specs.Asking.{shownAsked, firstNo};
-ghost use Rattle.batch.specs.Batch.{batch};
-ghost use Rattle.batch.specs.Two.{bothLengths, bothContent, bothValid};
+ghost use Rattle.batch.specs.Batch.{batch, bothLengths, bothContent, bothValid};
 
 // What is at a place: whether it gives a key of the result, the key, and its position in each batch, past the last where it has none.
 pub struct Joined {

@@ -10,7 +10,7 @@ use lib.ListN.{length, getD, take, length-map, length-take}
 use lib.Seq.{take-all, length-take-le}
 use Rattle.column.specs.declared.inner.Writer.{Writer}
 use Rattle.column.specs.Runs.{Run, Runs, magnitude, runsOf, lastFrom, denseFrom, encode, pushMerged}
-use Rattle.column.specs.Writing.{nextPlace, PushedMerged, Merging, pushAll, moved, RisingEnds, Behind, Movable, Appended}
+use Rattle.column.specs.Workers.{nextPlace, PushedMerged, Merging, pushAll, moved, RisingEnds, Behind, Movable, Appended}
 use Rattle.column.proofs.Encode.{place-le, length-push, push-all-from}
 use Rattle.column.proofs.Ends.{length-runs}
 use Rattle.column.proofs.Merging.{merge-at, merge-more}

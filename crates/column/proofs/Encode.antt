@@ -15,7 +15,7 @@ use Rattle.column.specs.Runs.{Run, Runs, joined, encodeFrom, encode, end
 use Rattle.column.proofs.Rising.{Rising}
 use Rattle.column.proofs.Pushed.{place}
 use Rattle.num.proofs.Tests.{eqZ-true, eqZ-refl, by-test}
-use Rattle.column.specs.Writing.{lastOf, pushAll}
+use Rattle.column.specs.Workers.{lastOf, pushAll}
 
 -- a stretch of equal values is one run
 stretch : (p k : ℕ) (v : ℤ) → encodeFrom p (replicate (suc k) v) ≡ record { end = p + suc k; value = v } ∷ []

@@ -13,7 +13,7 @@ use Rattle.num.proofs.Tests.{by-test}
 use Rattle.column.specs.Asking.{Question, refusal, _unless_}
 use Rattle.column.specs.Questions.{endsFrom, endsValid}
 use Rattle.column.specs.Runs.{Runs, magnitude, runsOf, endsOf, valuesOf, lastEnd, lengthOf, lastFrom, lengthOfEnds}
-use Rattle.column.specs.Writing.{RisingEnds}
+use Rattle.column.specs.Workers.{RisingEnds}
 use Rattle.column.proofs.FirstNo.{first-yes, rest-yes}
 use Rattle.column.proofs.Rising.{Rising, Valid}
 

@@ -14,7 +14,7 @@ use lib.Seq.{drop-cons}
 use borrow.Author.Tests.{le-leb, lt-leb, leb-true, leb-false}
 use Rattle.num.proofs.Tests.{by-test}
 use Rattle.column.specs.Asking.{refusal, eachFrom}
-use Rattle.column.specs.Masks.{firstUnlisted, maskOnes}
+use Rattle.column.specs.Workers.{firstUnlisted, maskOnes}
 use Rattle.column.specs.Questions.{listed, maskListed}
 use Rattle.column.proofs.FirstNo.{alone}
 use Rattle.column.proofs.YesNo.{listed-yes, listed-refused}

@@ -8,7 +8,7 @@ use lib.IntN.{ℤ, pos}
 use lib.ListN.{length, length-set}
 use Rattle.column.specs.declared.inner.Writer.{Writer}
 use Rattle.column.specs.Runs.{Runs, endsOf, valuesOf, over, Filled, pushMerged}
-use Rattle.column.specs.Writing.{nextPlace, PushedMerged, lastOf, Merging}
+use Rattle.column.specs.Workers.{nextPlace, PushedMerged, lastOf, Merging}
 use Rattle.column.proofs.Buffer.{over-store}
 use Rattle.column.proofs.Encode.{place-le, le-place, place-last, length-push, last-push, ends-push, values-push}
 use Rattle.column.proofs.Pushed.{place}

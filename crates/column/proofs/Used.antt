@@ -12,7 +12,7 @@ use Rattle.column.specs.declared.inner.Writer.{Writer}
 use Rattle.column.specs.Questions.{endsValid}
 use Rattle.column.specs.Runs.{Runs, runsOf, endsOf, valuesOf, over, Filled}
 use Rattle.column.proofs.Ends.{rising, ends-runs, values-runs, length-runs}
-use Rattle.column.specs.Writing.{lastOf, Merging}
+use Rattle.column.specs.Workers.{lastOf, Merging}
 
 over-front : {A : Type 0} (n : ℕ) (l : List A) → n ≤ length l → over (take n l) l ≡ l
 unfolding over

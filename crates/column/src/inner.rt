@@ -2,7 +2,7 @@
 ghost use Prim.Native.Nat.{_+_, _<_, _^_};
 ghost use mathlib.Core.Path.{_≡_};
 ghost use lib.ListN.{length};
-ghost use Rattle.column.specs.Writing.{placeAfter, nextPlace, PushedMerged, Appendable, Appended};
+ghost use Rattle.column.specs.Workers.{placeAfter, nextPlace, PushedMerged, Appendable, Appended};
 
 // The last run that was written: its place and its value. Before the first run they are 0 and that run's own value.
 pub struct Writer {

@@ -3,7 +3,7 @@ ghost use Prim.Native.Nat.{_+_, _<_, _^_};
 ghost use mathlib.Core.Bool.{cond};
 ghost use mathlib.Core.Path.{_≡_};
 ghost use lib.Dec.{eqb};
-ghost use Rattle.column.specs.Masks.{firstUnlisted, maskOnes};
+ghost use Rattle.column.specs.Workers.{firstUnlisted, maskOnes};
 
 // The lowest index of a byte above 1, or the length.
 pub fn first_unlisted(mask: &[u8]) -> usize

@@ -24,12 +24,11 @@ use Rattle.column.proofs.All.{All}
 use Rattle.column.proofs.FirstNo.{alone, all-yes}
 use Rattle.column.proofs.Flattened.{sequences-told, columns-valid}
 use Rattle.column.proofs.Rising.{Valid}
-use Rattle.slice.specs.Slice.{cut, sliceRuns}
+use Rattle.slice.specs.Calls.{cut, sliceRuns}
 use Rattle.slice.proofs.Sliced.{valid-slice}
-use Rattle.batch.specs.Batch.{Batch, Entry, entriesFrom, entries, keysOf, columnsOf, keyed, lengthsAsked, contentAsked, batchValid, has, find, batchNeeds}
-use Rattle.batch.specs.Two.{bothValid}
-use Rattle.each.specs.Each.{onEach, eachAsked, mapRlesSlice}
-use Rattle.join.specs.Zip.{keep, keepsLeft, keepsRight, Pair, withRight, rightOnly, pairs, filledPair, filledPairs, zipNeeds, zipPair, zipAsked, zipWith}
+use Rattle.batch.specs.Batch.{Batch, Entry, entriesFrom, entries, keysOf, columnsOf, keyed, lengthsAsked, contentAsked, batchValid, has, find, batchNeeds, bothValid}
+use Rattle.batch_map_rles.specs.Calls.{onEach, eachAsked, mapRlesSlice}
+use Rattle.batch_zip_with.specs.Calls.{keep, keepsLeft, keepsRight, Pair, withRight, rightOnly, pairs, filledPair, filledPairs, zipNeeds, zipPair, zipAsked, zipWith}
 use Rattle.cutting.specs.Cut.{longest, cutPoints, Span, spansFrom, spans, batchOf}
 use Rattle.cutting.specs.Claim.{ValidBatch, NeverShows, zipBatches, zipBatchPieces, JoinsUp, runsAt, JoinsUpByKey}
 use Rattle.cutting.proofs.Tests.{any-map, any-any, any-same, any-all, all-map}

@@ -21,9 +21,9 @@ use Rattle.column.proofs.Encoded.{dense-encode}
 use Rattle.column.proofs.Positions.{eachPosition-cong, eachPosition-add}
 use Rattle.column.proofs.Rising.{Valid}
 use Rattle.column.proofs.Told.{both-true}
-use Rattle.slice.specs.Slice.{sliceRuns}
+use Rattle.slice.specs.Calls.{sliceRuns}
 use Rattle.slice.proofs.Sliced.{length-slice, value-slice}
-use Rattle.transform.specs.Transform.{shown}
+use Rattle.transform.specs.Calls.{shown}
 use Rattle.cutting.specs.Cut.{reaches, cutPoints, Span, spansFrom, spans}
 use Rattle.cutting.proofs.Tests.{any-and, any-map, any-any, any-same, any-all, all-map}
 

@@ -19,9 +19,9 @@ use Rattle.column.proofs.Ends.{valid-ends}
 use Rattle.column.proofs.Rising.{Valid}
 use Rattle.column.proofs.Sequences.{runs-flat}
 use Rattle.column.proofs.YesNo.{fits-yes}
-use Rattle.transform.specs.Transform.{shown, concatAsked, concat}
-use Rattle.reduce.specs.Reduce.{sumRuns}
-use Rattle.reduce.specs.Reduce as reduce
+use Rattle.transform.specs.Calls.{shown, concatAsked, concat}
+use Rattle.reduce.specs.Calls.{sumRuns}
+use Rattle.reduce.specs.Calls as reduce
 use Rattle.reduce.proofs.Sums.{adds, adds-append, sum-dense}
 use Rattle.cutting.specs.Cut.{flatOf, addWrapping}
 use Rattle.cutting.specs.Claim.{sum, JoinsUp}

@@ -25,9 +25,9 @@ use Rattle.column.proofs.Rising.{Valid}
 use Rattle.column.proofs.Told.{agree-told}
 use Rattle.slice.proofs.Sliced.{valid-slice}
 use Rattle.batch.proofs.Entries.{length-columns}
-use Rattle.many.specs.Many.{mostColumns}
-use Rattle.zip_many.specs.ZipMany.{leastLength, zipManyAsked}
-use Rattle.zip_many.specs.ZipMany as calls
+use Rattle.many.specs.Calls.{mostColumns}
+use Rattle.zip_many.specs.Calls.{leastLength, zipManyAsked}
+use Rattle.zip_many.specs.Calls as calls
 use Rattle.cutting.specs.Cut.{longest, cutPoints, Span, spans, flatOf, inTurn}
 use Rattle.cutting.specs.Claim.{ValidFlat, NeverShows, cut, zipMany, zipManyPieces, JoinsUp}
 use Rattle.cutting.proofs.Combined.{piece, sliced, ValidColumn}

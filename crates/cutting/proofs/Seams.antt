@@ -19,21 +19,21 @@ use Rattle.column.specs.Questions.{listed, maskListed, agree, paired, offsetsVa
 use Rattle.column.specs.Runs.{Sequence, sequence, Runs, runs, runsOf, endsOf, valuesOf, lengthOf, denseFrom, dense, joined, encodeFrom, encode}
 use Rattle.column.proofs.Rows.{Lines, Row, row, Hold, refused, asRuns, asEntries}
 use Rattle.float.specs.Float.{converted}
-use Rattle.groups.specs.Groups.{mergePlanAsked, mergePlan, groupEnds, pastEach, groupOffsets}
-use Rattle.merge.specs.Merge.{Group, groupsFrom, groups, maskAgrees}
-use Rattle.ops.specs.Ops.{zipAsked}
-use Rattle.ops.specs.Ops as ops
-use Rattle.plan.specs.Plan.{Segment, segmentsFrom, segments, segmentEnds, indexesOf, planAsked, plan}
-use Rattle.reduce.specs.Reduce.{foldRuns, sumRuns}
-use Rattle.reduce.specs.Reduce as reduce
-use Rattle.slice.specs.Slice.{covering, runIndex, sliceRuns}
-use Rattle.slice.specs.Slice as slice
+use Rattle.merge_plan.specs.Calls.{mergePlanAsked, mergePlan, groupEnds, pastEach, groupOffsets}
+use Rattle.merge_mask.specs.Calls.{Group, groupsFrom, groups, maskAgrees}
+use Rattle.ops.specs.Calls.{zipAsked}
+use Rattle.ops.specs.Calls as ops
+use Rattle.plan.specs.Calls.{Segment, segmentsFrom, segments, segmentEnds, indexesOf, planAsked, plan}
+use Rattle.reduce.specs.Calls.{foldRuns, sumRuns}
+use Rattle.reduce.specs.Calls as reduce
+use Rattle.slice.specs.Calls.{covering, runIndex, sliceRuns}
+use Rattle.slice.specs.Calls as slice
 use Rattle.batch.specs.Batch.{Entry, keysOf, columnsOf, batchValid, entriesFrom, entries}
 use Rattle.batch.specs.Batch as batch
-use Rattle.each.specs.Each.{eachAsked, mapRlesSlice}
-use Rattle.shift.specs.Shift.{shiftValues, shift}
-use Rattle.transform.specs.Transform.{shown, concatAsked}
-use Rattle.transform.specs.Transform as transform
+use Rattle.batch_map_rles.specs.Calls.{eachAsked, mapRlesSlice}
+use Rattle.shift.specs.Calls.{shiftValues, shift}
+use Rattle.transform.specs.Calls.{shown, concatAsked}
+use Rattle.transform.specs.Calls as transform
 use Rattle.cutting.specs.Cut.{cutPoints, spans, batchOf, _then_, inTurn, refusedWith, someRefusedWith, addWrapping}
 use Rattle.cutting.specs.Claim.{cutBatch, zipWith, zipPieces, concat, sum}
 

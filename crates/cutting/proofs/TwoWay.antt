@@ -19,8 +19,8 @@ use Rattle.column.proofs.FirstNo.{all-yes}
 use Rattle.column.proofs.Rising.{Valid}
 use Rattle.column.proofs.Sequences.{runs-flat}
 use Rattle.slice.proofs.Sliced.{valid-slice}
-use Rattle.ops.specs.Ops.{zipAsked}
-use Rattle.ops.specs.Ops as ops
+use Rattle.ops.specs.Calls.{zipAsked}
+use Rattle.ops.specs.Calls as ops
 use Rattle.cutting.specs.Cut.{longest, cutPoints, spans, sequenceOf}
 use Rattle.cutting.specs.Claim.{ValidSequence, NeverShows, zipWith, zipPieces, JoinsUp}
 use Rattle.cutting.proofs.Combined.{piece}

@@ -12,14 +12,14 @@ use Rattle.column.specs.Flat.{Flat, sequences, columns, flatAsked}
 use Rattle.column.specs.Paper.{Outcome, answers}
 use Rattle.column.specs.Questions.{paired, endsValid, room, both}
 use Rattle.column.specs.Runs.{Sequence, Runs, runs, endsOf, valuesOf}
-use Rattle.slice.specs.Slice as slice
-use Rattle.transform.specs.Transform as transform
-use Rattle.reduce.specs.Reduce as reduce
-use Rattle.ops.specs.Ops as ops
-use Rattle.zip_many.specs.ZipMany as zip-many
+use Rattle.slice.specs.Calls as slice
+use Rattle.transform.specs.Calls as transform
+use Rattle.reduce.specs.Calls as reduce
+use Rattle.ops.specs.Calls as ops
+use Rattle.zip_many.specs.Calls as zip-many
 use Rattle.batch.specs.Batch.{Batch, Entry, entries, keysOf, columnsOf, batchValid, batchNeeds}
-use Rattle.each.specs.Each as each
-use Rattle.join.specs.Zip as join
+use Rattle.batch_map_rles.specs.Calls as each
+use Rattle.batch_zip_with.specs.Calls as join
 use Rattle.cutting.specs.Cut.{longest, cutPoints, Span, spans, sequenceOf, flatOf, batchOf, _then_, inTurn, refusedWith, someRefusedWith, addWrapping}
 
 -- ---- "valid columns": "as many values as ends, ends as at the top and offsets as under 2 and 3"

@@ -1,3 +1,3 @@
--- Demand 3, to be read after the definitions of slice, transform, reduce, ops, many, batch, each and join.
+-- Demand 3; to be read after the definitions of slice, transform, reduce, ops, zip_many, batch, batch_map_rles and batch_zip_with.
 pub mod Claim
 pub mod Cut

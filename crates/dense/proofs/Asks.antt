@@ -12,7 +12,7 @@ use Rattle.column.proofs.Ends.{length-of-ends}
 use Rattle.column.proofs.FirstNo.{all-yes, asked-last, first-several}
 use Rattle.column.proofs.Told.{agree-told}
 use Rattle.column.proofs.YesNo.{room-one}
-use Rattle.dense.specs.Dense.{toDenseAsked}
+use Rattle.dense.specs.Calls.{toDenseAsked}
 
 pub to-dense-asked : (es vs : List ℤ) (g : ℕ) {r a b : Question} {n : ℕ} {x : ℤ} → r ≡ firstNo (a ∷ b ∷ []) → a ≡ firstNo (paired (sequence es vs) ∷ endsValid es ∷ [])
     → b ≡ roomAt 0 n g → n ≡ magnitude x → x ≡ lengthOfEnds es → r ≡ toDenseAsked (sequence es vs) (g ∷ [])

@@ -10,7 +10,7 @@ use lib.ListN.{length, getD, take, replicate, getD-replicate, replicate-append-r
 use lib.Seq.{take-all, take-suc, length-take-le, getD-take, getD-append-add}
 use Rattle.column.specs.declared.inner.Writer.{Writer}
 use Rattle.column.specs.Runs.{encodeFrom, encode, over, Filled}
-use Rattle.column.specs.Writing.{nextPlace, PushedMerged, Merging}
+use Rattle.column.specs.Workers.{nextPlace, PushedMerged, Merging}
 use Rattle.column.proofs.Buffer.{length-over, over-over}
 use Rattle.column.proofs.Encode.{encode-pos, encode-none, encode-le, encode-last, encode-more, encode-stretch}
 use Rattle.column.proofs.Merging.{merge-start, merge-end, merge-at, merge-more, fill-none}

@@ -7,7 +7,7 @@ use Rattle.column.specs.Paper.{answers}
 use Rattle.column.specs.Questions.{agree, paired, endsFrom, endsValid, roomAt, roomFrom, room}
 use Rattle.column.specs.Runs.{sequence, runsOf, endsOf, valuesOf, lengthOf, denseFrom, dense, joined, encodeFrom, encode, pushMerged}
 use Rattle.column.proofs.Rows.{Row, row, Hold, asRuns, asEntries}
-use Rattle.dense.specs.Dense.{fromDense, toDenseAsked, toDense}
+use Rattle.dense.specs.Calls.{fromDense, toDenseAsked, toDense}
 
 abbrev rows : List Row
 rows =

@@ -13,7 +13,7 @@ use Rattle.column.proofs.Ends.{rising, runs-rise}
 use Rattle.column.proofs.FirstNo.{all-yes}
 use Rattle.column.proofs.Told.{agree-told, room-told}
 use Rattle.column.proofs.YesNo.{room-one}
-use Rattle.dense.specs.Dense.{toDenseAsked}
+use Rattle.dense.specs.Calls.{toDenseAsked}
 
 pub to-dense-yes : (es vs out : List ℤ) → toDenseAsked (sequence es vs) (length out ∷ []) ≡ none
     → (endsValid es ≡ none) × (length es ≡ length vs) × (length (dense (runsOf es vs)) ≤ length out)

@@ -1,3 +1,3 @@
--- from_dense and to_dense, of rle.rs; to be read after column's definitions.
-pub mod Dense
+-- from_dense and to_dense, of rle.rs; to be read after the definitions of column.
+pub mod Calls
 pub mod Workers

@@ -9,7 +9,7 @@ ghost use lib.ListN.{length};
 ghost use Rattle.column.specs.Asking.{shownAsked};
 ghost use Rattle.column.specs.Paper.{WritesRuns, WritesEntries};
 ghost use Rattle.column.specs.Runs.{sequence};
-ghost use Rattle.dense.specs.Dense as calls;
+ghost use Rattle.dense.specs.Calls as calls;
 
 // The merged sequence that shows the values.
 pub fn from_dense(values: &[i64], out_ends: &mut [i64], out_values: &mut [i64]) -> Counted

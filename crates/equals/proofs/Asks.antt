@@ -10,7 +10,7 @@ use Rattle.column.specs.Questions.{agree, paired, endsValid}
 use Rattle.column.specs.Runs.{sequence}
 use Rattle.column.proofs.FirstNo.{all-yes, asked-next, asked-last}
 use Rattle.column.proofs.Told.{agree-told}
-use Rattle.equals.specs.Equals.{equalsAsked}
+use Rattle.equals.specs.Calls.{equalsAsked}
 use Rattle.equals.specs.Workers.{Comparable}
 
 pub equals-asked : (ae av be bv : List ℤ) {r a b c d f g : Question} → r ≡ firstNo (a ∷ b ∷ []) → a ≡ agree 3 (length ae) (length av)

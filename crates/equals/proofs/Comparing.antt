@@ -14,13 +14,13 @@ use Rattle.column.specs.Runs.{Run, magnitude, sequence, runsOf, lengthOf, lengt
 use Rattle.column.proofs.Ends.{rising, runs-rise, length-of-ends}
 use Rattle.column.proofs.Lists.{any-append}
 use Rattle.column.proofs.Rising.{Valid}
-use Rattle.plan.specs.Plan.{Segment, segments, segmentsFrom, segmentRun, segmentRuns}
+use Rattle.plan.specs.Calls.{Segment, segments, segmentsFrom, segmentRun, segmentRuns}
 use Rattle.plan.specs.declared.inner.Segments.{Segments}
-use Rattle.plan.specs.Walk.{placesAt, Starts, Walks}
+use Rattle.plan.specs.Workers.{placesAt, Starts, Walks}
 use Rattle.plan.proofs.Columns.{ends-in, both-shown}
 use Rattle.plan.proofs.Listing.{segmentAt, segments-first}
 use Rattle.plan.proofs.Walking.{Walk, walk-start, walk-next, walk-end}
-use Rattle.equals.specs.Equals.{same}
+use Rattle.equals.specs.Calls.{same}
 use Rattle.equals.specs.Workers.{Comparable}
 use Rattle.equals.proofs.Same.{same-segments, same-lengths}
 

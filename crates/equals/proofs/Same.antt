@@ -16,9 +16,9 @@ use Rattle.column.proofs.Cover.{any-dense}
 use Rattle.column.proofs.Dense.{length-dense}
 use Rattle.column.proofs.Positions.{zipDense, table-two}
 use Rattle.column.proofs.Rising.{Valid}
-use Rattle.plan.specs.Plan.{segmentRuns}
+use Rattle.plan.specs.Calls.{segmentRuns}
 use Rattle.plan.proofs.Raw.{raw-dense, raw-rises}
-use Rattle.equals.specs.Equals.{same}
+use Rattle.equals.specs.Calls.{same}
 
 same-zip : (x y : ℤ) (xs ys : List ℤ) → length xs ≡ length ys → same xs ys ≡ not (any (λ z. eqZ z (pos 0)) (zipDense (operation 7) x y xs ys))
 unfolding zipDense operation

@@ -1,3 +1,3 @@
--- equals, of rle.rs; to be read after column's definitions.
-pub mod Equals
+-- equals, of rle.rs; to be read after the definitions of column.
+pub mod Calls
 pub mod Workers

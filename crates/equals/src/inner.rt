@@ -3,7 +3,7 @@ use column::sequence;
 use plan::inner::Segments;
 ghost use mathlib.Core.Path.{_≡_};
 ghost use Rattle.column.specs.Runs.{sequence, runsOf, dense};
-ghost use Rattle.equals.specs.Equals.{same};
+ghost use Rattle.equals.specs.Calls.{same};
 ghost use Rattle.equals.specs.Workers.{Comparable};
 
 // Columns of one length are compared at every segment, up to the first that shows two values.

@@ -5,8 +5,8 @@ use column::error::Refusal;
 ghost use mathlib.Core.Path.{_≡_};
 ghost use Rattle.column.specs.Asking.{shownAsked};
 ghost use Rattle.column.specs.Runs.{sequence};
-ghost use Rattle.equals.specs.Equals.{shownEquality};
-ghost use Rattle.equals.specs.Equals as calls;
+ghost use Rattle.equals.specs.Calls.{shownEquality};
+ghost use Rattle.equals.specs.Calls as calls;
 
 // The answer of `equals`.
 pub enum Equality {

@@ -11,7 +11,7 @@ use Rattle.num.specs.Numbers.{residue, signed}
 use Rattle.batch.specs.declared.Got.{Got}
 use Rattle.batch.specs.Batch.{Entry, WritesBatch}
 use Rattle.batch.specs.Calls.{WritesGot}
-use Rattle.collapse.specs.Collapse.{WritesCollapse}
+use Rattle.batch_collapse.specs.Calls.{WritesCollapse}
 use Rattle.column.specs.declared.answer.Batched.{Batched}
 use Rattle.column.specs.declared.answer.Checked.{Checked}
 use Rattle.column.specs.declared.answer.Counted.{Counted}
@@ -27,22 +27,22 @@ use Rattle.column.specs.Flat.{WritesFlat}
 use Rattle.column.specs.Paper.{Outcome, numberOf, shownBy, shownChecked, shownFound, WritesRuns, WritesEntries}
 use Rattle.column.specs.Runs.{Runs}
 use Rattle.many.specs.declared.PlannedMany.{PlannedMany}
-use Rattle.many.specs.Many.{WritesPlanMany}
-use Rattle.groups.specs.Groups.{WritesGroups}
-use Rattle.merge.specs.Merge.{Group}
-use Rattle.plan.specs.Plan.{Segment, WritesPlan}
+use Rattle.many.specs.Calls.{WritesPlanMany}
+use Rattle.merge_plan.specs.Calls.{WritesGroups}
+use Rattle.merge_mask.specs.Calls.{Group}
+use Rattle.plan.specs.Calls.{Segment, WritesPlan}
 use Rattle.reduce.specs.declared.Reduced.{Reduced}
 use Rattle.reduce.specs.declared.Reduction.{Reduction}
 use Rattle.reduce.specs.declared.Reduction.the-variants.{Whole, Fraction, Nothing}
 use Rattle.reduce.specs.declared.Summed.{Summed}
-use Rattle.reduce.specs.Reduce.{plusZero, kindOf, shownSummed, Reduces, WritesReductions}
+use Rattle.reduce.specs.Calls.{plusZero, kindOf, shownSummed, Reduces, WritesReductions}
 use Rattle.equals.specs.declared.Equality.{Equality}
-use Rattle.equals.specs.Equals.{shownEquality}
+use Rattle.equals.specs.Calls.{shownEquality}
 use Rattle.slice.specs.declared.Part.{Part}
 use Rattle.slice.specs.declared.View.{View}
 use Rattle.slice.specs.declared.Viewed.{Viewed}
-use Rattle.slice.specs.Slice.{shownViewed, PartOf}
-use Rattle.ranges.specs.Ranges.{Range, WritesRanges}
+use Rattle.slice.specs.Calls.{shownViewed, PartOf}
+use Rattle.ranges_where.specs.Calls.{Range, WritesRanges}
 use Rattle.ffi.specs.declared.RlBatched.{RlBatched}
 use Rattle.ffi.specs.declared.RlCounted.{RlCounted}
 use Rattle.ffi.specs.declared.RlEquality.{RlEquality}

@@ -15,10 +15,10 @@ use Rattle.column.specs.Questions.{paired, offsetsValid, sequencesValid, atMost
 use Rattle.column.proofs.FirstNo.{AllYes, all-yes, first-several, asked-next, asked-last}
 use Rattle.column.proofs.Told.{agree-told, most-told, room-told}
 use Rattle.column.proofs.YesNo.{room-each, room-saturated}
-use Rattle.plan.specs.Plan.{Segment, endsIn, segments}
+use Rattle.plan.specs.Calls.{Segment, endsIn, segments}
 use Rattle.many.specs.declared.PlannedMany.{PlannedMany}
 use Rattle.many.specs.declared.inner.Counts.{Counts}
-use Rattle.many.specs.Many.{mostColumns, planManyAsked, WritesPlanMany}
+use Rattle.many.specs.Calls.{mostColumns, planManyAsked, WritesPlanMany}
 use Rattle.many.specs.Workers.{Plannable, PlanManyFilled}
 use Rattle.many.proofs.Flats.{ends-columns}
 use Rattle.many.proofs.Walking.{endsOfParts}

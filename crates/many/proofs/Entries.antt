@@ -22,8 +22,8 @@ use Rattle.column.specs.Runs.{magnitude}
 use Rattle.column.proofs.Ends.{natural-end}
 use Rattle.column.proofs.Naturals.{magnitude-below}
 use Rattle.column.proofs.Parts.{length-part, part-at}
-use Rattle.plan.specs.Plan.{Place, steppedOn, least}
-use Rattle.plan.specs.Walk.{placeAt, spent, EndAt}
+use Rattle.plan.specs.Calls.{Place, steppedOn, least}
+use Rattle.plan.specs.Workers.{placeAt, spent, EndAt}
 use Rattle.plan.proofs.Segments.{withOthers}
 use Rattle.plan.proofs.Step.{ahead, ahead-some, ahead-none, place-stays, end-some, end-none}
 use Rattle.many.specs.Workers.{InColumn}

@@ -14,7 +14,7 @@ use Rattle.column.specs.Runs.{Runs, runs, magnitude}
 use Rattle.column.proofs.All.{All}
 use Rattle.column.proofs.Flattened.{columns-by-ends, columns-valid, sequences-told}
 use Rattle.column.proofs.Rising.{Valid}
-use Rattle.plan.specs.Plan.{endsIn}
+use Rattle.plan.specs.Calls.{endsIn}
 use Rattle.plan.proofs.Columns.{ends-in}
 use Rattle.many.proofs.Walking.{endsOfParts}
 

@@ -15,7 +15,7 @@ use borrow.Author.Tests.{eqb-true, eqb-false, eq-eqb, ne-eqb, ltb-true, ltb-fals
 use Rattle.num.proofs.Tests.{by-test}
 use Rattle.column.specs.Lists.{parts}
 use Rattle.column.proofs.Parts.{partsAt, parts-start, parts-cons, length-part}
-use Rattle.plan.specs.Walk.{spent, currentEnd, EndAt}
+use Rattle.plan.specs.Workers.{spent, currentEnd, EndAt}
 use Rattle.plan.proofs.Step.{ahead, ahead-none}
 use Rattle.many.specs.Workers.{InColumn, columnAt, Paired, Kept, ColumnPlaced, ColumnStepped}
 use Rattle.many.proofs.Places.{valuesAt}

@@ -13,8 +13,8 @@ use Rattle.column.specs.Lists.{parts}
 use Rattle.column.specs.Questions.{endsValid}
 use Rattle.column.proofs.Flattened.{AllValid, length-parts, offset-within, sequences-told}
 use Rattle.column.proofs.Parts.{partsAt, parts-start, parts-cons, length-part}
-use Rattle.plan.specs.Plan.{Place, indexes, stepped}
-use Rattle.plan.specs.Walk.{placeAt}
+use Rattle.plan.specs.Calls.{Place, indexes, stepped}
+use Rattle.plan.specs.Workers.{placeAt}
 use Rattle.many.specs.Workers.{columnAt, placesFor, placesOf, Within, Placed, ColumnPlaced}
 use Rattle.many.proofs.Entries.{place-again, place-within}
 

@@ -10,10 +10,10 @@ use lib.IntN.{ℤ, pos}
 use lib.ListN.{length, take, drop, set, length-append}
 use Rattle.column.specs.Runs.{over}
 use Rattle.column.proofs.Buffer.{Written, write-start, write-next, over-rest}
-use Rattle.plan.specs.Plan.{Segment, indexes, segments}
-use Rattle.plan.specs.Walk.{spent}
+use Rattle.plan.specs.Calls.{Segment, indexes, segments}
+use Rattle.plan.specs.Workers.{spent}
 use Rattle.plan.proofs.Listing.{segmentAt}
-use Rattle.many.specs.Many.{allIndexes}
+use Rattle.many.specs.Calls.{allIndexes}
 use Rattle.many.specs.Workers.{placesOf, Stepped, Walkable, PlanManyFilled}
 use Rattle.many.proofs.Walking.{Walk, endsOfParts, walk-start, walk-end, walk-indexes, walk-few, walk-next}
 

@@ -11,7 +11,7 @@ use Rattle.column.specs.Combine.{Column, many, table}
 use Rattle.column.specs.Flat.{flat, columns}
 use Rattle.column.specs.Questions.{sequencesValid}
 use Rattle.column.specs.Runs.{Runs, dense}
-use Rattle.plan.specs.Plan.{endsIn, segments, segmentRun, segmentRuns}
+use Rattle.plan.specs.Calls.{endsIn, segments, segmentRun, segmentRuns}
 use Rattle.plan.proofs.Raw.{raw-dense}
 use Rattle.many.proofs.Flats.{many-valid}
 

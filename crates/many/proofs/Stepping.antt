@@ -13,8 +13,8 @@ use lib.Seq.{drop-cons, set-at, getD-at, append-snoc}
 use Rattle.column.specs.Lists.{parts}
 use Rattle.column.specs.Runs.{magnitude}
 use Rattle.column.proofs.Parts.{parts-start}
-use Rattle.plan.specs.Plan.{Place, leastEnd, steppedOn, rests, indexes, stepped}
-use Rattle.plan.specs.Walk.{placeAt, spent, EndAt}
+use Rattle.plan.specs.Calls.{Place, leastEnd, steppedOn, rests, indexes, stepped}
+use Rattle.plan.specs.Workers.{placeAt, spent, EndAt}
 use Rattle.plan.proofs.Segments.{least-cons}
 use Rattle.plan.proofs.Step.{ahead}
 use Rattle.many.specs.Workers.{columnAt, placesOf, Placed, ColumnPlaced, Stepped}

@@ -14,8 +14,8 @@ use Rattle.column.specs.Questions.{endsValid, offsetsValid}
 use Rattle.column.specs.Runs.{magnitude}
 use Rattle.column.proofs.Ends.{rising}
 use Rattle.column.proofs.Flattened.{AllValid, offsets-some, length-parts, total-parts, sequences-told}
-use Rattle.plan.specs.Plan.{Place, Segment, steppedOn, leastEnd, rests, indexes, stepped, firstPlaces, segments}
-use Rattle.plan.specs.Walk.{Steps, spent}
+use Rattle.plan.specs.Calls.{Place, Segment, steppedOn, leastEnd, rests, indexes, stepped, firstPlaces, segments}
+use Rattle.plan.specs.Workers.{Steps, spent}
 use Rattle.plan.proofs.Listing.{Listing, segmentAt, list-start, list-next, list-end, step-less, left-first, segments-first}
 use Rattle.plan.proofs.Segments.{left}
 use Rattle.many.specs.Workers.{placesFor, placesOf, Within, endFound, Placed, Stepped, Walkable}

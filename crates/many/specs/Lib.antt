@@ -1,3 +1,3 @@
 -- plan_many of many.rs, and the walk over the segments of many columns; to be read after the definitions of column and plan.
-pub mod Many
+pub mod Calls
 pub mod Workers

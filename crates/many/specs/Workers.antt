@@ -10,10 +10,10 @@ use lib.ListN.{length, getD, drop, set, replicate}
 use Rattle.column.specs.Lists.{part, parts}
 use Rattle.column.specs.Questions.{endsValid, offsetsValid, sequencesValid}
 use Rattle.column.specs.Runs.{magnitude, over}
-use Rattle.plan.specs.Plan.{Place, Segment, leastEnd, rests, indexes, stepped, segmentEnds}
-use Rattle.plan.specs.Walk.{placeAt, spent, EndAt}
+use Rattle.plan.specs.Calls.{Place, Segment, leastEnd, rests, indexes, stepped, segmentEnds}
+use Rattle.plan.specs.Workers.{placeAt, spent, EndAt}
 use Rattle.many.specs.declared.inner.Counts.{Counts}
-use Rattle.many.specs.Many.{mostColumns, allIndexes}
+use Rattle.many.specs.Calls.{mostColumns, allIndexes}
 
 -- where columns stand, by the index of each one's current run
 abbrev pub placesFor : List ℕ → List (List ℤ) → List Place

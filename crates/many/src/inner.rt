@@ -11,8 +11,8 @@ ghost use lib.ListN.{length, getD, take, drop};
 ghost use Rattle.column.specs.Lists.{part, parts};
 ghost use Rattle.column.specs.Questions.{endsValid};
 ghost use Rattle.column.specs.Runs.{magnitude, lengthOfEnds, over};
-ghost use Rattle.plan.specs.Plan.{segments};
-ghost use Rattle.plan.specs.Walk.{spent, EndAt};
+ghost use Rattle.plan.specs.Calls.{segments};
+ghost use Rattle.plan.specs.Workers.{spent, EndAt};
 ghost use Rattle.many.specs.Workers.{InColumn, Placed, Paired, Kept, ColumnPlaced, ColumnStepped, Stepped, Walkable, Plannable, PlanManyFilled};
 
 // How many segments were written, and how many indexes.

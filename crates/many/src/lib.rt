@@ -9,8 +9,8 @@ ghost use mathlib.Core.Path.{_≡_};
 ghost use lib.ListN.{length};
 ghost use Rattle.column.specs.Asking.{shownAsked};
 ghost use Rattle.column.specs.Flat.{flat};
-ghost use Rattle.many.specs.Many.{WritesPlanMany};
-ghost use Rattle.many.specs.Many as calls;
+ghost use Rattle.many.specs.Calls.{WritesPlanMany};
+ghost use Rattle.many.specs.Calls as calls;
 
 // The answer of `plan_many`: how many segments, and how many indexes, one for each column of each.
 pub enum PlannedMany {

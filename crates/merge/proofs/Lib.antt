@@ -1,5 +1,1 @@
-pub mod Asks
-pub mod Examples
-pub mod First
-pub mod Groups
-pub mod Writing
+pub mod Appended

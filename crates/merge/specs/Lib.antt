@@ -1,3 +1,2 @@
--- merge_mask and merge_by, of merge.rs; to be read after column's definitions.
-pub mod Merge
-pub mod Workers
+-- merge and merged, of merge.rs; to be read after the definitions of column.
+pub mod Calls

@@ -15,8 +15,8 @@ use Rattle.column.specs.Runs.{Sequence, sequence, runsOf, lengthOf, lengthOfEnd
 use Rattle.column.proofs.Ends.{length-of-ends}
 use Rattle.column.proofs.FirstNo.{all-yes, asked-next, asked-last}
 use Rattle.column.proofs.Told.{agree-told, both-told}
-use Rattle.plan.specs.Plan.{segmentRuns}
-use Rattle.ops.specs.Ops.{sides, zipAsked}
+use Rattle.plan.specs.Calls.{segmentRuns}
+use Rattle.ops.specs.Calls.{sides, zipAsked}
 use Rattle.ops.specs.Workers.{Zippable}
 
 module _ (ae av be bv : List ℤ) (fa fb : Fill) where

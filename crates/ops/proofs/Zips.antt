@@ -10,12 +10,12 @@ use Rattle.column.specs.declared.answer.Fill.the-variants.{Value}
 use Rattle.column.specs.declared.inner.Writer.{Writer}
 use Rattle.column.specs.Combine.{Column, two, combined}
 use Rattle.column.specs.Runs.{Run, sequence, runsOf, endsOf, valuesOf, over, Filled}
-use Rattle.column.specs.Writing.{nextPlace, PushedMerged, pushAll, Merging}
+use Rattle.column.specs.Workers.{nextPlace, PushedMerged, pushAll, Merging}
 use Rattle.column.proofs.Buffer.{Written, write-start, write-next}
 use Rattle.column.proofs.Merging.{merge-start}
-use Rattle.plan.specs.Plan.{Segment, segmentRun, segmentRuns}
+use Rattle.plan.specs.Calls.{Segment, segmentRun, segmentRuns}
 use Rattle.plan.specs.declared.inner.Segments.{Segments}
-use Rattle.plan.specs.Walk.{placesAt, Starts, Walks}
+use Rattle.plan.specs.Workers.{placesAt, Starts, Walks}
 use Rattle.plan.proofs.Columns.{ends-in, both-valid, both-start, both-shown}
 use Rattle.plan.proofs.Listing.{Listing, segmentAt}
 use Rattle.plan.proofs.Segments.{left, none-left}

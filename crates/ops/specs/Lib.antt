@@ -1,3 +1,3 @@
 -- The calls of ops.rs; to be read after the definitions of column and plan.
-pub mod Ops
+pub mod Calls
 pub mod Workers

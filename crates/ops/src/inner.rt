@@ -9,8 +9,8 @@ ghost use Rattle.num.specs.Numbers.{operation};
 ghost use Rattle.column.specs.declared.answer.Fill.the-variants.{Value};
 ghost use Rattle.column.specs.Combine.{combined};
 ghost use Rattle.column.specs.Runs.{sequence, Filled};
-ghost use Rattle.plan.specs.Plan.{segmentRuns};
-ghost use Rattle.ops.specs.Ops.{sides};
+ghost use Rattle.plan.specs.Calls.{segmentRuns};
+ghost use Rattle.ops.specs.Calls.{sides};
 ghost use Rattle.ops.specs.Workers.{Zippable};
 
 // What two columns show together at a run of each, the fill standing where there is none.

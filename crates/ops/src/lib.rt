@@ -10,7 +10,7 @@ ghost use lib.ListN.{length};
 ghost use Rattle.column.specs.Asking.{shownAsked};
 ghost use Rattle.column.specs.Paper.{WritesRuns};
 ghost use Rattle.column.specs.Runs.{sequence};
-ghost use Rattle.ops.specs.Ops as calls;
+ghost use Rattle.ops.specs.Calls as calls;
 
 fn zip_asks(
     a_ends: &[i64],

@@ -11,7 +11,7 @@ use Rattle.column.specs.Questions.{endsValid, roomAt, room}
 use Rattle.column.proofs.FirstNo.{all-yes, asked-next, asked-last}
 use Rattle.column.proofs.Told.{room-told}
 use Rattle.column.proofs.YesNo.{room-each}
-use Rattle.plan.specs.Plan.{planAsked}
+use Rattle.plan.specs.Calls.{planAsked}
 
 pub plan-asked : (a b : List ℤ) (e x y : ℕ) {r s t u v w f g h : Question} → r ≡ firstNo (s ∷ t ∷ []) → s ≡ endsValid a → t ≡ firstNo (u ∷ v ∷ []) → u ≡ endsValid b
     → v ≡ firstNo (w ∷ f ∷ []) → w ≡ roomAt 0 (length a + length b) e → f ≡ firstNo (g ∷ h ∷ []) → g ≡ roomAt 1 (length a + length b) x → h ≡ roomAt 2 (length a + length b) y

@@ -14,7 +14,7 @@ use Rattle.column.specs.Runs.{Run, Runs, magnitude, runsOf, dense}
 use Rattle.column.proofs.All.{All}
 use Rattle.column.proofs.Ends.{rising, runs-rise, values-runs}
 use Rattle.column.proofs.Rising.{Valid}
-use Rattle.plan.specs.Plan.{endsIn, segmentsOf, segmentRun, segmentRuns}
+use Rattle.plan.specs.Calls.{endsIn, segmentsOf, segmentRun, segmentRuns}
 use Rattle.plan.proofs.Raw.{raw-dense}
 use Rattle.plan.proofs.Walking.{firsts}
 use Rattle.plan.proofs.Zipping.{starts, shownAt, combined-few}

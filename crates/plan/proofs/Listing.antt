@@ -10,8 +10,8 @@ use lib.ListN.{length, length-append}
 use lib.Seq.{append-snoc}
 use Rattle.column.specs.Lists.{total}
 use Rattle.column.specs.Runs.{magnitude}
-use Rattle.plan.specs.Plan.{Place, Segment, leastEnd, rests, indexes, firstPlaces, segmentsFrom, segments}
-use Rattle.plan.specs.Walk.{Steps}
+use Rattle.plan.specs.Calls.{Place, Segment, leastEnd, rests, indexes, firstPlaces, segmentsFrom, segments}
+use Rattle.plan.specs.Workers.{Steps}
 use Rattle.plan.proofs.Segments.{left, left-less, segments-step, segments-end}
 
 pub record Listing (start : List Place) (done : List Segment) (ps : List Place) : Type 0 where

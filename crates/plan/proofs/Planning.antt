@@ -12,9 +12,9 @@ use Rattle.column.specs.declared.error.Refusal.{Refusal}
 use Rattle.column.specs.Asking.{Question, _otherwise_}
 use Rattle.column.specs.Paper.{answers, paper}
 use Rattle.column.proofs.Buffer.{Written, write-start, write-next}
-use Rattle.plan.specs.Plan.{Segment, segmentsOf, WritesPlan}
+use Rattle.plan.specs.Calls.{Segment, segmentsOf, WritesPlan}
 use Rattle.plan.specs.declared.inner.Segments.{Segments}
-use Rattle.plan.specs.Walk.{placesAt, Starts, Walks, PlanFilled}
+use Rattle.plan.specs.Workers.{placesAt, Starts, Walks, PlanFilled}
 use Rattle.plan.proofs.Listing.{segmentAt}
 use Rattle.plan.proofs.Walking.{Walk, walk-start, walk-few, walk-next, walk-end}
 

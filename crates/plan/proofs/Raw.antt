@@ -22,9 +22,9 @@ use Rattle.column.proofs.Dense.{length-dense}
 use Rattle.column.proofs.Encode.{push-all}
 use Rattle.column.proofs.Positions.{eachPosition-add, eachPosition-length, eachPosition-const}
 use Rattle.column.proofs.Rising.{Rising, Valid}
-use Rattle.plan.specs.Plan.{Place, leastEnd, steppedOn, rests, indexes, stepped, segmentsFrom, firstPlaces, segments, valuesFor, segmentRun, endsIn, segmentRuns}
+use Rattle.plan.specs.Calls.{Place, leastEnd, steppedOn, rests, indexes, stepped, segmentsFrom, firstPlaces, segments, valuesFor, segmentRun, endsIn, segmentRuns}
 use Rattle.plan.proofs.Segments.{left, left-less, withOthers, least-cons, none-left, segments-step, segments-end}
-use Rattle.column.specs.Writing.{pushAll}
+use Rattle.column.specs.Workers.{pushAll}
 
 -- a column, and the index of its current run
 record At : Type 0 where

@@ -9,7 +9,7 @@ use lib.ListN.{length}
 use lib.Dec.{eqb}
 use borrow.Author.Tests.{eqb-false, eq-eqb}
 use Rattle.num.proofs.Tests.{by-test}
-use Rattle.plan.specs.Plan.{Place, least, leastEnd, steppedOn, rests, indexes, stepped, segmentsFrom}
+use Rattle.plan.specs.Calls.{Place, least, leastEnd, steppedOn, rests, indexes, stepped, segmentsFrom}
 
 -- the runs that are left
 abbrev pub left : List Place → ℕ

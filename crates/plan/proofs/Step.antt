@@ -16,8 +16,8 @@ use Rattle.num.proofs.Tests.{by-test}
 use Rattle.column.specs.Runs.{magnitude}
 use Rattle.plan.specs.declared.inner.Cursor.{Cursor}
 use Rattle.plan.specs.declared.inner.Segments.{Segments}
-use Rattle.plan.specs.Plan.{leastEnd, rests, steppedOn}
-use Rattle.plan.specs.Walk.{placeAt, placesAt, spent, currentEnd, EndAt, Stands, Standing, steppedCursor, Walks}
+use Rattle.plan.specs.Calls.{leastEnd, rests, steppedOn}
+use Rattle.plan.specs.Workers.{placeAt, placesAt, spent, currentEnd, EndAt, Stands, Standing, steppedCursor, Walks}
 
 -- ---- a column
 

@@ -8,8 +8,8 @@ use lib.IntN.{ℤ}
 use lib.ListN.{length, drop, length-map, length-drop}
 use Rattle.column.specs.Runs.{magnitude}
 use Rattle.plan.specs.declared.inner.Segments.{Segments}
-use Rattle.plan.specs.Plan.{Place, Segment, segments}
-use Rattle.plan.specs.Walk.{placeAt, placesAt, Standing, Starts, Walks}
+use Rattle.plan.specs.Calls.{Place, Segment, segments}
+use Rattle.plan.specs.Workers.{placeAt, placesAt, Standing, Starts, Walks}
 use Rattle.plan.proofs.Listing.{Listing, segmentAt, list-start, list-next, list-end, step-less, segments-first}
 use Rattle.plan.proofs.Segments.{left, none-left}
 

@@ -10,14 +10,14 @@ use lib.ListN.{length, length-map}
 use Rattle.column.specs.declared.inner.Writer.{Writer}
 use Rattle.column.specs.Combine.{Column, folded, combined}
 use Rattle.column.specs.Runs.{Run, Runs, magnitude, pushMerged, Filled}
-use Rattle.column.specs.Writing.{nextPlace, PushedMerged, pushAll, Merging}
+use Rattle.column.specs.Workers.{nextPlace, PushedMerged, pushAll, Merging}
 use Rattle.column.proofs.Appending.{push-few}
 use Rattle.column.proofs.All.{All}
 use Rattle.column.proofs.Encode.{length-push, le-place}
 use Rattle.column.proofs.Merging.{merge-at, merge-more, merge-end, fill-none}
 use Rattle.column.proofs.Rising.{Valid}
-use Rattle.plan.specs.Plan.{Place, Segment, leastEnd, rests, indexes, firstPlaces, segmentsFrom, endsIn, valuesFor, segmentRun, segmentRuns}
-use Rattle.plan.specs.Walk.{Steps}
+use Rattle.plan.specs.Calls.{Place, Segment, leastEnd, rests, indexes, firstPlaces, segmentsFrom, endsIn, valuesFor, segmentRun, segmentRuns}
+use Rattle.plan.specs.Workers.{Steps}
 use Rattle.plan.proofs.Listing.{Listing, segmentAt, step-less, list-end, segments-first}
 use Rattle.plan.proofs.Raw.{raw-merges}
 use Rattle.plan.proofs.Segments.{left, none-left, some-left, segments-end, segments-few}

@@ -8,8 +8,8 @@ ghost use lib.Dec.{ltb};
 ghost use lib.ListN.{length, drop};
 ghost use Rattle.column.specs.Questions.{endsValid};
 ghost use Rattle.column.specs.Runs.{magnitude};
-ghost use Rattle.plan.specs.Walk.{spent, EndAt, steppedCursor, Starts, Walkable, Walks, PlanFilled};
-ghost use Rattle.plan.specs.Plan.{segmentsOf};
+ghost use Rattle.plan.specs.Workers.{spent, EndAt, steppedCursor, Starts, Walkable, Walks, PlanFilled};
+ghost use Rattle.plan.specs.Calls.{segmentsOf};
 
 // No end is as large: it stands where a column is spent.
 pub const SPENT: usize = usize::MAX;

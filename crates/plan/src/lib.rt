@@ -7,8 +7,8 @@ ghost use mathlib.Core.List.{[], _∷_};
 ghost use mathlib.Core.Path.{_≡_};
 ghost use lib.ListN.{length};
 ghost use Rattle.column.specs.Asking.{shownAsked};
-ghost use Rattle.plan.specs.Plan.{WritesPlan};
-ghost use Rattle.plan.specs.Plan as calls;
+ghost use Rattle.plan.specs.Calls.{WritesPlan};
+ghost use Rattle.plan.specs.Calls as calls;
 
 fn plan_asks(a: &[i64], b: &[i64], out_ends: usize, out_idx_a: usize, out_idx_b: usize) -> Asked
     ensures { λ r. ⌜ shownAsked r ≡ calls.planAsked (now (a .entry)) (now (b .entry)) («out_ends» ∷ «out_idx_a» ∷ «out_idx_b» ∷ []) ⌝ }

@@ -1,2 +1,2 @@
--- How the check of ends goes; the questions themselves are column's definitions.
-pub mod Quarters
+-- How the check of ends goes; the questions themselves are the definitions of column.
+pub mod Workers

@@ -17,7 +17,7 @@ ghost use Rattle.column.specs.Flat.{flat, flatAsked};
 ghost use Rattle.column.specs.Paper.{numberOf, shownBy};
 ghost use Rattle.column.specs.Questions.{listed, maskListed, agree, paired, usedWithin, startAndRise, lastOffset, offsetsRise, offsetsValid, endsFrom, endsValid, sequencesValid, atMost, notNegative, fits, runByRun, intervals, side, isMissing, filled, longEnough, roomAt, room, both, sequenceAsked};
 ghost use Rattle.column.specs.Runs.{sequence, magnitude};
-ghost use Rattle.questions.specs.Quarters.{endsFromQuarters};
+ghost use Rattle.questions.specs.Workers.{endsFromQuarters};
 
 // The first length that does not fit i64.
 const LIMIT: usize = 0x8000_0000_0000_0000;

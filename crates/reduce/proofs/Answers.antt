@@ -18,7 +18,7 @@ use Rattle.column.proofs.FirstNo.{alone, first-several, all-yes}
 use Rattle.reduce.specs.declared.Reduced.{Reduced}
 use Rattle.reduce.specs.declared.Reduction.{Reduction}
 use Rattle.reduce.specs.declared.inner.WindowReduction.{WindowReduction}
-use Rattle.reduce.specs.Reduce.{sum, sumRuns, reduce, reduction, shownReduced, FiniteReduction, FiniteReduced, Reduces}
+use Rattle.reduce.specs.Calls.{sum, sumRuns, reduce, reduction, shownReduced, FiniteReduction, FiniteReduced, Reduces}
 use Rattle.reduce.specs.Workers.{wholeOf, windowEnds, endsPass, SumOf, ReducesWindow}
 use Rattle.reduce.proofs.Reducing.{sum-reduced}
 use Rattle.reduce.proofs.Windows.{whole-ends, whole-runs, whole-window}

@@ -22,11 +22,11 @@ use Rattle.column.specs.Questions.{endsValid}
 use Rattle.column.specs.Runs.{runsOf}
 use Rattle.column.proofs.Buffer.{Written, write-start, write-next}
 use Rattle.slice.specs.declared.search.TouchedRuns.{TouchedRuns}
-use Rattle.slice.specs.Search.{touchedBy}
-use Rattle.slice.specs.Slice.{sliceRuns}
+use Rattle.slice.specs.Workers.{touchedBy}
+use Rattle.slice.specs.Calls.{sliceRuns}
 use Rattle.reduce.specs.declared.Reduction.{Reduction}
 use Rattle.reduce.specs.declared.inner.WindowReduction.{WindowReduction}
-use Rattle.reduce.specs.Reduce.{reduction, FiniteReduction, kindOf, bitsOf, allKinds, allBits, WritesReductions}
+use Rattle.reduce.specs.Calls.{reduction, FiniteReduction, kindOf, bitsOf, allKinds, allBits, WritesReductions}
 use Rattle.reduce.specs.Workers.{Window, ReducesWindow, FilledReductions}
 use Rattle.reduce.proofs.Windows.{window-of, window-rises, window-slice}
 

@@ -30,7 +30,7 @@ use Rattle.slice.specs.declared.search.TouchedRuns.{TouchedRuns}
 use Rattle.slice.proofs.Difference.{difference-of}
 use Rattle.reduce.specs.declared.Reduction.{Reduction}
 use Rattle.reduce.specs.declared.Reduction.the-variants.{Whole, Fraction, Nothing}
-use Rattle.reduce.specs.Reduce.{foldRuns, addWeight, addProduct, addSquare, plusZero, sumRuns, meanOf, varianceOf, hasVariance, reduction}
+use Rattle.reduce.specs.Calls.{foldRuns, addWeight, addProduct, addSquare, plusZero, sumRuns, meanOf, varianceOf, hasVariance, reduction}
 use Rattle.reduce.specs.Workers.{Window, windowEnds, windowValues, windowRuns, bodyOf, endsPass, SumOf, SquaresOf, divisorOf, VarianceBy, ReducesWindow}
 use Rattle.reduce.proofs.Divisor.{divisor-natural}
 use Rattle.reduce.proofs.Sums.{wrapped-fold}

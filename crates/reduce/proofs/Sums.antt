@@ -9,7 +9,7 @@ use lib.ListN.{replicate}
 use Rattle.num.specs.Numbers.{wrap}
 use Rattle.num.proofs.Wrap.{wrap-same, wrap-add-left}
 use Rattle.column.specs.Runs.{Runs, dense, denseFrom}
-use Rattle.reduce.specs.Reduce.{foldRuns, addWeight, sumRuns}
+use Rattle.reduce.specs.Calls.{foldRuns, addWeight, sumRuns}
 use Rattle.reduce.specs.Workers.{addWrapped}
 
 -- the values added, exactly

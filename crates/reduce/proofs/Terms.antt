@@ -11,7 +11,7 @@ use mir.Val.{SFits}
 use Rattle.float.specs.Float.{converted, Within}
 use Rattle.float.proofs.Converted.{converted-within}
 use Rattle.float.proofs.Operations.{add-within, sub-within, mul-within}
-use Rattle.reduce.specs.Reduce.{addProduct, addSquare}
+use Rattle.reduce.specs.Calls.{addProduct, addSquare}
 
 module _ (total : Float) (run : ℕ) (v : ℤ) where
   pub product-is : {x y : Float} → x ≡ converted (pos run) → y ≡ converted v → add binary64 total (mul binary64 x y) ≡ addProduct total run v

@@ -15,10 +15,10 @@ use borrow.Author.Tests.{ne-eqb, le-leb, lt-leb}
 use Rattle.column.specs.Asking.{Question, refusal}
 use Rattle.column.specs.Questions.{endsFrom}
 use Rattle.column.specs.Runs.{magnitude, runsOf, lastFrom}
-use Rattle.column.specs.Writing.{RisingEnds}
+use Rattle.column.specs.Workers.{RisingEnds}
 use Rattle.column.proofs.Ends.{from-check, rising-yes}
 use Rattle.slice.specs.declared.search.TouchedRuns.{TouchedRuns}
-use Rattle.reduce.specs.Reduce.{foldRuns}
+use Rattle.reduce.specs.Calls.{foldRuns}
 use Rattle.reduce.specs.Workers.{Walked, Window, bodyOf, windowEnds, windowValues, Totalled}
 use Rattle.reduce.proofs.Walking.{rising-front, rising-no}
 

@@ -20,9 +20,9 @@ use Rattle.num.proofs.Tests.{by-test}
 use Rattle.column.specs.Asking.{refusal}
 use Rattle.column.specs.Questions.{endsFrom}
 use Rattle.column.specs.Runs.{magnitude, runsOf, lastFrom}
-use Rattle.column.specs.Writing.{RisingEnds}
+use Rattle.column.specs.Workers.{RisingEnds}
 use Rattle.slice.proofs.Difference.{difference-of, difference-fits}
-use Rattle.reduce.specs.Reduce.{foldRuns}
+use Rattle.reduce.specs.Calls.{foldRuns}
 use Rattle.reduce.specs.Workers.{Walked, Stopped, ExactRun, ExactUpTo, ExactProducts}
 
 -- ---- one end more behind ends that rise

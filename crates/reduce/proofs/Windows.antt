@@ -18,15 +18,15 @@ use borrow.Author.Tests.{leb-false, ltb-true, ltb-false, le-leb, lt-leb, eq-eqb,
 use Rattle.num.proofs.Tests.{by-test}
 use Rattle.column.specs.Questions.{endsFrom, endsValid}
 use Rattle.column.specs.Runs.{Runs, magnitude, runsOf, lastEnd, lengthOf, lastFrom, lengthOfEnds}
-use Rattle.column.specs.Writing.{RisingEnds}
+use Rattle.column.specs.Workers.{RisingEnds}
 use Rattle.column.proofs.Ends.{rising, rising-yes, length-of-ends}
 use Rattle.column.proofs.Rising.{Rising}
 use Rattle.slice.specs.declared.search.TouchedRuns.{TouchedRuns}
-use Rattle.slice.specs.Search.{firstWhere, firstEndAbove, firstEndAtLeast, touchedBy}
-use Rattle.slice.specs.Slice.{cut, sliceRuns}
+use Rattle.slice.specs.Calls.{firstWhere, firstEndAbove, cut, sliceRuns}
+use Rattle.slice.specs.Workers.{firstEndAtLeast, touchedBy}
 use Rattle.slice.proofs.Difference.{difference-fits}
 use Rattle.slice.proofs.Touching.{count-inside, rising-lower}
-use Rattle.reduce.specs.Reduce.{foldRuns}
+use Rattle.reduce.specs.Calls.{foldRuns}
 use Rattle.reduce.specs.Workers.{Window, wholeOf, windowEnds, windowValues, windowRuns, countedFrom}
 
 -- ---- the touched runs are a window

@@ -1,3 +1,3 @@
--- The calls of reduce.rs, to be read after column's, slice's and float's definitions: Reduce; then Workers, which is about how the code goes.
-pub mod Reduce
+-- sum and reduce, of reduce.rs; to be read after the definitions of column, slice and float.
+pub mod Calls
 pub mod Workers

@@ -16,12 +16,12 @@ use Rattle.float.specs.Float.{converted, Within}
 use Rattle.column.specs.Asking.{Question, refusal, _unless_}
 use Rattle.column.specs.Questions.{endsFrom}
 use Rattle.column.specs.Runs.{Run, Runs, magnitude, runsOf, lastFrom, lengthOfEnds, over}
-use Rattle.column.specs.Writing.{RisingEnds}
+use Rattle.column.specs.Workers.{RisingEnds}
 use Rattle.slice.specs.declared.search.TouchedRuns.{TouchedRuns}
 use Rattle.reduce.specs.declared.inner.WindowReduction.{WindowReduction}
 use Rattle.reduce.specs.declared.Reduction.{Reduction}
 use Rattle.reduce.specs.declared.Reduction.the-variants.{Fraction, Nothing}
-use Rattle.reduce.specs.Reduce.{foldRuns, addProduct, addSquare, plusZero, reduction, FiniteReduction, allKinds, allBits}
+use Rattle.reduce.specs.Calls.{foldRuns, addProduct, addSquare, plusZero, reduction, FiniteReduction, allKinds, allBits}
 
 -- ---- runs passed one after another
 

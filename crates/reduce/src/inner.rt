@@ -12,8 +12,8 @@ ghost use lib.ListN.{length};
 ghost use lib.Signed.{ltZ};
 ghost use Rattle.column.specs.Questions.{endsValid};
 ghost use Rattle.column.specs.Runs.{magnitude, sequence, runsOf};
-ghost use Rattle.slice.specs.Slice.{sliceRuns};
-ghost use Rattle.reduce.specs.Reduce.{addProduct, addSquare, reduction, FiniteReduction, kindOf, bitsOf};
+ghost use Rattle.slice.specs.Calls.{sliceRuns};
+ghost use Rattle.reduce.specs.Calls.{addProduct, addSquare, reduction, FiniteReduction, kindOf, bitsOf};
 ghost use Rattle.reduce.specs.Workers.{addWrapped, WalkedSum, StoppedSum, SumOf, ProductsOf, ExactProducts, AllProducts, AroundMean, WalkedSquares, Squarable, SquaresOf, ExactRun, Window, divisorOf, VarianceBy, ReducesWindow};
 
 // How far a sum came: how many runs, the end of the last of them, and their total.

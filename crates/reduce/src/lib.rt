@@ -12,8 +12,8 @@ ghost use mathlib.Core.Path.{_≡_};
 ghost use lib.ListN.{length};
 ghost use Rattle.column.specs.Asking.{shownAsked, _otherwise_};
 ghost use Rattle.column.specs.Runs.{sequence};
-ghost use Rattle.reduce.specs.Reduce.{shownSummed, shownReduced, Reduces};
-ghost use Rattle.reduce.specs.Reduce as calls;
+ghost use Rattle.reduce.specs.Calls.{shownSummed, shownReduced, Reduces};
+ghost use Rattle.reduce.specs.Calls as calls;
 ghost use Rattle.reduce.specs.Workers.{endsPass, wholeOf};
 
 // The answer of `sum`.

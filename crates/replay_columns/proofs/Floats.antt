@@ -8,7 +8,7 @@ use Rattle.column.specs.Paper.{Outcome}
 use Rattle.ffi.specs.Reading.{readReduced, laidReduced, LaidReduced}
 use Rattle.ffi.specs.declared.RlReduced.{RlReduced}
 use Rattle.reduce.proofs.Intervals.{finite-no-nan}
-use Rattle.reduce.specs.Reduce.{FiniteReduced}
+use Rattle.reduce.specs.Calls.{FiniteReduced}
 use Rattle.reduce.specs.declared.Reduced.{Reduced}
 use Rattle.reduce.specs.declared.Reduction.{Reduction}
 use Rattle.reduce.specs.declared.Reduction.the-variants.{Whole, Fraction, Nothing}

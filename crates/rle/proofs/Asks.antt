@@ -15,7 +15,7 @@ use Rattle.column.proofs.Ends.{length-of-ends}
 use Rattle.column.proofs.FirstNo.{asked-next, asked-last}
 use Rattle.column.proofs.Told.{used-told}
 use Rattle.column.proofs.Used.{used-paired}
-use Rattle.rle.specs.Rle.{pushRunAsked, extendToAsked, presentLength, roomForOne}
+use Rattle.rle.specs.Calls.{pushRunAsked, extendToAsked, presentLength, roomForOne}
 use Rattle.rle.proofs.Behind.{first-part}
 
 module _ (e v : List ℤ) (n : ℕ) (few : length e < 2 ^ 63) where

@@ -17,16 +17,16 @@ use Rattle.column.specs.declared.inner.Writer.{Writer}
 use Rattle.column.specs.Lists.{part}
 use Rattle.column.specs.Questions.{endsValid}
 use Rattle.column.specs.Runs.{sequence, magnitude, runsOf, lengthOfEnds, Filled}
-use Rattle.column.specs.Writing.{nextPlace, PushedMerged, lastOf, Merging}
+use Rattle.column.specs.Workers.{nextPlace, PushedMerged, lastOf, Merging}
 use Rattle.column.proofs.Encode.{length-push}
 use Rattle.column.proofs.Ends.{length-of-ends}
 use Rattle.column.proofs.Merging.{merge-at, merge-more, merge-end}
 use Rattle.column.proofs.Naturals.{natural}
 use Rattle.column.proofs.Told.{negative-told, fits-told, long-told}
 use Rattle.column.proofs.Used.{usedRuns, used-paired, used-count, used-filled, used-merging, used-last}
-use Rattle.runs.specs.Workers.{PutRun}
-use Rattle.runs.proofs.Runwise.{put-filled}
-use Rattle.rle.specs.Rle.{presentLength, pushed, extended}
+use Rattle.from_runs.specs.Workers.{PutRun}
+use Rattle.from_runs.proofs.Runwise.{put-filled}
+use Rattle.rle.specs.Calls.{presentLength, pushed, extended}
 use Rattle.rle.specs.Workers.{Pushable, Extendable}
 
 -- the first entries, as the code takes them

@@ -7,8 +7,8 @@ use Rattle.column.specs.Paper.{answers}
 use Rattle.column.specs.Questions.{usedWithin, endsFrom, endsValid, notNegative, fits, longEnough, roomAt, roomFrom, room}
 use Rattle.column.specs.Runs.{Sequence, sequence, runsOf, endsOf, valuesOf, lengthOf, denseFrom, dense, joined, encodeFrom, encode, pushMerged}
 use Rattle.column.proofs.Rows.{Row, row, Hold, asRuns}
-use Rattle.runs.specs.Constructors.{runsFrom}
-use Rattle.rle.specs.Rle.{pushed, pushRunAsked, pushRun, extended, extendToAsked, extendTo}
+use Rattle.from_runs.specs.Calls.{runsFrom}
+use Rattle.rle.specs.Calls.{pushed, pushRunAsked, pushRun, extended, extendToAsked, extendTo}
 
 -- A, and a lent entry behind it
 abbrev lent : Sequence

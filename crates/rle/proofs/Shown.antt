@@ -14,9 +14,9 @@ use Rattle.column.specs.Questions.{endsValid}
 use Rattle.column.specs.Runs.{Sequence, magnitude, runs, lengthOf, dense}
 use Rattle.column.proofs.Dense.{dense-append, dense-push}
 use Rattle.column.proofs.Ends.{rising, runs-rise}
-use Rattle.runs.specs.Constructors.{runsFrom}
-use Rattle.runs.proofs.Shown.{shown-from}
-use Rattle.rle.specs.Rle.{used, presentLength, pushed, extended}
+use Rattle.from_runs.specs.Calls.{runsFrom}
+use Rattle.from_runs.proofs.Shown.{shown-from}
+use Rattle.rle.specs.Calls.{used, presentLength, pushed, extended}
 
 module _ (buffers : Sequence) (n : ℕ) where
   pub push-run-shows : (run value : ℤ) → dense (pushed buffers n run value) ≡ dense (runs (used n buffers)) ++ replicate (magnitude run) value

@@ -11,7 +11,7 @@ use Rattle.column.specs.Questions.{usedWithin, endsValid, notNegative, fits, lo
 use Rattle.column.specs.Runs.{sequence, magnitude}
 use Rattle.column.proofs.FirstNo.{all-yes}
 use Rattle.column.proofs.Told.{both-told}
-use Rattle.rle.specs.Rle.{pushRunAsked, extendToAsked, presentLength, roomForOne}
+use Rattle.rle.specs.Calls.{pushRunAsked, extendToAsked, presentLength, roomForOne}
 use Rattle.rle.specs.Workers.{Pushable, Extendable}
 
 module _ (e v : List ℤ) where

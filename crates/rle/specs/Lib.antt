@@ -1,3 +1,3 @@
--- The calls of rle.rs that make a sequence run by run; to be read after the definitions of column and runs.
-pub mod Rle
+-- The calls of rle.rs that make a sequence run by run; to be read after the definitions of column and from_runs.
+pub mod Calls
 pub mod Workers

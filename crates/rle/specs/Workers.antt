@@ -7,7 +7,7 @@ use lib.IntN.{ℤ, pos}
 use lib.ListN.{length, take}
 use Rattle.column.specs.Questions.{endsValid, notNegative, fits, longEnough}
 use Rattle.column.specs.Runs.{sequence, magnitude}
-use Rattle.rle.specs.Rle.{presentLength}
+use Rattle.rle.specs.Calls.{presentLength}
 
 -- every question of push_run and of extend_to answered "yes"
 pub record Pushable (ends values : List ℤ) (n : ℕ) (run : ℤ) : Type 0 where

@@ -6,7 +6,7 @@ ghost use mathlib.Core.Path.{_≡_};
 ghost use lib.IntN.{pos};
 ghost use lib.ListN.{length, getD};
 ghost use Rattle.column.specs.Runs.{sequence, Filled};
-ghost use Rattle.rle.specs.Rle.{pushed, extended};
+ghost use Rattle.rle.specs.Calls.{pushed, extended};
 ghost use Rattle.rle.specs.Workers.{Pushable, Extendable};
 
 // One more run behind the used entries, none of length 0.
@@ -17,7 +17,7 @@ pub fn push_run(ends: &mut [i64], values: &mut [i64], used: usize, run: i64, val
         (now (ends .entry)) (now (ends .exit)) (now (values .entry)) (now (values .exit)) r ⌝ }
 {
     let present = sequence::length(sequence::part(ends, 0, used));
-    runs::inner::put_run(ends, values, used, run, present + run, value)
+    from_runs::inner::put_run(ends, values, used, run, present + run, value)
 }
 
 // The last of the used entries, as a writer that goes on behind it.

@@ -10,7 +10,7 @@ ghost use Rattle.column.specs.Asking.{shownAsked};
 ghost use Rattle.column.specs.Paper.{WritesRuns};
 ghost use Rattle.column.specs.Questions.{room, both};
 ghost use Rattle.column.specs.Runs.{sequence};
-ghost use Rattle.rle.specs.Rle as calls;
+ghost use Rattle.rle.specs.Calls as calls;
 
 // The used count of a sequence whose ends and values stand in lent buffers.
 pub struct Rle {

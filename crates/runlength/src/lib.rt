@@ -19,33 +19,33 @@ ghost use mathlib.Core.Path.{_≡_};
 ghost use lib.ListN.{length};
 ghost use Rattle.batch.specs.Batch.{batch};
 ghost use Rattle.batch.specs.Calls as batches;
-ghost use Rattle.batch_reduce.specs.SliceReduce as batch-reduce;
-ghost use Rattle.collapse.specs.Collapse as collapse;
+ghost use Rattle.batch_slice_reduce.specs.Calls as batch-reduce;
+ghost use Rattle.batch_collapse.specs.Calls as collapse;
 ghost use Rattle.column.specs.Flat.{flat};
 ghost use Rattle.column.specs.Runs.{sequence};
-ghost use Rattle.concat.specs.Concat as concat;
-ghost use Rattle.dense.specs.Dense as dense;
-ghost use Rattle.each.specs.Each as each;
-ghost use Rattle.equals.specs.Equals as equals;
+ghost use Rattle.batch_concat.specs.Calls as concat;
+ghost use Rattle.dense.specs.Calls as dense;
+ghost use Rattle.batch_map_rles.specs.Calls as each;
+ghost use Rattle.equals.specs.Calls as equals;
 ghost use Rattle.ffi.specs.Reading.{readFill, LaidCheck, LaidEquality, LaidFound, LaidViewed, LaidSum, LaidReduced, LaidPart, LaidRuns, LaidEntries, LaidRanges, LaidGroups, LaidReductions, LaidPlan, LaidPlanMany, LaidFlat, LaidGot, LaidBatch, LaidCollapse};
-ghost use Rattle.groups.specs.Groups as groups;
-ghost use Rattle.intervals.specs.Intervals as intervals;
-ghost use Rattle.items.specs.Items as items;
-ghost use Rattle.join.specs.Zip as join;
-ghost use Rattle.keys.specs.Keys as lookup;
-ghost use Rattle.many.specs.Many as many;
-ghost use Rattle.merge.specs.Merge as merge;
-ghost use Rattle.merged.specs.Merged as merged;
-ghost use Rattle.ops.specs.Ops as ops;
-ghost use Rattle.plan.specs.Plan as plan;
-ghost use Rattle.ranges.specs.Ranges as ranges;
-ghost use Rattle.reduce.specs.Reduce as reduce;
-ghost use Rattle.rle.specs.Rle as calls;
-ghost use Rattle.runs.specs.Constructors as constructors;
-ghost use Rattle.shift.specs.Shift as shift;
-ghost use Rattle.slice.specs.Slice as slice;
-ghost use Rattle.transform.specs.Transform as transform;
-ghost use Rattle.zip_many.specs.ZipMany as zip-many;
+ghost use Rattle.merge_plan.specs.Calls as groups;
+ghost use Rattle.getitems.specs.Calls as intervals;
+ghost use Rattle.batch_getitems.specs.Calls as items;
+ghost use Rattle.batch_zip_with.specs.Calls as join;
+ghost use Rattle.batch_keys.specs.Calls as lookup;
+ghost use Rattle.many.specs.Calls as many;
+ghost use Rattle.merge_mask.specs.Calls as merge;
+ghost use Rattle.merge.specs.Calls as merged;
+ghost use Rattle.ops.specs.Calls as ops;
+ghost use Rattle.plan.specs.Calls as plan;
+ghost use Rattle.ranges_where.specs.Calls as ranges;
+ghost use Rattle.reduce.specs.Calls as reduce;
+ghost use Rattle.rle.specs.Calls as calls;
+ghost use Rattle.from_runs.specs.Calls as constructors;
+ghost use Rattle.shift.specs.Calls as shift;
+ghost use Rattle.slice.specs.Calls as slice;
+ghost use Rattle.transform.specs.Calls as transform;
+ghost use Rattle.zip_many.specs.Calls as zip-many;
 
 #[no_mangle]
 pub extern "C" fn rl_empty() -> RlRle
@@ -67,14 +67,14 @@ pub extern "C" fn rl_from_runs(
         (constructors.fromRuns (now (runs .entry)) (now (values .entry)) (length (now («out_ends» .entry)) ∷ length (now («out_values» .entry)) ∷ [])) r
         (now («out_ends» .entry)) (now («out_ends» .exit)) (now («out_values» .entry)) (now («out_values» .exit)) ⌝ }
 {
-    ffi::counted(runs::from_runs(runs, values, out_ends, out_values))
+    ffi::counted(from_runs::from_runs(runs, values, out_ends, out_values))
 }
 
 #[no_mangle]
 pub extern "C" fn rl_from_ends(ends: &[i64], values: &[i64]) -> RlRefusal
     ensures { λ r. ⌜ LaidCheck (constructors.fromEnds (sequence (now (ends .entry)) (now (values .entry)))) r ⌝ }
 {
-    ffi::checked(runs::from_ends(ends, values))
+    ffi::checked(from_runs::from_ends(ends, values))
 }
 
 #[no_mangle]
@@ -88,7 +88,7 @@ pub extern "C" fn rl_repeat(
         (constructors.repeat value length (lib.ListN.length (now («out_ends» .entry)) ∷ lib.ListN.length (now («out_values» .entry)) ∷ [])) r
         (now («out_ends» .entry)) (now («out_ends» .exit)) (now («out_values» .entry)) (now («out_values» .exit)) ⌝ }
 {
-    ffi::counted(runs::repeat(value, length, out_ends, out_values))
+    ffi::counted(from_runs::repeat(value, length, out_ends, out_values))
 }
 
 #[no_mangle]
@@ -319,7 +319,7 @@ pub extern "C" fn rl_getitems(
         (intervals.getitems (sequence (now (ends .entry)) (now (values .entry))) (now (starts .entry)) (now (stops .entry)) (length (now («out_offsets» .entry)) ∷ length (now («out_ends» .entry)) ∷ length (now («out_values» .entry)) ∷ [])) r
         (now («out_offsets» .entry)) (now («out_offsets» .exit)) (now («out_ends» .entry)) (now («out_ends» .exit)) (now («out_values» .entry)) (now («out_values» .exit)) ⌝ }
 {
-    ffi::batched(intervals::getitems(
+    ffi::batched(getitems::getitems(
         ends,
         values,
         starts,
@@ -388,7 +388,7 @@ pub extern "C" fn rl_ranges_where(
         (ranges.rangesWhere (sequence (now (ends .entry)) (now (values .entry))) code number (length (now («out_starts» .entry)) ∷ length (now («out_ends» .entry)) ∷ [])) r
         (now («out_starts» .entry)) (now («out_starts» .exit)) (now («out_ends» .entry)) (now («out_ends» .exit)) ⌝ }
 {
-    ffi::counted(ranges::ranges_where(ends, values, code, number, out_starts, out_ends))
+    ffi::counted(ranges_where::ranges_where(ends, values, code, number, out_starts, out_ends))
 }
 
 #[no_mangle]
@@ -402,7 +402,7 @@ pub extern "C" fn rl_merge(
         (merged.merged (sequence (now (ends .entry)) (now (values .entry))) (length (now («out_ends» .entry)) ∷ length (now («out_values» .entry)) ∷ [])) r
         (now («out_ends» .entry)) (now («out_ends» .exit)) (now («out_values» .entry)) (now («out_values» .exit)) ⌝ }
 {
-    ffi::counted(merged::merge(ends, values, out_ends, out_values))
+    ffi::counted(merge::merge(ends, values, out_ends, out_values))
 }
 
 #[no_mangle]
@@ -416,7 +416,7 @@ pub extern "C" fn rl_merged(
         (merged.merged (sequence (now (ends .entry)) (now (values .entry))) (length (now («out_ends» .entry)) ∷ length (now («out_values» .entry)) ∷ [])) r
         (now («out_ends» .entry)) (now («out_ends» .exit)) (now («out_values» .entry)) (now («out_values» .exit)) ⌝ }
 {
-    ffi::counted(merged::merged(ends, values, out_ends, out_values))
+    ffi::counted(merge::merged(ends, values, out_ends, out_values))
 }
 
 #[no_mangle]
@@ -432,7 +432,7 @@ pub extern "C" fn rl_merge_mask(
         (merge.mergeMask (sequence (now (ends .entry)) (now (values .entry))) (now (mask .entry)) keep (length (now («out_ends» .entry)) ∷ length (now («out_values» .entry)) ∷ [])) r
         (now («out_ends» .entry)) (now («out_ends» .exit)) (now («out_values» .entry)) (now («out_values» .exit)) ⌝ }
 {
-    ffi::counted(merge::merge_mask(ends, values, mask, keep, out_ends, out_values))
+    ffi::counted(merge_mask::merge_mask(ends, values, mask, keep, out_ends, out_values))
 }
 
 #[no_mangle]
@@ -447,7 +447,7 @@ pub extern "C" fn rl_merge_by(
         (merge.mergeBy (sequence (now (ends .entry)) (now (values .entry))) code (length (now («out_ends» .entry)) ∷ length (now («out_values» .entry)) ∷ [])) r
         (now («out_ends» .entry)) (now («out_ends» .exit)) (now («out_values» .entry)) (now («out_values» .exit)) ⌝ }
 {
-    ffi::counted(merge::merge_by(ends, values, code, out_ends, out_values))
+    ffi::counted(merge_mask::merge_by(ends, values, code, out_ends, out_values))
 }
 
 #[no_mangle]
@@ -461,7 +461,7 @@ pub extern "C" fn rl_merge_plan(
         (groups.mergePlan (now (ends .entry)) (now (mask .entry)) (length (now («out_ends» .entry)) ∷ length (now («out_offsets» .entry)) ∷ [])) r
         (now («out_ends» .entry)) (now («out_ends» .exit)) (now («out_offsets» .entry)) (now («out_offsets» .exit)) ⌝ }
 {
-    ffi::counted(groups::merge_plan(ends, mask, out_ends, out_offsets))
+    ffi::counted(merge_plan::merge_plan(ends, mask, out_ends, out_offsets))
 }
 
 #[no_mangle]
@@ -470,7 +470,7 @@ pub extern "C" fn rl_group_ids(offsets: &[usize], out_ids: &mut [usize]) -> RlCo
         (groups.groupIds (now (offsets .entry)) (length (now («out_ids» .entry)) ∷ [])) r
         (now («out_ids» .entry)) (now («out_ids» .exit)) ⌝ }
 {
-    ffi::counted(groups::group_ids(offsets, out_ids))
+    ffi::counted(merge_plan::group_ids(offsets, out_ids))
 }
 
 #[no_mangle]
@@ -502,7 +502,7 @@ pub extern "C" fn rl_slice_reduce(
         (intervals.sliceReduce (sequence (now (ends .entry)) (now (values .entry))) (now (starts .entry)) (now (stops .entry)) code ddof (length (now («out_kinds» .entry)) ∷ length (now («out_bits» .entry)) ∷ [])) r
         (now («out_kinds» .entry)) (now («out_kinds» .exit)) (now («out_bits» .entry)) (now («out_bits» .exit)) ⌝ }
 {
-    ffi::counted(intervals::slice_reduce(
+    ffi::counted(getitems::slice_reduce(
         ends,
         values,
         starts,
@@ -530,7 +530,7 @@ pub extern "C" fn rl_batch_from_parts(
 pub extern "C" fn rl_batch_position(keys: &[u32], key: u32) -> RlFound
     ensures { λ r. ⌜ LaidFound (lookup.position (now (keys .entry)) key) r ⌝ }
 {
-    ffi::found(keys::position(keys, key))
+    ffi::found(batch_keys::position(keys, key))
 }
 
 #[no_mangle]
@@ -567,7 +567,7 @@ pub extern "C" fn rl_batch_getitems(
         (items.getitems (batch (now (keys .entry)) (now (offsets .entry)) (now (ends .entry)) (now (values .entry))) (now («get_keys» .entry)) (now (starts .entry)) (now (stops .entry)) (length (now («out_offsets» .entry)) ∷ length (now («out_ends» .entry)) ∷ length (now («out_values» .entry)) ∷ [])) r
         (now («out_offsets» .entry)) (now («out_offsets» .exit)) (now («out_ends» .entry)) (now («out_ends» .exit)) (now («out_values» .entry)) (now («out_values» .exit)) ⌝ }
 {
-    ffi::batched(items::getitems(
+    ffi::batched(batch_getitems::getitems(
         keys,
         offsets,
         ends,
@@ -599,7 +599,7 @@ pub extern "C" fn rl_batch_slice_reduce(
         (batch-reduce.sliceReduce (batch (now (keys .entry)) (now (offsets .entry)) (now (ends .entry)) (now (values .entry))) (now («get_keys» .entry)) (now (starts .entry)) (now (stops .entry)) code ddof (length (now («out_kinds» .entry)) ∷ length (now («out_bits» .entry)) ∷ [])) r
         (now («out_kinds» .entry)) (now («out_kinds» .exit)) (now («out_bits» .entry)) (now («out_bits» .exit)) ⌝ }
 {
-    ffi::counted(batch_reduce::slice_reduce(
+    ffi::counted(batch_slice_reduce::slice_reduce(
         keys,
         offsets,
         ends,
@@ -631,7 +631,7 @@ pub extern "C" fn rl_batch_shift(
         (each.shift (batch (now (keys .entry)) (now (offsets .entry)) (now (ends .entry)) (now (values .entry))) distance fill (length (now («out_keys» .entry)) ∷ length (now («out_offsets» .entry)) ∷ length (now («out_ends» .entry)) ∷ length (now («out_values» .entry)) ∷ [])) r
         (now («out_keys» .entry)) (now («out_keys» .exit)) (now («out_offsets» .entry)) (now («out_offsets» .exit)) (now («out_ends» .entry)) (now («out_ends» .exit)) (now («out_values» .entry)) (now («out_values» .exit)) ⌝ }
 {
-    ffi::batched(each::shift(
+    ffi::batched(batch_map_rles::shift(
         keys,
         offsets,
         ends,
@@ -660,7 +660,7 @@ pub extern "C" fn rl_batch_reversed(
         (each.reversed (batch (now (keys .entry)) (now (offsets .entry)) (now (ends .entry)) (now (values .entry))) (length (now («out_keys» .entry)) ∷ length (now («out_offsets» .entry)) ∷ length (now («out_ends» .entry)) ∷ length (now («out_values» .entry)) ∷ [])) r
         (now («out_keys» .entry)) (now («out_keys» .exit)) (now («out_offsets» .entry)) (now («out_offsets» .exit)) (now («out_ends» .entry)) (now («out_ends» .exit)) (now («out_values» .entry)) (now («out_values» .exit)) ⌝ }
 {
-    ffi::batched(each::reversed(
+    ffi::batched(batch_map_rles::reversed(
         keys,
         offsets,
         ends,
@@ -689,7 +689,7 @@ pub extern "C" fn rl_batch_map_rles_slice(
         (each.mapRlesSlice (batch (now (keys .entry)) (now (offsets .entry)) (now (ends .entry)) (now (values .entry))) start end (length (now («out_keys» .entry)) ∷ length (now («out_offsets» .entry)) ∷ length (now («out_ends» .entry)) ∷ length (now («out_values» .entry)) ∷ [])) r
         (now («out_keys» .entry)) (now («out_keys» .exit)) (now («out_offsets» .entry)) (now («out_offsets» .exit)) (now («out_ends» .entry)) (now («out_ends» .exit)) (now («out_values» .entry)) (now («out_values» .exit)) ⌝ }
 {
-    ffi::batched(each::map_rles_slice(
+    ffi::batched(batch_map_rles::map_rles_slice(
         keys,
         offsets,
         ends,
@@ -724,7 +724,7 @@ pub extern "C" fn rl_batch_collapse(
         (length (now («out_keys» .entry)) ∷ length (now («out_offsets» .entry)) ∷ length (now («out_ends» .entry)) ∷ length (now («out_values» .entry)) ∷ length (now («scratch_ends» .entry)) ∷ length (now («scratch_values» .entry)) ∷ [])) (2 * length (now (ends .entry))) r
         (now («out_keys» .entry)) (now («out_keys» .exit)) (now («out_offsets» .entry)) (now («out_offsets» .exit)) (now («out_ends» .entry)) (now («out_ends» .exit)) (now («out_values» .entry)) (now («out_values» .exit)) (now («scratch_ends» .entry)) (now («scratch_ends» .exit)) (now («scratch_values» .entry)) (now («scratch_values» .exit)) ⌝ }
 {
-    ffi::batched(collapse::collapse(
+    ffi::batched(batch_collapse::collapse(
         keys,
         offsets,
         ends,
@@ -760,7 +760,7 @@ pub extern "C" fn rl_batch_concat(
         (concat.concat (batch (now («a_keys» .entry)) (now («a_offsets» .entry)) (now («a_ends» .entry)) (now («a_values» .entry))) (batch (now («b_keys» .entry)) (now («b_offsets» .entry)) (now («b_ends» .entry)) (now («b_values» .entry))) (length (now («out_keys» .entry)) ∷ length (now («out_offsets» .entry)) ∷ length (now («out_ends» .entry)) ∷ length (now («out_values» .entry)) ∷ [])) r
         (now («out_keys» .entry)) (now («out_keys» .exit)) (now («out_offsets» .entry)) (now («out_offsets» .exit)) (now («out_ends» .entry)) (now («out_ends» .exit)) (now («out_values» .entry)) (now («out_values» .exit)) ⌝ }
 {
-    ffi::batched(concat::concat(
+    ffi::batched(batch_concat::concat(
         a_keys,
         a_offsets,
         a_ends,
@@ -799,7 +799,7 @@ pub extern "C" fn rl_batch_zip_with(
         (join.zipWith (batch (now («a_keys» .entry)) (now («a_offsets» .entry)) (now («a_ends» .entry)) (now («a_values» .entry))) (batch (now («b_keys» .entry)) (now («b_offsets» .entry)) (now («b_ends» .entry)) (now («b_values» .entry))) how (readFill «fill_a») (readFill «fill_b») code (length (now («out_keys» .entry)) ∷ length (now («out_offsets» .entry)) ∷ length (now («out_ends» .entry)) ∷ length (now («out_values» .entry)) ∷ [])) r
         (now («out_keys» .entry)) (now («out_keys» .exit)) (now («out_offsets» .entry)) (now («out_offsets» .exit)) (now («out_ends» .entry)) (now («out_ends» .exit)) (now («out_values» .entry)) (now («out_values» .exit)) ⌝ }
 {
-    ffi::batched(join::zip_with(
+    ffi::batched(batch_zip_with::zip_with(
         a_keys,
         a_offsets,
         a_ends,

@@ -21,7 +21,7 @@ use Rattle.column.specs.declared.inner.Writer.{Writer}
 use Rattle.column.specs.Lists.{part}
 use Rattle.column.specs.Questions.{endsValid}
 use Rattle.column.specs.Runs.{Runs, magnitude, runsOf, lastEnd, lengthOf, lastFrom, lengthOfEnds, denseFrom, dense, encode, encodeFrom, Filled}
-use Rattle.column.specs.Writing.{nextPlace, PushedMerged, Merging, RisingEnds, pushAll, moved, Behind, Appendable, Appended}
+use Rattle.column.specs.Workers.{nextPlace, PushedMerged, Merging, RisingEnds, pushAll, moved, Behind, Appendable, Appended}
 use Rattle.column.proofs.Appending.{push-few, push-shown, length-moved}
 use Rattle.column.proofs.Dense.{length-dense}
 use Rattle.column.proofs.Encode.{encode-up, encode-pos, encode-more, length-push}
@@ -31,8 +31,8 @@ use Rattle.column.proofs.Naturals.{magnitude-below}
 use Rattle.column.proofs.Pushed.{place}
 use Rattle.column.proofs.Rising.{Rising}
 use Rattle.column.proofs.Merging.{merge-start, merge-more, merge-at, merge-end, fill-none}
-use Rattle.slice.specs.Search.{firstWhere, firstEndAbove}
-use Rattle.shift.specs.Shift.{shiftValues}
+use Rattle.slice.specs.Calls.{firstWhere, firstEndAbove}
+use Rattle.shift.specs.Calls.{shiftValues}
 use Rattle.shift.specs.Workers.{shiftedUp, shiftedDown, Shiftable}
 
 -- ---- equal values in front

@@ -1,3 +1,3 @@
--- shift, of transform.rs; to be read after column's definitions.
-pub mod Shift
+-- shift, of transform.rs; to be read after the definitions of column.
+pub mod Calls
 pub mod Workers

@@ -8,7 +8,7 @@ ghost use mathlib.Core.Path.{_≡_};
 ghost use lib.ListN.{length};
 ghost use Rattle.column.specs.Questions.{endsValid};
 ghost use Rattle.column.specs.Runs.{runsOf, dense, encode, Filled};
-ghost use Rattle.shift.specs.Shift.{shiftValues};
+ghost use Rattle.shift.specs.Calls.{shiftValues};
 ghost use Rattle.shift.specs.Workers.{Shiftable, shiftedUp, shiftedDown};
 
 // The fill, and behind it what the runs show, up to the length.

@@ -6,7 +6,7 @@ ghost use mathlib.Core.List.{[], _∷_};
 ghost use lib.ListN.{length};
 ghost use Rattle.column.specs.Paper.{WritesRuns};
 ghost use Rattle.column.specs.Runs.{sequence};
-ghost use Rattle.shift.specs.Shift as calls;
+ghost use Rattle.shift.specs.Calls as calls;
 
 // A sequence moved by a distance, towards higher positions where it is positive, and merged; the fill stands where no value was moved to.
 pub fn shift(

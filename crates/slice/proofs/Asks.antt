@@ -15,9 +15,8 @@ use Rattle.column.proofs.FirstNo.{asked-next, asked-last, first-several}
 use Rattle.column.proofs.Told.{sequence-asked, sequence-told}
 use Rattle.column.proofs.YesNo.{room-each, room-saturated}
 use Rattle.slice.specs.declared.search.TouchedRuns.{TouchedRuns}
-use Rattle.slice.specs.Search.{touchedBy}
-use Rattle.slice.specs.Slice.{sliceRuns}
-use Rattle.slice.specs.Workers.{cutRuns, Touches}
+use Rattle.slice.specs.Workers.{touchedBy, cutRuns, Touches}
+use Rattle.slice.specs.Calls.{sliceRuns}
 use Rattle.slice.proofs.Touching.{cut-touched, touches, touched-count}
 
 sequence-need : (es vs : List ℤ) (m n e v : ℕ) → (length es ≡ length vs → endsValid es ≡ none → m ≡ n)

@@ -13,11 +13,10 @@ use borrow.Author.Tests.{ltb-true}
 use Rattle.num.proofs.Tests.{by-test}
 use Rattle.column.specs.Questions.{endsValid}
 use Rattle.column.specs.Runs.{magnitude}
-use Rattle.column.specs.Writing.{RisingEnds}
+use Rattle.column.specs.Workers.{RisingEnds}
 use Rattle.column.proofs.Ends.{rising}
 use Rattle.column.proofs.Naturals.{lt-le}
-use Rattle.slice.specs.Search.{firstWhere, firstEndAbove}
-use Rattle.slice.specs.Slice.{coveringFrom, covering}
+use Rattle.slice.specs.Calls.{firstWhere, firstEndAbove, coveringFrom, covering}
 
 module _ (p : ℤ) where
   -- from a position on that is not above p

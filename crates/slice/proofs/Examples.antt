@@ -9,8 +9,7 @@ use Rattle.column.specs.Paper.{Outcome, answers, counts}
 use Rattle.column.specs.Questions.{agree, paired, endsFrom, endsValid, roomAt, roomFrom, room, sequenceAsked}
 use Rattle.column.specs.Runs.{Sequence, sequence, runsOf, endsOf, valuesOf, lengthOf}
 use Rattle.column.proofs.Rows.{Lines, Row, row, Hold, refused, asRuns}
-use Rattle.slice.specs.Search.{firstWhere, firstEndAbove}
-use Rattle.slice.specs.Slice.{covering, runIndex, cut, sliceRuns, slice, viewOf, sliceView, slicePart, entriesOf}
+use Rattle.slice.specs.Calls.{firstWhere, firstEndAbove, covering, runIndex, cut, sliceRuns, slice, viewOf, sliceView, slicePart, entriesOf}
 use Rattle.slice.specs.declared.View.{View}
 
 abbrev a : Sequence

@@ -15,7 +15,7 @@ use borrow.Author.Tests.{leb-true, leb-false, le-leb, le-ltb, ltb-true, ltb-fals
 use Rattle.num.proofs.Tests.{by-test}
 use Rattle.column.specs.Questions.{endsValid}
 use Rattle.column.specs.Runs.{magnitude}
-use Rattle.column.specs.Writing.{RisingEnds}
+use Rattle.column.specs.Workers.{RisingEnds}
 use Rattle.column.proofs.Appending.{rising-at}
 use Rattle.column.proofs.Ends.{rising, rising-yes}
 use Rattle.column.proofs.Naturals.{lt-le, le-lt}
@@ -24,8 +24,8 @@ use mir.Val.{toZ, ofZ, SFits}
 use mir.Facts.{toZ-ofZ}
 use Rattle.num.specs.Numbers.{residue}
 use Rattle.slice.proofs.Difference.{difference-of, difference-fits}
-use Rattle.slice.specs.Search.{firstWhere, firstEndAbove, firstEndAtLeast}
-use Rattle.slice.specs.Workers.{Halving}
+use Rattle.slice.specs.Calls.{firstWhere, firstEndAbove}
+use Rattle.slice.specs.Workers.{firstEndAtLeast, Halving}
 
 -- ---- any ends
 

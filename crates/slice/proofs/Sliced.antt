@@ -16,7 +16,7 @@ use Rattle.column.specs.Runs.{Runs, magnitude, lastEnd, lengthOf, dense}
 use Rattle.column.proofs.Cover.{cover, cover-dense, last-above}
 use Rattle.column.proofs.Dense.{length-dense}
 use Rattle.column.proofs.Rising.{Rising, Valid}
-use Rattle.slice.specs.Slice.{cut, sliceRuns}
+use Rattle.slice.specs.Calls.{cut, sliceRuns}
 
 cover-cut : (s e : ℕ) (rs : Runs) (i : ℕ) (d : ℤ) → i < e - s → cover (cut s e rs) i d ≡ cover rs (s + i) d
 unfolding cut

@@ -16,14 +16,13 @@ use Rattle.num.specs.Numbers.{smallerOf, largerOf}
 use Rattle.num.proofs.Tests.{by-test}
 use Rattle.column.specs.Questions.{endsValid}
 use Rattle.column.specs.Runs.{Runs, magnitude, runsOf, lengthOf, lengthOfEnds}
-use Rattle.column.specs.Writing.{RisingEnds}
+use Rattle.column.specs.Workers.{RisingEnds}
 use Rattle.column.proofs.Ends.{rising, length-of-ends, natural-end}
 use Rattle.column.proofs.Naturals.{smaller-naturals}
 use Rattle.column.proofs.Sequences.{length-none, length-last}
 use Rattle.slice.specs.declared.search.TouchedRuns.{TouchedRuns}
-use Rattle.slice.specs.Search.{firstWhere, firstEndAbove, firstEndAtLeast, touchedBy}
-use Rattle.slice.specs.Slice.{cut, sliceRuns}
-use Rattle.slice.specs.Workers.{clipped, cutRuns, Touches}
+use Rattle.slice.specs.Calls.{firstWhere, firstEndAbove, cut, sliceRuns}
+use Rattle.slice.specs.Workers.{firstEndAtLeast, touchedBy, clipped, cutRuns, Touches}
 use Rattle.slice.proofs.Slicing.{length-cut}
 use Rattle.slice.proofs.Searching.{rising-valid, above-least, above-past, least-least}
 

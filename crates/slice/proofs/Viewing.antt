@@ -25,9 +25,8 @@ use Rattle.column.proofs.Naturals.{magnitude-below}
 use Rattle.column.proofs.Told.{agree-told}
 use Rattle.slice.specs.declared.Part.{Part}
 use Rattle.slice.specs.declared.View.{View}
-use Rattle.slice.specs.Search.{touchedBy}
-use Rattle.slice.specs.Slice.{sliceRuns, viewOf, sliceView, slicePart, entriesOf, PartOf, HandsBack}
-use Rattle.slice.specs.Workers.{clipped, cutRuns}
+use Rattle.slice.specs.Workers.{touchedBy, clipped, cutRuns}
+use Rattle.slice.specs.Calls.{sliceRuns, viewOf, sliceView, slicePart, entriesOf, PartOf, HandsBack}
 use Rattle.slice.proofs.Difference.{difference-of, difference-fits}
 use Rattle.slice.proofs.Touching.{cut-touched, touched-inside, touches, touched-count}
 

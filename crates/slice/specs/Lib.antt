@@ -1,4 +1,3 @@
--- The calls of slice.rs; to be read after column's definitions: Search, Slice; then Workers, which is about how the code goes.
-pub mod Search
-pub mod Slice
+-- The calls of slice.rs on one part; to be read after the definitions of column.
+pub mod Calls
 pub mod Workers

@@ -8,9 +8,26 @@ use lib.ListN.{length, getD, take, drop}
 use Rattle.column.specs.Flat.{flatOffsets, flatEnds, flatValues}
 use Rattle.column.specs.Lists.{total}
 use Rattle.column.specs.Questions.{endsValid}
-use Rattle.column.specs.Runs.{Run, Runs, magnitude, over}
-use Rattle.slice.specs.Search.{firstEndAbove}
+use Rattle.column.specs.Runs.{Run, Runs, magnitude, over, lengthOfEnds}
+use Rattle.slice.specs.Calls.{firstWhere, firstEndAbove}
 use Rattle.slice.specs.declared.search.TouchedRuns.{TouchedRuns}
+use mathlib.Core.Bool.{cond}
+use lib.Signed.{leZ}
+use lib.Dec.{ltb}
+
+-- the lowest index of an end at or above a position, or how many ends there are
+unfoldable pub firstEndAtLeast : ℤ → List ℤ → ℕ
+firstEndAtLeast p es = firstWhere (λ e. leZ p e) es
+
+-- the first touched run and how many there are, of valid ends, and where the slice begins and ends; all 0 where it is empty
+unfoldable pub touchedBy : ℤ → ℤ → List ℤ → TouchedRuns
+touchedBy start end es =
+    let x = magnitude start in
+    let y = min (magnitude end) (magnitude (lengthOfEnds es)) in
+    let first = firstEndAbove (pos x) es in
+    cond (ltb x y)
+    (record { first = first; count = firstEndAtLeast (pos y) (drop first es) + 1; start = pos x; end = pos y })
+    (record { first = 0; count = 0; start = pos 0; end = pos 0 })
 
 -- a search of the first end above a position: it is from `low` up to `low + size`
 pub record Halving (p : ℕ) (es : List ℤ) (low size : ℕ) : Type 0 where

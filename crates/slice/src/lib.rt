@@ -14,8 +14,8 @@ ghost use Rattle.column.specs.Asking.{shownAsked};
 ghost use Rattle.column.specs.Paper.{shownFound, WritesRuns};
 ghost use Rattle.column.specs.Questions.{room, both};
 ghost use Rattle.column.specs.Runs.{sequence};
-ghost use Rattle.slice.specs.Slice.{shownViewed, PartOf, HandsBack};
-ghost use Rattle.slice.specs.Slice as calls;
+ghost use Rattle.slice.specs.Calls.{shownViewed, PartOf, HandsBack};
+ghost use Rattle.slice.specs.Calls as calls;
 
 // A view of a slice: its first run, its start, and its length.
 pub struct View {

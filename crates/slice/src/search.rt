@@ -6,7 +6,8 @@ ghost use mathlib.Core.Option.{none};
 ghost use mathlib.Core.Path.{_≡_};
 ghost use lib.ListN.{length};
 ghost use Rattle.column.specs.Questions.{endsValid};
-ghost use Rattle.slice.specs.Search.{firstEndAbove, firstEndAtLeast, touchedBy};
+ghost use Rattle.slice.specs.Calls.{firstEndAbove};
+ghost use Rattle.slice.specs.Workers.{firstEndAtLeast, touchedBy};
 
 // The lowest index of an end above a position, or how many ends there are. Valid ends are above every negative position.
 pub fn first_end_above(ends: &[i64], position: i64) -> usize

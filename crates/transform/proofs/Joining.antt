@@ -20,7 +20,7 @@ use Rattle.column.specs.Flat.{flat, sequencesFrom, columns, flatAsked}
 use Rattle.column.specs.Lists.{total, part, parts}
 use Rattle.column.specs.Questions.{paired, endsValid, rise, startAndRise, fits, room, both}
 use Rattle.column.specs.Runs.{Runs, magnitude, runsOf, runs, lengthOfEnds, lastEnd, lengthOf, denseFrom, dense, encode, encodeFrom, Filled}
-use Rattle.column.specs.Writing.{Merging, pushAll, moved, Behind, Movable, Appendable, Appended}
+use Rattle.column.specs.Workers.{Merging, pushAll, moved, Behind, Movable, Appendable, Appended}
 use Rattle.column.proofs.Appending.{push-few, push-shown, length-moved}
 use Rattle.column.proofs.Dense.{length-dense}
 use Rattle.column.proofs.Encode.{encode-pos, encode-none}
@@ -33,7 +33,7 @@ use Rattle.column.proofs.Parts.{part-past, part-at, part-paired, length-part, p
 use Rattle.column.proofs.Rising.{Rising, Valid}
 use Rattle.column.proofs.Told.{both-true, agree-told, offsets-told, fits-told, both-told}
 use Rattle.column.proofs.YesNo.{fits-yes, fits-refused}
-use Rattle.transform.specs.Transform.{shown, concatAsked}
+use Rattle.transform.specs.Calls.{shown, concatAsked}
 use Rattle.transform.specs.Workers.{Joinable}
 
 -- ---- the columns from the k-th on

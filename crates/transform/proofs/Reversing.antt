@@ -17,7 +17,7 @@ use Rattle.column.proofs.Ends.{rising, length-of-ends}
 use Rattle.column.proofs.Merging.{fill-none}
 use Rattle.column.proofs.Rising.{Rising, Valid}
 use Rattle.column.proofs.Sequences.{length-ends, ends-append, values-append, length-last}
-use Rattle.transform.specs.Transform.{reverseFrom, reverseRuns}
+use Rattle.transform.specs.Calls.{reverseFrom, reverseRuns}
 use Rattle.transform.specs.Workers.{turnedFrom, turnedEnds}
 
 -- ---- the two flat lists, apart

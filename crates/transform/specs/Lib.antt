@@ -1,3 +1,3 @@
--- concat and reversed, of transform.rs; to be read after column's definitions.
-pub mod Transform
+-- concat and reversed, of transform.rs; to be read after the definitions of column.
+pub mod Calls
 pub mod Workers

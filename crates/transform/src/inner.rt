@@ -9,7 +9,7 @@ ghost use lib.ListN.{length};
 ghost use Rattle.column.specs.Flat.{flat, columns};
 ghost use Rattle.column.specs.Questions.{endsValid};
 ghost use Rattle.column.specs.Runs.{runsOf, encode, over, Filled};
-ghost use Rattle.transform.specs.Transform.{shown, reverseRuns};
+ghost use Rattle.transform.specs.Calls.{shown, reverseRuns};
 ghost use Rattle.transform.specs.Workers.{Joinable, turnedEnds};
 
 // One sequence after another.

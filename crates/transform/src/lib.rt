@@ -12,7 +12,7 @@ ghost use Rattle.column.specs.Flat.{flat};
 ghost use Rattle.column.specs.Lists.{total, parts};
 ghost use Rattle.column.specs.Paper.{WritesRuns};
 ghost use Rattle.column.specs.Runs.{sequence, magnitude, lengthOfEnds};
-ghost use Rattle.transform.specs.Transform as calls;
+ghost use Rattle.transform.specs.Calls as calls;
 
 // The lengths of all sequences together; at most usize::MAX is told.
 fn total_length(offsets: &[usize], ends: &[i64]) -> usize

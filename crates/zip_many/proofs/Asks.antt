@@ -16,10 +16,10 @@ use Rattle.column.specs.Runs.{lengthOfEnds}
 use Rattle.column.proofs.FirstNo.{all-yes, rest-yes, first-several, asked-next, asked-last}
 use Rattle.column.proofs.Flattened.{sequences-told, lengths-by-ends}
 use Rattle.column.proofs.Told.{agree-told, both-told}
-use Rattle.many.specs.Many.{mostColumns}
+use Rattle.many.specs.Calls.{mostColumns}
 use Rattle.many.proofs.Asks.{flat-yes}
 use Rattle.zip_many.specs.declared.Lengths.{Lengths}
-use Rattle.zip_many.specs.ZipMany.{leastLength, zipManyAsked}
+use Rattle.zip_many.specs.Calls.{leastLength, zipManyAsked}
 use Rattle.zip_many.specs.Workers.{Zippable, LengthsOf, fromFirst, leastFrom, greatestFrom}
 use Rattle.zip_many.proofs.Ranging.{least-is, greatest-is, many-filled}
 

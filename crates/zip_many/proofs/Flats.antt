@@ -18,7 +18,7 @@ use Rattle.column.proofs.Ends.{values-runs}
 use Rattle.column.proofs.Flattened.{total-parts}
 use Rattle.column.proofs.Parts.{part-paired}
 use Rattle.column.proofs.Positions.{eachPosition-cong}
-use Rattle.plan.specs.Plan.{endsIn, valuesFor}
+use Rattle.plan.specs.Calls.{endsIn, valuesFor}
 use Rattle.many.specs.Workers.{Placed}
 use Rattle.many.proofs.Flats.{ends-columns}
 use Rattle.many.proofs.Places.{valuesAt, placed-paired}

@@ -19,7 +19,7 @@ use Rattle.column.specs.Questions.{side, isMissing, longest, lacking, filled}
 use Rattle.column.specs.Runs.{Runs, lengthOf, lengthOfEnds}
 use Rattle.column.proofs.Naturals.{smaller-naturals, larger-naturals}
 use Rattle.column.proofs.Parts.{partsAt, parts-start, parts-cons, parts-end}
-use Rattle.zip_many.specs.ZipMany.{leastLength}
+use Rattle.zip_many.specs.Calls.{leastLength}
 use Rattle.zip_many.specs.Workers.{leastFrom, greatestFrom, fromFirst, LengthsOf}
 
 -- ---- the loop: l and g are the least and the greatest of the columns before the c-th

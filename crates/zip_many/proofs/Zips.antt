@@ -12,12 +12,12 @@ use Rattle.column.specs.Combine.{Column, many, folded, combined}
 use Rattle.column.specs.Flat.{flat, columns}
 use Rattle.column.specs.Lists.{parts}
 use Rattle.column.specs.Runs.{Filled}
-use Rattle.column.specs.Writing.{nextPlace, PushedMerged, pushAll, Merging}
+use Rattle.column.specs.Workers.{nextPlace, PushedMerged, pushAll, Merging}
 use Rattle.column.proofs.All.{All}
 use Rattle.column.proofs.Merging.{merge-start}
 use Rattle.column.proofs.Rising.{Valid}
-use Rattle.plan.specs.Plan.{Place, Segment, indexes, firstPlaces}
-use Rattle.plan.specs.Walk.{spent}
+use Rattle.plan.specs.Calls.{Place, Segment, indexes, firstPlaces}
+use Rattle.plan.specs.Workers.{spent}
 use Rattle.plan.proofs.Listing.{Listing}
 use Rattle.plan.proofs.Segments.{left}
 use Rattle.plan.proofs.Zipping.{starts, shownAt, mergedRuns, zip-none, zip-at, zip-last, zip-more, zip-end}

@@ -7,7 +7,7 @@ use lib.IntN.{ℤ, pos}
 use lib.ListN.{length}
 use Rattle.num.specs.Numbers.{smallerOf, largerOf}
 use Rattle.column.specs.Questions.{offsetsValid, sequencesValid}
-use Rattle.many.specs.Many.{mostColumns}
+use Rattle.many.specs.Calls.{mostColumns}
 use Rattle.many.specs.Workers.{Walkable}
 use Rattle.zip_many.specs.declared.Lengths.{Lengths}
 

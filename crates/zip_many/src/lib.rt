@@ -12,7 +12,7 @@ ghost use Rattle.column.specs.Flat.{flat};
 ghost use Rattle.column.specs.Lists.{parts};
 ghost use Rattle.column.specs.Paper.{WritesRuns};
 ghost use Rattle.column.specs.Runs.{lengthOfEnds};
-ghost use Rattle.zip_many.specs.ZipMany as calls;
+ghost use Rattle.zip_many.specs.Calls as calls;
 ghost use Rattle.zip_many.specs.Workers.{LengthsOf};
 
 // The least and the greatest length of columns.

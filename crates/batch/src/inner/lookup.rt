@@ -1,5 +1,5 @@
 // The keys of two batches, each looked up in the other batch, one place after another.
-use keys::Order;
+use batch_keys::Order;
 ghost use Prim.Native.Nat.{_+_, _<_, _^_};
 ghost use mathlib.Core.Bool.{true, cond};
 ghost use mathlib.Core.Path.{_≡_};
@@ -17,8 +17,8 @@ pub struct Lookup {
 fn enough(a_keys: usize, b_keys: usize) -> bool
     ensures { λ r. ⌜ (r ≡ true → («a_keys» < 2 ^ 32) × («b_keys» < 2 ^ 32)) ⌝ }
 {
-    if keys::inner::index_pays(Order::Unknown, a_keys, b_keys) {
-        return keys::inner::index_pays(Order::Unknown, b_keys, a_keys);
+    if batch_keys::inner::index_pays(Order::Unknown, a_keys, b_keys) {
+        return batch_keys::inner::index_pays(Order::Unknown, b_keys, a_keys);
     }
     false
 }
@@ -63,8 +63,8 @@ fn index_pays(a_keys: &[u32], b_keys: &[u32], a_order: Order, b_order: Order) ->
 pub fn lookup_of(a_keys: &[u32], b_keys: &[u32]) -> Lookup
     ensures { λ r. ⌜ KnownKeys (now («a_keys» .entry)) (now («b_keys» .entry)) r ⌝ }
 {
-    let a = keys::order_of(a_keys);
-    let b = keys::order_of(b_keys);
+    let a = batch_keys::order_of(a_keys);
+    let b = batch_keys::order_of(b_keys);
     let indexed = index_pays(a_keys, b_keys, a, b);
     Lookup { a, b, indexed }
 }
@@ -85,8 +85,8 @@ pub fn find_other(
     let b_order = lookup.b;
     let indexed = lookup.indexed;
     if at < a_keys.len() {
-        return keys::inner::find_next(b_keys, b_order, near, a_keys, at, indexed, block);
+        return batch_keys::inner::find_next(b_keys, b_order, near, a_keys, at, indexed, block);
     }
     let i = at - a_keys.len();
-    keys::inner::find_next(a_keys, a_order, near, b_keys, i, indexed, block)
+    batch_keys::inner::find_next(a_keys, a_order, near, b_keys, i, indexed, block)
 }

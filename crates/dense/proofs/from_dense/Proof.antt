@@ -1,6 +1,6 @@
 use Rattle.column.proofs.Promised.{asked-yes, asked-no, runs-written, runs-refused}
 use Rattle.column.proofs.Told.{both-told}
-use Rattle.dense.specs.Dense.{fromDense}
+use Rattle.dense.specs.Calls.{fromDense}
 use borrow.Author.Needs.{needs}
 use Rattle.dense.proofs.from_dense.Statement.{statement}
 use Rattle.dense.proofs.from_dense.Tie as tie

@@ -1,6 +1,6 @@
 use denote.Ref.{now}
 use Rattle.column.proofs.Promised.{asked-yes, asked-no, entries-written, entries-refused}
-use Rattle.dense.specs.Dense.{toDense}
+use Rattle.dense.specs.Calls.{toDense}
 use Rattle.dense.proofs.Yes.{to-dense-yes}
 use borrow.Author.Needs.{needs}
 use Rattle.dense.proofs.to_dense.Statement.{statement}

@@ -1,6 +1,6 @@
 use mathlib.Core.Path.{sym, _∙_}
 use Rattle.column.proofs.Promised.{asked-yes, asked-no, value-answered, value-refused}
-use Rattle.equals.specs.Equals.{equals}
+use Rattle.equals.specs.Calls.{equals}
 use Rattle.equals.proofs.Asks.{equals-yes}
 use borrow.Author.Needs.{needs}
 use Rattle.equals.proofs.equals.Statement.{statement}

@@ -1,6 +1,6 @@
 use native.Mathlib.Omega.{arith}
 use Rattle.column.proofs.Promised.{asked-yes, asked-no}
-use Rattle.many.specs.Many.{planMany}
+use Rattle.many.specs.Calls.{planMany}
 use Rattle.many.proofs.Asks.{plan-many-yes, plan-many-segments, plan-many-written, plan-many-refused}
 use borrow.Author.Needs.{needs}
 use Rattle.many.proofs.plan_many.Statement.{statement}

@@ -1,7 +1,7 @@
 use Rattle.column.proofs.Promised.{asked-yes, asked-no}
 use Rattle.plan.proofs.Asks.{plan-yes}
 use Rattle.plan.proofs.Planning.{plan-written, plan-refused}
-use Rattle.plan.specs.Plan.{plan}
+use Rattle.plan.specs.Calls.{plan}
 use borrow.Author.Needs.{needs}
 use Rattle.plan.proofs.plan.Statement.{statement}
 use Rattle.plan.proofs.plan.Tie as tie

@@ -4,7 +4,7 @@ use Rattle.runlength.proofs.rl_batch_collapse.Statement.{statement}
 use Rattle.runlength.proofs.rl_batch_collapse.Tie as tie
 use Rattle.runlength.proofs.rl_batch_collapse.Reads as reads
 use Rattle.runlength.proofs.rl_batch_collapse.Lts as lts
-use Rattle.collapse.proofs.collapse.Reads as collapse-reads
+use Rattle.batch_collapse.proofs.collapse.Reads as collapse-reads
 use Rattle.ffi.proofs.batched.Reads as batched-reads
 use Rattle.ffi.proofs.fill.Reads as fill-reads
 

@@ -5,7 +5,7 @@ use Rattle.runlength.proofs.rl_batch_map_rles_slice.Statement.{statemen
 use Rattle.runlength.proofs.rl_batch_map_rles_slice.Tie as tie
 use Rattle.runlength.proofs.rl_batch_map_rles_slice.Reads as reads
 use Rattle.runlength.proofs.rl_batch_map_rles_slice.Lts as lts
-use Rattle.each.proofs.map_rles_slice.Reads as map-rles-slice-reads
+use Rattle.batch_map_rles.proofs.map_rles_slice.Reads as map-rles-slice-reads
 use Rattle.ffi.proofs.batched.Reads as batched-reads
 
 map-rles-slice-requires : tie.Need-map-rles-slice-requires

@@ -5,7 +5,7 @@ use Rattle.runlength.proofs.rl_batch_position.Tie as tie
 use Rattle.runlength.proofs.rl_batch_position.Reads as reads
 use Rattle.runlength.proofs.rl_batch_position.Lts as lts
 use Rattle.ffi.proofs.found.Reads as found-reads
-use Rattle.keys.proofs.position.Reads as position-reads
+use Rattle.batch_keys.proofs.position.Reads as position-reads
 
 position-requires : tie.Need-position-requires
 position-requires c κs = search needs

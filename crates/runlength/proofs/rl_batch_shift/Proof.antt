@@ -5,7 +5,7 @@ use Rattle.runlength.proofs.rl_batch_shift.Statement.{statement}
 use Rattle.runlength.proofs.rl_batch_shift.Tie as tie
 use Rattle.runlength.proofs.rl_batch_shift.Reads as reads
 use Rattle.runlength.proofs.rl_batch_shift.Lts as lts
-use Rattle.each.proofs.shift.Reads as shift-reads
+use Rattle.batch_map_rles.proofs.shift.Reads as shift-reads
 use Rattle.ffi.proofs.batched.Reads as batched-reads
 
 shift-requires : tie.Need-shift-requires

@@ -6,7 +6,7 @@ use Rattle.runlength.proofs.rl_batch_slice_reduce.Tie as tie
 use Rattle.runlength.proofs.rl_batch_slice_reduce.Reads as reads
 use Rattle.runlength.proofs.rl_batch_slice_reduce.Lts as lts
 use Rattle.ffi.proofs.counted.Reads as counted-reads
-use Rattle.batch_reduce.proofs.slice_reduce.Reads as slice-reduce-reads
+use Rattle.batch_slice_reduce.proofs.slice_reduce.Reads as slice-reduce-reads
 
 slice-reduce-requires : tie.Need-slice-reduce-requires
 slice-reduce-requires c κs = search needs

@@ -6,7 +6,7 @@ use Rattle.runlength.proofs.rl_batch_zip_with.Reads as reads
 use Rattle.runlength.proofs.rl_batch_zip_with.Lts as lts
 use Rattle.ffi.proofs.batched.Reads as batched-reads
 use Rattle.ffi.proofs.fill.Reads as fill-reads
-use Rattle.join.proofs.zip_with.Reads as zip-with-reads
+use Rattle.batch_zip_with.proofs.zip_with.Reads as zip-with-reads
 
 fill-requires : tie.Need-fill-requires
 fill-requires c κs = search needs

@@ -2,7 +2,7 @@ use mir.Facts.{toZ-ofZ}
 use denote.Ref.{now}
 use Rattle.column.proofs.Promised.{asked-yes, asked-no, runs-written, runs-refused}
 use Rattle.column.proofs.Told.{sequence-told}
-use Rattle.shift.specs.Shift.{shift}
+use Rattle.shift.specs.Calls.{shift}
 use borrow.Author.Needs.{needs}
 use Rattle.shift.proofs.shift.Statement.{statement}
 use Rattle.shift.proofs.shift.Tie as tie

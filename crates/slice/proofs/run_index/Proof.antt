@@ -2,7 +2,7 @@ use mathlib.Core.Option.{some}
 use mathlib.Core.Path.{sym, ap, _∙_}
 use mir.Facts.{toZ-ofZ}
 use Rattle.column.proofs.Promised.{asked-yes, asked-no, value-answered, value-refused}
-use Rattle.slice.specs.Slice.{runIndex}
+use Rattle.slice.specs.Calls.{runIndex}
 use Rattle.slice.proofs.Covering.{covering-inside, covering-past, covering-negative}
 use borrow.Author.Needs.{needs}
 use Rattle.slice.proofs.run_index.Statement.{statement}

@@ -6,8 +6,8 @@ use Rattle.column.specs.Asking.{shownAsked}
 use Rattle.column.specs.Questions.{endsValid}
 use Rattle.column.proofs.Promised.{asked-yes, asked-no, runs-written, runs-refused}
 use Rattle.column.proofs.Told.{sequence-told}
-use Rattle.slice.specs.Search.{touchedBy}
-use Rattle.slice.specs.Slice.{slice}
+use Rattle.slice.specs.Workers.{touchedBy}
+use Rattle.slice.specs.Calls.{slice}
 use Rattle.slice.proofs.Asks.{slice-asked, slice-yes, slice-filled}
 use borrow.Author.Needs.{needs}
 use Rattle.slice.proofs.slice.Statement.{statement}

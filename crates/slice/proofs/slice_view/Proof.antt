@@ -4,8 +4,8 @@ use mir.Syntax.{w64}
 use mir.Val.{SFits}
 use mir.Facts.{toZ-ofZ}
 use Rattle.column.proofs.Promised.{asked-yes, asked-no, value-answered, value-refused}
-use Rattle.slice.specs.Search.{touchedBy}
-use Rattle.slice.specs.Slice.{sliceView}
+use Rattle.slice.specs.Workers.{touchedBy}
+use Rattle.slice.specs.Calls.{sliceView}
 use Rattle.slice.proofs.Viewing.{view-told, view-fits, view-touched}
 use borrow.Author.Needs.{needs}
 use Rattle.slice.proofs.slice_view.Statement.{statement}

@@ -1,5 +1,5 @@
 use Rattle.column.proofs.Promised.{asked-yes, asked-no, runs-written, runs-refused}
-use Rattle.transform.specs.Transform.{concat}
+use Rattle.transform.specs.Calls.{concat}
 use Rattle.transform.proofs.Joining.{concat-yes}
 use borrow.Author.Needs.{needs}
 use Rattle.transform.proofs.concat.Statement.{statement}

@@ -1,7 +1,7 @@
 use denote.Ref.{now}
 use Rattle.column.proofs.Promised.{asked-yes, asked-no, runs-written, runs-refused}
 use Rattle.column.proofs.Told.{sequence-told}
-use Rattle.transform.specs.Transform.{reversed}
+use Rattle.transform.specs.Calls.{reversed}
 use borrow.Author.Needs.{needs}
 use Rattle.transform.proofs.reversed.Statement.{statement}
 use Rattle.transform.proofs.reversed.Tie as tie

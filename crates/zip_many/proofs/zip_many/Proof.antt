@@ -4,7 +4,7 @@ use mathlib.Core.Path.{_∙_}
 use Rattle.num.proofs.Bits.{back}
 use Rattle.zip_many.proofs.Flats.{combined-filled}
 use Rattle.column.proofs.Promised.{asked-yes, asked-no, runs-written, runs-refused}
-use Rattle.zip_many.specs.ZipMany.{zipMany}
+use Rattle.zip_many.specs.Calls.{zipMany}
 use Rattle.zip_many.proofs.Asks.{zip-many-yes}
 use borrow.Author.Needs.{needs}
 use Rattle.zip_many.proofs.zip_many.Statement.{statement}

@@ -1,5 +1,5 @@
 use Rattle.column.proofs.FirstNo.{asked-last}
-use Rattle.batch.specs.Two.{bothValid}
+use Rattle.batch.specs.Batch.{bothValid}
 use borrow.Author.Needs.{needs}
 use Rattle.batch.proofs.two.ask_batches.Statement.{statement}
 use Rattle.batch.proofs.two.ask_batches.Tie as tie

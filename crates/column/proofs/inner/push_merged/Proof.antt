@@ -3,7 +3,7 @@ use native.Mathlib.Omega.{arith}
 use mir.Syntax.{w64}
 use mir.Val.{toZ, ofZ}
 use mir.Facts.{toZ-ofZ}
-use Rattle.column.specs.Writing.{nextPlace}
+use Rattle.column.specs.Workers.{nextPlace}
 use borrow.Author.Needs.{needs}
 use Rattle.column.proofs.inner.push_merged.Statement.{statement}
 use Rattle.column.proofs.inner.push_merged.Tie as tie

@@ -14,7 +14,7 @@ use Rattle.column.proofs.Ends.{rising}
 use borrow.Author.Needs.{needs}
 use Rattle.dense.proofs.inner.to_dense.Statement.{statement}
 use Rattle.dense.proofs.inner.to_dense.Tie as tie
-use Rattle.column.specs.Writing.{RisingEnds}
+use Rattle.column.specs.Workers.{RisingEnds}
 
 -- the first p values are written, p being the end of the last run
 module _ (es vs out₀ : List ℤ) where

@@ -2,7 +2,7 @@ use mathlib.Core.Path.{_≡_, ap, sym, _∙_}
 use mir.Syntax.{w64}
 use mir.Val.{toZ, ofZ}
 use Rattle.num.specs.Numbers.{residue}
-use Rattle.reduce.specs.Reduce.{bitsOf}
+use Rattle.reduce.specs.Calls.{bitsOf}
 use Rattle.reduce.proofs.Intervals.{finite-no-nan}
 use borrow.Author.Needs.{needs}
 use Rattle.reduce.proofs.inner.bits.Statement.{statement}

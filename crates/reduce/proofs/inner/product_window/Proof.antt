@@ -14,7 +14,7 @@ use Rattle.float.specs.Float.{Within}
 use Rattle.column.specs.Runs.{magnitude}
 use Rattle.column.proofs.Naturals.{le-lt}
 use Rattle.reduce.specs.Workers.{AllProducts, ProductsOf, Totalled, bodyOf}
-use Rattle.reduce.specs.Reduce.{addProduct, plusZero}
+use Rattle.reduce.specs.Calls.{addProduct, plusZero}
 use Rattle.reduce.proofs.Terms.{product-kept}
 use Rattle.reduce.proofs.Totals.{body-is, body-long, bodies-paired, body-walked, end-in-body, last-end, last-value, walked-paired, walked-inside, total-none, total-refused, total-passed}
 use Rattle.reduce.proofs.Walking.{end-natural, run-fits, run-natural, walked-next}

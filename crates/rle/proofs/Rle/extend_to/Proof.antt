@@ -1,7 +1,7 @@
 use denote.Ref.{now}
 use Rattle.column.proofs.Promised.{asked-yes, asked-no, runs-written, runs-refused}
 use mir.Facts.{toZ-ofZ}
-use Rattle.rle.specs.Rle.{extendTo}
+use Rattle.rle.specs.Calls.{extendTo}
 use Rattle.rle.proofs.Yes.{extend-to-yes}
 use borrow.Author.Needs.{needs}
 use Rattle.rle.proofs.Rle.extend_to.Statement.{statement}

@@ -1,7 +1,7 @@
 use denote.Ref.{now}
 use Rattle.column.proofs.Promised.{asked-yes, asked-no, runs-written, runs-refused}
 use mir.Facts.{toZ-ofZ}
-use Rattle.rle.specs.Rle.{pushRun}
+use Rattle.rle.specs.Calls.{pushRun}
 use Rattle.rle.proofs.Yes.{push-run-yes}
 use borrow.Author.Needs.{needs}
 use Rattle.rle.proofs.Rle.push_run.Statement.{statement}

@@ -1,0 +1,400 @@
+// Workers that assume what the calls have asked.
+use batch::inner::copy;
+use batch::inner::part_at;
+use column::answer::Asked;
+use column::answer::Fill;
+use column::answer::RleBatch;
+use column::sequence;
+ghost use Prim.Native.Nat.{_+_, _*_, _≤_, _<_};
+ghost use mathlib.Core.Bool.{true, false};
+ghost use mathlib.Core.List.{_++_, map};
+ghost use mathlib.Core.Path.{_≡_};
+ghost use lib.ListN.{length, getD, take, drop};
+ghost use Rattle.num.specs.Numbers.{operation};
+ghost use Rattle.column.specs.declared.answer.Fill.the-variants.{Value, Missing};
+ghost use Rattle.column.specs.Asking.{shownAsked};
+ghost use Rattle.column.specs.Combine.{combined};
+ghost use Rattle.column.specs.Runs.{sequence, over};
+ghost use Rattle.batch_index.specs.Workers.{doubled, NextPosition};
+ghost use Rattle.ops.specs.Calls.{sides};
+ghost use Rattle.batch.specs.Batch.{batch};
+ghost use Rattle.batch_keys.specs.Calls.{once};
+ghost use Rattle.batch_collapse.specs.Calls.{collapseRuns, filledGroup, members, renamed, filledGroups, collapseKey};
+ghost use Rattle.batch_collapse.specs.Workers.{Together, NextGroup, Grouped, memberRuns, Foldable, FoldedMember, FoldRoom, Folded, FilledGroup, CollapseRoom, FilledGroups};
+
+// Whether no key is below the one before it.
+fn never_fall(keys: &[u32]) -> bool
+    ensures { λ r. ⌜ (r ≡ true → Together (now (keys .entry))) ⌝ }
+{
+    let mut i: usize = 1;
+    while i < keys.len() {
+        let before = keys[i - 1];
+        let key = keys[i];
+        if key < before {
+            return false;
+        }
+        i += 1;
+    }
+    true
+}
+
+// Whether it is known that equal keys stand together: the keys never fall, or none is given twice.
+pub fn stand_together(keys: &[u32]) -> bool
+    ensures { λ r. ⌜ (r ≡ true → Together (now (keys .entry))) ⌝ }
+{
+    if never_fall(keys) {
+        return true;
+    }
+    batch_keys::first_duplicate(keys) == keys.len()
+}
+
+// Whether the key at a position stands before it too.
+fn stands_before(keys: &[u32], together: bool, i: usize) -> bool
+    requires { ⌜ (together ≡ true → Together (now keys)) × (i < length (now keys)) ⌝ }
+    ensures { λ r. ⌜ r ≡ doubled (now (keys .entry)) i ⌝ }
+{
+    if i == 0 {
+        return false;
+    }
+    let key = keys[i];
+    if together {
+        return key == keys[i - 1];
+    }
+    batch_index::inner::scan(&keys[..i], key) < i
+}
+
+// The next position, from one on, of a key that does not stand before it too.
+fn next_group(keys: &[u32], together: bool, from: usize) -> usize
+    requires { ⌜ (together ≡ true → Together (now keys)) × (from ≤ length (now keys)) ⌝ }
+    ensures { λ r. ⌜ NextGroup (now (keys .entry)) from r ⌝ }
+{
+    let mut i = from;
+    while i < keys.len() {
+        if !stands_before(keys, together, i) {
+            return i;
+        }
+        i += 1;
+    }
+    i
+}
+
+// The next position of the key at `last`, behind that.
+fn next_member(keys: &[u32], together: bool, last: usize) -> usize
+    requires { ⌜ (together ≡ true → Together (now keys)) × (last < length (now keys)) ⌝ }
+    ensures { λ r. ⌜ NextPosition (getD (now (keys .entry)) last 0) (now (keys .entry)) (last + 1) r ⌝ }
+{
+    let key = keys[last];
+    let next = last + 1;
+    if !together {
+        return batch_index::inner::scan_from(keys, next, key);
+    }
+    if next < keys.len() {
+        if keys[next] == key {
+            return next;
+        }
+    }
+    keys.len()
+}
+
+// 10 of a group, of which `first` is the position of the first member, where no fill is given.
+fn ask_group(
+    keys: &[u32],
+    offsets: &[usize],
+    ends: &[i64],
+    values: &[i64],
+    new_keys: &[u32],
+    together: bool,
+    code: u8,
+    first: usize,
+) -> Asked
+    requires { ⌜ Grouped (batch (now keys) (now offsets) (now ends) (now values)) (now «new_keys») together × (first < length (now «new_keys»)) × (doubled (now «new_keys») first ≡ false) ⌝ }
+    ensures { λ r. ⌜ shownAsked r ≡ filledGroup (operation code) Missing (members (renamed (batch (now (keys .entry)) (now (offsets .entry)) (now (ends .entry)) (now (values .entry))) (now («new_keys» .entry))) (getD (now («new_keys» .entry)) first 0)) ⌝ }
+{
+    let length = sequence::length(part_at(offsets, ends, first));
+    let mut at = next_member(new_keys, together, first);
+    while at < new_keys.len() {
+        let other = sequence::length(part_at(offsets, ends, at));
+        let asked = questions::ask_fills(length, other, Fill::Missing, Fill::Missing);
+        match asked {
+            Asked::Yes => {}
+            Asked::No(r) => return Asked::No(r),
+        }
+        at = next_member(new_keys, together, at);
+    }
+    Asked::Yes
+}
+
+// 10 of each group, where no fill is given.
+fn ask_all_groups(
+    keys: &[u32],
+    offsets: &[usize],
+    ends: &[i64],
+    values: &[i64],
+    new_keys: &[u32],
+    together: bool,
+    code: u8,
+) -> Asked
+    requires { ⌜ Grouped (batch (now keys) (now offsets) (now ends) (now values)) (now «new_keys») together ⌝ }
+    ensures { λ r. ⌜ shownAsked r ≡ filledGroups (operation code) Missing (renamed (batch (now (keys .entry)) (now (offsets .entry)) (now (ends .entry)) (now (values .entry))) (now («new_keys» .entry))) (once (now («new_keys» .entry))) ⌝ }
+{
+    let mut n: usize = 0;
+    let mut first = next_group(new_keys, together, 0);
+    while first < new_keys.len() {
+        let group = ask_group(keys, offsets, ends, values, new_keys, together, code, first);
+        let asked = questions::in_key(group, n);
+        match asked {
+            Asked::Yes => {}
+            Asked::No(r) => return Asked::No(r),
+        }
+        n += 1;
+        first = next_group(new_keys, together, first + 1);
+    }
+    Asked::Yes
+}
+
+// 10
+pub fn ask_groups(
+    keys: &[u32],
+    offsets: &[usize],
+    ends: &[i64],
+    values: &[i64],
+    new_keys: &[u32],
+    together: bool,
+    fill: Fill,
+    code: u8,
+) -> Asked
+    requires { ⌜ Grouped (batch (now keys) (now offsets) (now ends) (now values)) (now «new_keys») together ⌝ }
+    ensures { λ r. ⌜ shownAsked r ≡ filledGroups (operation code) fill (renamed (batch (now (keys .entry)) (now (offsets .entry)) (now (ends .entry)) (now (values .entry))) (now («new_keys» .entry))) (once (now («new_keys» .entry))) ⌝ }
+{
+    match fill {
+        Fill::Value(_) => Asked::Yes,
+        Fill::Missing => ask_all_groups(keys, offsets, ends, values, new_keys, together, code),
+    }
+}
+
+// How many runs the members of a group have.
+fn group_runs(
+    keys: &[u32],
+    offsets: &[usize],
+    ends: &[i64],
+    values: &[i64],
+    new_keys: &[u32],
+    together: bool,
+    first: usize,
+) -> usize
+    requires { ⌜ Grouped (batch (now keys) (now offsets) (now ends) (now values)) (now «new_keys») together × (first < length (now «new_keys»)) × (doubled (now «new_keys») first ≡ false) ⌝ }
+    ensures { λ r. ⌜ r ≡ memberRuns (renamed (batch (now (keys .entry)) (now (offsets .entry)) (now (ends .entry)) (now (values .entry))) (now («new_keys» .entry))) (getD (now («new_keys» .entry)) first 0) ⌝ }
+{
+    let mut runs = part_at(offsets, ends, first).len();
+    let mut at = next_member(new_keys, together, first);
+    while at < new_keys.len() {
+        runs += part_at(offsets, ends, at).len();
+        at = next_member(new_keys, together, at);
+    }
+    runs
+}
+
+// One more member, combined with the runs at the front of the scratch buffers. It goes through the other two buffers.
+fn fold_member(
+    ends: &[i64],
+    values: &[i64],
+    count: usize,
+    fill: i64,
+    code: u8,
+    out_ends: &mut [i64],
+    out_values: &mut [i64],
+    scratch_ends: &mut [i64],
+    scratch_values: &mut [i64],
+) -> usize
+    requires { ⌜ Foldable (sequence (now ends) (now values)) count (now «out_ends») (now «out_values») (now «scratch_ends») (now «scratch_values») ⌝ }
+    ensures { λ r. ⌜ FoldedMember
+        (combined (operation code) (sides (sequence (take count (now («scratch_ends» .entry))) (take count (now («scratch_values» .entry)))) (sequence (now (ends .entry)) (now (values .entry))) (Value fill) (Value fill)))
+        (now («out_ends» .entry)) (now («out_ends» .exit)) (now («out_values» .entry)) (now («out_values» .exit)) (now («scratch_ends» .entry)) (now («scratch_ends» .exit)) (now («scratch_values» .entry)) (now («scratch_values» .exit)) r ⌝ }
+{
+    let runs = ops::inner::zip_with(
+        &scratch_ends[..count],
+        &scratch_values[..count],
+        ends,
+        values,
+        fill,
+        fill,
+        code,
+        out_ends,
+        out_values,
+    );
+    copy(&out_ends[..runs], scratch_ends);
+    copy(&out_values[..runs], scratch_values);
+    runs
+}
+
+// The members of a group combined one after another, at the front of the scratch buffers.
+fn fold_group(
+    keys: &[u32],
+    offsets: &[usize],
+    ends: &[i64],
+    values: &[i64],
+    new_keys: &[u32],
+    together: bool,
+    first: usize,
+    fill: i64,
+    code: u8,
+    out_ends: &mut [i64],
+    out_values: &mut [i64],
+    scratch_ends: &mut [i64],
+    scratch_values: &mut [i64],
+) -> usize
+    requires { ⌜ Grouped (batch (now keys) (now offsets) (now ends) (now values)) (now «new_keys») together
+        × FoldRoom (batch (now keys) (now offsets) (now ends) (now values)) (now «new_keys») first (now «out_ends») (now «out_values») (now «scratch_ends») (now «scratch_values») ⌝ }
+    ensures { λ r. ⌜ Folded (collapseRuns (operation code) (Value fill) (members (renamed (batch (now (keys .entry)) (now (offsets .entry)) (now (ends .entry)) (now (values .entry))) (now («new_keys» .entry))) (getD (now («new_keys» .entry)) first 0)))
+        (length (now (ends .entry))) (memberRuns (renamed (batch (now (keys .entry)) (now (offsets .entry)) (now (ends .entry)) (now (values .entry))) (now («new_keys» .entry))) (getD (now («new_keys» .entry)) first 0))
+        (now («out_ends» .entry)) (now («out_ends» .exit)) (now («out_values» .entry)) (now («out_values» .exit)) (now («scratch_ends» .entry)) (now («scratch_ends» .exit)) (now («scratch_values» .entry)) (now («scratch_values» .exit)) r ⌝ }
+{
+    let mut at = next_member(new_keys, together, first);
+    let mut count = merge::inner::merged(
+        part_at(offsets, ends, first),
+        part_at(offsets, values, first),
+        scratch_ends,
+        scratch_values,
+    );
+    while at < new_keys.len() {
+        count = fold_member(
+            part_at(offsets, ends, at),
+            part_at(offsets, values, at),
+            count,
+            fill,
+            code,
+            out_ends,
+            out_values,
+            scratch_ends,
+            scratch_values,
+        );
+        at = next_member(new_keys, together, at);
+    }
+    count
+}
+
+// The first entries of a buffer, copied behind the first n of a scratch buffer.
+fn put_aside(entries: &[i64], runs: usize, scratch: &mut [i64], n: usize)
+    requires { ⌜ (runs ≤ length (now entries)) × (n + runs ≤ length (now scratch)) ⌝ }
+    ensures { λ _. ⌜ now (scratch .exit) ≡ take n (now (scratch .entry)) ++ over (take runs (now (entries .entry))) (drop n (now (scratch .entry))) ⌝ }
+{
+    copy(&entries[..runs], &mut scratch[n..]);
+}
+
+// The entries that were put aside, copied back, and over them the first of the scratch buffer.
+fn put_back(scratch: &[i64], n: usize, runs: usize, count: usize, out: &mut [i64])
+    requires { ⌜ (n + runs ≤ length (now scratch)) × (runs ≤ length (now out)) × (count ≤ runs) ⌝ }
+    ensures { λ _. ⌜ now (out .exit) ≡ over (take count (now (scratch .entry))) (over (take runs (drop n (now (scratch .entry)))) (now (out .entry))) ⌝ }
+{
+    copy(&scratch[n..n + runs], out);
+    copy(&scratch[..count], out);
+}
+
+// A group. What the two buffers hold where its runs are folded is put aside, and then back: a result on the way may be longer than the last.
+fn collapse_group(
+    keys: &[u32],
+    offsets: &[usize],
+    ends: &[i64],
+    values: &[i64],
+    new_keys: &[u32],
+    together: bool,
+    first: usize,
+    fill: i64,
+    code: u8,
+    out_ends: &mut [i64],
+    out_values: &mut [i64],
+    scratch_ends: &mut [i64],
+    scratch_values: &mut [i64],
+) -> usize
+    requires { ⌜ Grouped (batch (now keys) (now offsets) (now ends) (now values)) (now «new_keys») together
+        × FoldRoom (batch (now keys) (now offsets) (now ends) (now values)) (now «new_keys») first (now «out_ends») (now «out_values») (now «scratch_ends») (now «scratch_values») ⌝ }
+    ensures { λ r. ⌜ FilledGroup (collapseRuns (operation code) (Value fill) (members (renamed (batch (now (keys .entry)) (now (offsets .entry)) (now (ends .entry)) (now (values .entry))) (now («new_keys» .entry))) (getD (now («new_keys» .entry)) first 0)))
+        (2 * length (now (ends .entry))) (now («out_ends» .entry)) (now («out_ends» .exit)) (now («out_values» .entry)) (now («out_values» .exit)) (now («scratch_ends» .entry)) (now («scratch_ends» .exit)) (now («scratch_values» .entry)) (now («scratch_values» .exit)) r ⌝ }
+{
+    if next_member(new_keys, together, first) == new_keys.len() {
+        return merge::inner::merged(
+            part_at(offsets, ends, first),
+            part_at(offsets, values, first),
+            out_ends,
+            out_values,
+        );
+    }
+    let n = ends.len();
+    let runs = group_runs(keys, offsets, ends, values, new_keys, together, first);
+    put_aside(out_ends, runs, scratch_ends, n);
+    put_aside(out_values, runs, scratch_values, n);
+    let count = fold_group(
+        keys,
+        offsets,
+        ends,
+        values,
+        new_keys,
+        together,
+        first,
+        fill,
+        code,
+        out_ends,
+        out_values,
+        scratch_ends,
+        scratch_values,
+    );
+    put_back(scratch_ends, n, runs, count, out_ends);
+    put_back(scratch_values, n, runs, count, out_values);
+    count
+}
+
+// Each group, behind those before it.
+pub fn collapse(
+    keys: &[u32],
+    offsets: &[usize],
+    ends: &[i64],
+    values: &[i64],
+    new_keys: &[u32],
+    together: bool,
+    fill: i64,
+    code: u8,
+    out_keys: &mut [u32],
+    out_offsets: &mut [usize],
+    out_ends: &mut [i64],
+    out_values: &mut [i64],
+    scratch_ends: &mut [i64],
+    scratch_values: &mut [i64],
+) -> RleBatch
+    requires { ⌜ Grouped (batch (now keys) (now offsets) (now ends) (now values)) (now «new_keys») together
+        × CollapseRoom (batch (now keys) (now offsets) (now ends) (now values)) (now «out_keys») (now «out_offsets») (now «out_ends») (now «out_values») (now «scratch_ends») (now «scratch_values») ⌝ }
+    ensures { λ r. ⌜ FilledGroups (map (collapseKey (operation code) (Value fill) (renamed (batch (now (keys .entry)) (now (offsets .entry)) (now (ends .entry)) (now (values .entry))) (now («new_keys» .entry)))) (once (now («new_keys» .entry))))
+        (2 * length (now (ends .entry))) (now («out_keys» .entry)) (now («out_keys» .exit)) (now («out_offsets» .entry)) (now («out_offsets» .exit))
+        (now («out_ends» .entry)) (now («out_ends» .exit)) (now («out_values» .entry)) (now («out_values» .exit)) (now («scratch_ends» .entry)) (now («scratch_ends» .exit)) (now («scratch_values» .entry)) (now («scratch_values» .exit)) r ⌝ }
+{
+    out_offsets[0] = 0;
+    let mut used: usize = 0;
+    let mut n: usize = 0;
+    let mut first = next_group(new_keys, together, 0);
+    while first < new_keys.len() {
+        let key = new_keys[first];
+        out_keys[n] = key;
+        let count = collapse_group(
+            keys,
+            offsets,
+            ends,
+            values,
+            new_keys,
+            together,
+            first,
+            fill,
+            code,
+            &mut out_ends[used..],
+            &mut out_values[used..],
+            scratch_ends,
+            scratch_values,
+        );
+        used += count;
+        n += 1;
+        out_offsets[n] = used;
+        first = next_group(new_keys, together, first + 1);
+    }
+    RleBatch {
+        keys: n,
+        runs: used,
+    }
+}

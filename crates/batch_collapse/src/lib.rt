@@ -1,0 +1,131 @@
+// collapse of a batch.
+pub mod inner;
+
+use column::answer::Asked;
+use column::answer::Batched;
+use column::answer::Fill;
+ghost use Prim.Native.Nat.{_+_, _*_};
+ghost use mathlib.Core.List.{[], _∷_, _++_};
+ghost use mathlib.Core.Path.{_≡_};
+ghost use lib.ListN.{length};
+ghost use Rattle.column.specs.Asking.{shownAsked};
+ghost use Rattle.column.specs.Questions.{room, both};
+ghost use Rattle.batch.specs.Batch.{batch, batchNeeds};
+ghost use Rattle.batch_collapse.specs.Calls.{WritesCollapse};
+ghost use Rattle.batch_collapse.specs.Calls as calls;
+
+fn collapse_asks(
+    keys: &[u32],
+    offsets: &[usize],
+    ends: &[i64],
+    values: &[i64],
+    new_keys: &[u32],
+    code: u8,
+) -> Asked
+    ensures { λ r. ⌜ shownAsked r ≡ calls.collapseAsked (batch (now (keys .entry)) (now (offsets .entry)) (now (ends .entry)) (now (values .entry))) (now («new_keys» .entry)) code ⌝ }
+{
+    let renamed = questions::ask_lengths(4, new_keys.len(), keys.len());
+    let content = batch::ask_content(keys, offsets, ends, values);
+    let behind = questions::first_no(renamed, content);
+    let lengths = questions::first_no(batch::ask_lengths(keys, offsets, ends, values), behind);
+    questions::first_no(questions::ask_code(0, 9, code), lengths)
+}
+
+// 12, of the buffers for a batch and of a scratch pair.
+fn ask_room(
+    keys: usize,
+    offsets: usize,
+    runs: usize,
+    scratch: usize,
+    out_keys: usize,
+    out_offsets: usize,
+    out_ends: usize,
+    out_values: usize,
+    scratch_ends: usize,
+    scratch_values: usize,
+) -> Asked
+    ensures { λ r. ⌜ (offsets ≡ keys + 1 → scratch ≡ 2 * runs
+        → shownAsked r ≡ room (batchNeeds keys runs ++ both (2 * runs)) («out_keys» ∷ «out_offsets» ∷ «out_ends» ∷ «out_values» ∷ «scratch_ends» ∷ «scratch_values» ∷ [])) ⌝ }
+{
+    let pair = questions::first_no(
+        questions::ask_room(4, scratch, scratch_ends),
+        questions::ask_room(5, scratch, scratch_values),
+    );
+    let outputs = batch::ask_room(
+        keys,
+        offsets,
+        runs,
+        out_keys,
+        out_offsets,
+        out_ends,
+        out_values,
+    );
+    questions::first_no(outputs, pair)
+}
+
+// The sequences of a batch gathered under new keys: those of one new key are combined one after another.
+pub fn collapse(
+    keys: &[u32],
+    offsets: &[usize],
+    ends: &[i64],
+    values: &[i64],
+    new_keys: &[u32],
+    fill: Fill,
+    code: u8,
+    out_keys: &mut [u32],
+    out_offsets: &mut [usize],
+    out_ends: &mut [i64],
+    out_values: &mut [i64],
+    scratch_ends: &mut [i64],
+    scratch_values: &mut [i64],
+) -> Batched
+    ensures { λ r. ⌜ WritesCollapse
+        (calls.collapse (batch (now (keys .entry)) (now (offsets .entry)) (now (ends .entry)) (now (values .entry))) (now («new_keys» .entry)) fill code
+        (length (now («out_keys» .entry)) ∷ length (now («out_offsets» .entry)) ∷ length (now («out_ends» .entry)) ∷ length (now («out_values» .entry))
+        ∷ length (now («scratch_ends» .entry)) ∷ length (now («scratch_values» .entry)) ∷ [])) (2 * length (now (ends .entry))) r
+        (now («out_keys» .entry)) (now («out_keys» .exit)) (now («out_offsets» .entry)) (now («out_offsets» .exit))
+        (now («out_ends» .entry)) (now («out_ends» .exit)) (now («out_values» .entry)) (now («out_values» .exit)) (now («scratch_ends» .entry)) (now («scratch_ends» .exit)) (now («scratch_values» .entry)) (now («scratch_values» .exit)) ⌝ }
+{
+    let asked = collapse_asks(keys, offsets, ends, values, new_keys, code);
+    match asked {
+        Asked::Yes => {}
+        Asked::No(r) => return Batched::Refused(r),
+    }
+    let together = inner::stand_together(new_keys);
+    let room = ask_room(
+        keys.len(),
+        keys.len() + 1,
+        ends.len(),
+        ends.len() * 2,
+        out_keys.len(),
+        out_offsets.len(),
+        out_ends.len(),
+        out_values.len(),
+        scratch_ends.len(),
+        scratch_values.len(),
+    );
+    let groups = inner::ask_groups(keys, offsets, ends, values, new_keys, together, fill, code);
+    let fits = questions::first_no(groups, room);
+    match fits {
+        Asked::Yes => {
+            let counts = inner::collapse(
+                keys,
+                offsets,
+                ends,
+                values,
+                new_keys,
+                together,
+                fill.value(),
+                code,
+                out_keys,
+                out_offsets,
+                out_ends,
+                out_values,
+                scratch_ends,
+                scratch_values,
+            );
+            Batched::Batch(counts)
+        }
+        Asked::No(r) => Batched::Refused(r),
+    }
+}

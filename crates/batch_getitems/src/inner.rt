@@ -1,0 +1,189 @@
+// Workers that assume what the calls have asked.
+use batch::inner::part_at;
+use batch_keys::Order;
+use slice::search;
+ghost use mathlib.Core.Bool.{true};
+ghost use mathlib.Core.List.{map};
+ghost use mathlib.Core.Path.{_≡_};
+ghost use lib.ListN.{length};
+ghost use Rattle.num.specs.Numbers.{saturated};
+ghost use Rattle.column.specs.Lists.{total};
+ghost use Rattle.batch_keys.specs.Workers.{Known, Blocks};
+ghost use Rattle.slice.specs.Workers.{FilledFlat};
+ghost use Rattle.batch.specs.Batch.{batch, entries};
+ghost use Rattle.batch.specs.Slices.{itemRuns};
+ghost use Rattle.batch.specs.Workers.{Intervals};
+ghost use Rattle.batch_getitems.specs.Workers.{Gettable};
+
+// How many runs the slices of all intervals have; at most usize::MAX is told.
+fn count_items_by(
+    keys: &[u32],
+    offsets: &[usize],
+    ends: &[i64],
+    values: &[i64],
+    order: Order,
+    get_keys: &[u32],
+    starts: &[i64],
+    stops: &[i64],
+    indexed: bool,
+    block: &mut [u32],
+) -> usize
+    requires { ⌜ Intervals (batch (now keys) (now offsets) (now ends) (now values)) (now «get_keys») (now starts) (now stops) × Known order (now keys) × (indexed ≡ true → Blocks (now keys) (now block)) ⌝ }
+    ensures { λ r. ⌜ r ≡ saturated (total (map length (itemRuns (now («get_keys» .entry)) (now (starts .entry)) (now (stops .entry))
+        (entries (batch (now (keys .entry)) (now (offsets .entry)) (now (ends .entry)) (now (values .entry))))))) ⌝ }
+{
+    let mut total: usize = 0;
+    let mut at: usize = 0;
+    let mut i: usize = 0;
+    while i < starts.len() {
+        let start = starts[i];
+        let stop = stops[i];
+        at = batch_keys::inner::find_next(keys, order, at, get_keys, i, indexed, &mut *block);
+        let touched = search::touched(part_at(offsets, ends, at), start, stop);
+        total = num::saturating_add(total, touched.count);
+        i += 1;
+    }
+    total
+}
+
+// With a block for the positions of wanted keys, where an index of the keys pays.
+pub fn count_items(
+    keys: &[u32],
+    offsets: &[usize],
+    ends: &[i64],
+    values: &[i64],
+    order: Order,
+    get_keys: &[u32],
+    starts: &[i64],
+    stops: &[i64],
+) -> usize
+    requires { ⌜ Intervals (batch (now keys) (now offsets) (now ends) (now values)) (now «get_keys») (now starts) (now stops) × Known order (now keys) ⌝ }
+    ensures { λ r. ⌜ r ≡ saturated (total (map length (itemRuns (now («get_keys» .entry)) (now (starts .entry)) (now (stops .entry))
+        (entries (batch (now (keys .entry)) (now (offsets .entry)) (now (ends .entry)) (now (values .entry))))))) ⌝ }
+{
+    if batch_keys::inner::index_pays(order, keys.len(), get_keys.len()) {
+        let mut block = [0u32; 32768];
+        return count_items_by(
+            keys,
+            offsets,
+            ends,
+            values,
+            order,
+            get_keys,
+            starts,
+            stops,
+            true,
+            &mut block,
+        );
+    }
+    let mut block = [0u32; 1];
+    count_items_by(
+        keys,
+        offsets,
+        ends,
+        values,
+        order,
+        get_keys,
+        starts,
+        stops,
+        false,
+        &mut block,
+    )
+}
+
+// The slice of each interval, behind those of the intervals before it.
+fn getitems_by(
+    keys: &[u32],
+    offsets: &[usize],
+    ends: &[i64],
+    values: &[i64],
+    order: Order,
+    get_keys: &[u32],
+    starts: &[i64],
+    stops: &[i64],
+    indexed: bool,
+    block: &mut [u32],
+    out_offsets: &mut [usize],
+    out_ends: &mut [i64],
+    out_values: &mut [i64],
+) -> usize
+    requires { ⌜ Gettable (batch (now keys) (now offsets) (now ends) (now values)) (now «get_keys») (now starts) (now stops) (now «out_offsets») (now «out_ends») (now «out_values») × Known order (now keys) × (indexed ≡ true → Blocks (now keys) (now block)) ⌝ }
+    ensures { λ r. ⌜ FilledFlat (itemRuns (now («get_keys» .entry)) (now (starts .entry)) (now (stops .entry)) (entries (batch (now (keys .entry)) (now (offsets .entry)) (now (ends .entry)) (now (values .entry)))))
+        (now («out_offsets» .entry)) (now («out_offsets» .exit)) (now («out_ends» .entry)) (now («out_ends» .exit)) (now («out_values» .entry)) (now («out_values» .exit)) r ⌝ }
+{
+    out_offsets[0] = 0;
+    let mut used: usize = 0;
+    let mut at: usize = 0;
+    let mut i: usize = 0;
+    while i < starts.len() {
+        let start = starts[i];
+        let stop = stops[i];
+        at = batch_keys::inner::find_next(keys, order, at, get_keys, i, indexed, &mut *block);
+        let part = part_at(offsets, ends, at);
+        let touched = search::touched(part, start, stop);
+        used += slice::inner::slice(
+            part,
+            part_at(offsets, values, at),
+            touched,
+            &mut out_ends[used..],
+            &mut out_values[used..],
+        );
+        i += 1;
+        out_offsets[i] = used;
+    }
+    used
+}
+
+// With a block for the positions of wanted keys, where an index of the keys pays.
+pub fn getitems(
+    keys: &[u32],
+    offsets: &[usize],
+    ends: &[i64],
+    values: &[i64],
+    order: Order,
+    get_keys: &[u32],
+    starts: &[i64],
+    stops: &[i64],
+    out_offsets: &mut [usize],
+    out_ends: &mut [i64],
+    out_values: &mut [i64],
+) -> usize
+    requires { ⌜ Gettable (batch (now keys) (now offsets) (now ends) (now values)) (now «get_keys») (now starts) (now stops) (now «out_offsets») (now «out_ends») (now «out_values») × Known order (now keys) ⌝ }
+    ensures { λ r. ⌜ FilledFlat (itemRuns (now («get_keys» .entry)) (now (starts .entry)) (now (stops .entry)) (entries (batch (now (keys .entry)) (now (offsets .entry)) (now (ends .entry)) (now (values .entry)))))
+        (now («out_offsets» .entry)) (now («out_offsets» .exit)) (now («out_ends» .entry)) (now («out_ends» .exit)) (now («out_values» .entry)) (now («out_values» .exit)) r ⌝ }
+{
+    if batch_keys::inner::index_pays(order, keys.len(), get_keys.len()) {
+        let mut block = [0u32; 32768];
+        return getitems_by(
+            keys,
+            offsets,
+            ends,
+            values,
+            order,
+            get_keys,
+            starts,
+            stops,
+            true,
+            &mut block,
+            out_offsets,
+            out_ends,
+            out_values,
+        );
+    }
+    let mut block = [0u32; 1];
+    getitems_by(
+        keys,
+        offsets,
+        ends,
+        values,
+        order,
+        get_keys,
+        starts,
+        stops,
+        false,
+        &mut block,
+        out_offsets,
+        out_ends,
+        out_values,
+    )
+}

@@ -1,0 +1,89 @@
+// getitems of a batch, by intervals each with a key. A batch is handed in as its keys, its offsets, and its ends and values laid flat.
+pub mod inner;
+
+use column::answer::Asked;
+use column::answer::Batched;
+use column::answer::RleBatch;
+ghost use mathlib.Core.List.{[], _∷_};
+ghost use mathlib.Core.Path.{_≡_};
+ghost use lib.ListN.{length};
+ghost use Rattle.column.specs.Asking.{shownAsked};
+ghost use Rattle.column.specs.Flat.{WritesFlat};
+ghost use Rattle.batch.specs.Batch.{batch};
+ghost use Rattle.batch_getitems.specs.Calls as calls;
+
+// The batch's own questions, and at the place of 9 what 8 of 2, 9 and what 7 of 2.
+fn getitems_asks(
+    keys: &[u32],
+    offsets: &[usize],
+    ends: &[i64],
+    values: &[i64],
+    get_keys: &[u32],
+    starts: &[i64],
+    stops: &[i64],
+) -> Asked
+    ensures { λ r. ⌜ shownAsked r ≡ calls.getitemsAsked (batch (now (keys .entry)) (now (offsets .entry)) (now (ends .entry)) (now (values .entry)))
+        (now («get_keys» .entry)) (now (starts .entry)) (now (stops .entry)) ⌝ }
+{
+    let inside = questions::ask_intervals(starts, stops);
+    let keyed = questions::ask_lengths(7, get_keys.len(), starts.len());
+    let last = questions::first_no(inside, keyed);
+    let paired = questions::first_no(questions::ask_lengths(8, starts.len(), stops.len()), last);
+    questions::first_no(batch::ask_batch(keys, offsets, ends, values), paired)
+}
+
+// The slices of intervals, each of a key's sequence, laid flat.
+pub fn getitems(
+    keys: &[u32],
+    offsets: &[usize],
+    ends: &[i64],
+    values: &[i64],
+    get_keys: &[u32],
+    starts: &[i64],
+    stops: &[i64],
+    out_offsets: &mut [usize],
+    out_ends: &mut [i64],
+    out_values: &mut [i64],
+) -> Batched
+    ensures { λ r. ⌜ WritesFlat
+        (calls.getitems (batch (now (keys .entry)) (now (offsets .entry)) (now (ends .entry)) (now (values .entry))) (now («get_keys» .entry)) (now (starts .entry)) (now (stops .entry))
+        (length (now («out_offsets» .entry)) ∷ length (now («out_ends» .entry)) ∷ length (now («out_values» .entry)) ∷ [])) r
+        (now («out_offsets» .entry)) (now («out_offsets» .exit)) (now («out_ends» .entry)) (now («out_ends» .exit)) (now («out_values» .entry)) (now («out_values» .exit)) ⌝ }
+{
+    let asked = getitems_asks(keys, offsets, ends, values, get_keys, starts, stops);
+    match asked {
+        Asked::Yes => {}
+        Asked::No(r) => return Batched::Refused(r),
+    }
+    let order = batch_keys::quick_order(keys);
+    let needed = inner::count_items(keys, offsets, ends, values, order, get_keys, starts, stops);
+    let room = slice::ask_flat_room(
+        starts.len() + 1,
+        needed,
+        out_offsets.len(),
+        out_ends.len(),
+        out_values.len(),
+    );
+    match room {
+        Asked::Yes => {
+            let runs = inner::getitems(
+                keys,
+                offsets,
+                ends,
+                values,
+                order,
+                get_keys,
+                starts,
+                stops,
+                out_offsets,
+                out_ends,
+                out_values,
+            );
+            Batched::Batch(RleBatch {
+                keys: starts.len(),
+                runs,
+            })
+        }
+        Asked::No(r) => Batched::Refused(r),
+    }
+}

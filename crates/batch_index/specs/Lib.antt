@@ -1,0 +1,3 @@
+-- Where keys stand; to be read after the definitions of column.
+pub mod Calls
+pub mod Workers

@@ -1,0 +1,100 @@
+// The keys of a batch: where one stands, and whether one is given twice.
+pub mod inner;
+
+use column::answer::Asked;
+use column::answer::Found;
+use column::error::Error;
+use column::error::InKey;
+use column::error::Refusal;
+ghost use mathlib.Core.Path.{_≡_};
+ghost use lib.ListN.{length};
+ghost use Rattle.column.specs.Asking.{shownAsked};
+ghost use Rattle.column.specs.Paper.{shownFound};
+ghost use Rattle.column.specs.Questions.{distinctKeys};
+ghost use Rattle.batch_index.specs.Workers.{FirstDouble, every};
+ghost use Rattle.batch_keys.specs.Calls as calls;
+ghost use Rattle.batch_keys.specs.Workers.{ascends, Known};
+
+// What is known of keys: each is above the one before it; or none is given twice.
+pub enum Order {
+    Ascending,
+    Distinct,
+    Unknown,
+}
+
+// Whether each key is above the one before it.
+fn ascends(keys: &[u32]) -> bool
+    ensures { λ r. ⌜ r ≡ ascends (now (keys .entry)) ⌝ }
+{
+    let mut i: usize = 1;
+    while i < keys.len() {
+        let before = keys[i - 1];
+        let key = keys[i];
+        if key <= before {
+            return false;
+        }
+        i += 1;
+    }
+    true
+}
+
+// The lowest position of a key that stands before it too, or how many keys there are.
+pub fn first_duplicate(keys: &[u32]) -> usize
+    ensures { λ r. ⌜ FirstDouble every (now (keys .entry)) (length (now (keys .entry))) r ⌝ }
+{
+    if ascends(keys) {
+        return keys.len();
+    }
+    batch_index::table::first_duplicate(keys)
+}
+
+// 8
+pub fn ask_keys(keys: &[u32]) -> Asked
+    ensures { λ r. ⌜ shownAsked r ≡ distinctKeys (now (keys .entry)) ⌝ }
+{
+    let position = first_duplicate(keys);
+    if position < keys.len() {
+        Asked::No(Refusal {
+            error: Error::DuplicateKey { position },
+            in_key: InKey::Outside,
+        })
+    } else {
+        Asked::Yes
+    }
+}
+
+// What is known of keys by looking at each and the one before it.
+pub fn quick_order(keys: &[u32]) -> Order
+    ensures { λ r. ⌜ Known r (now (keys .entry)) ⌝ }
+{
+    if ascends(keys) {
+        Order::Ascending
+    } else {
+        Order::Unknown
+    }
+}
+
+// What is known of keys by looking at all of them.
+pub fn order_of(keys: &[u32]) -> Order
+    ensures { λ r. ⌜ Known r (now (keys .entry)) ⌝ }
+{
+    if ascends(keys) {
+        return Order::Ascending;
+    }
+    if batch_index::table::first_duplicate(keys) == keys.len() {
+        return Order::Distinct;
+    }
+    Order::Unknown
+}
+
+// The lowest position of a key.
+pub fn position(keys: &[u32], key: u32) -> Found
+    ensures { λ r. ⌜ shownFound r ≡ calls.position (now (keys .entry)) key ⌝ }
+{
+    let at = batch_index::inner::scan(keys, key);
+    if at < keys.len() {
+        Found::At(at)
+    } else {
+        Found::Nothing
+    }
+}

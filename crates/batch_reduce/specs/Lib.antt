@@ -1,3 +1,0 @@
--- slice_reduce of batch.rs, by intervals each with a key; to be read after the definitions of column, slice, reduce and batch.
-pub mod SliceReduce
-pub mod Workers

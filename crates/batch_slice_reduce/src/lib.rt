@@ -1,0 +1,98 @@
+// slice_reduce of a batch, by intervals each with a key. A batch is handed in as its keys, its offsets, and its ends and values laid flat.
+pub mod inner;
+
+use column::answer::Asked;
+use column::answer::Counted;
+ghost use mathlib.Core.List.{[], _∷_};
+ghost use mathlib.Core.Path.{_≡_};
+ghost use lib.ListN.{length};
+ghost use Rattle.column.specs.Asking.{shownAsked};
+ghost use Rattle.reduce.specs.Calls.{WritesReductions};
+ghost use Rattle.batch.specs.Batch.{batch};
+ghost use Rattle.batch_slice_reduce.specs.Calls as calls;
+
+fn slice_reduce_asks(
+    keys: &[u32],
+    offsets: &[usize],
+    ends: &[i64],
+    values: &[i64],
+    get_keys: &[u32],
+    starts: &[i64],
+    stops: &[i64],
+    code: u8,
+    out_kinds: usize,
+    out_bits: usize,
+) -> Asked
+    ensures { λ r. ⌜ shownAsked r ≡ calls.sliceReduceAsked (batch (now (keys .entry)) (now (offsets .entry)) (now (ends .entry)) (now (values .entry)))
+        (now («get_keys» .entry)) (now (starts .entry)) (now (stops .entry)) code («out_kinds» ∷ «out_bits» ∷ []) ⌝ }
+{
+    let inside = questions::first_no(
+        questions::ask_intervals(starts, stops),
+        questions::ask_both(starts.len(), out_kinds, out_bits),
+    );
+    let content = questions::first_no(batch::ask_content(keys, offsets, ends, values), inside);
+    let paired = questions::first_no(
+        questions::ask_lengths(8, starts.len(), stops.len()),
+        content,
+    );
+    let keyed = questions::first_no(
+        questions::ask_lengths(7, get_keys.len(), starts.len()),
+        paired,
+    );
+    let lengths = questions::first_no(batch::ask_lengths(keys, offsets, ends, values), keyed);
+    questions::first_no(questions::ask_code(0, 2, code), lengths)
+}
+
+// The reductions of the slices of intervals, each of a key's sequence.
+pub fn slice_reduce(
+    keys: &[u32],
+    offsets: &[usize],
+    ends: &[i64],
+    values: &[i64],
+    get_keys: &[u32],
+    starts: &[i64],
+    stops: &[i64],
+    code: u8,
+    ddof: i64,
+    out_kinds: &mut [u8],
+    out_bits: &mut [u64],
+) -> Counted
+    ensures { λ r. ⌜ WritesReductions
+        (calls.sliceReduce (batch (now (keys .entry)) (now (offsets .entry)) (now (ends .entry)) (now (values .entry))) (now («get_keys» .entry)) (now (starts .entry)) (now (stops .entry)) code ddof
+        (length (now («out_kinds» .entry)) ∷ length (now («out_bits» .entry)) ∷ [])) r
+        (now («out_kinds» .entry)) (now («out_kinds» .exit)) (now («out_bits» .entry)) (now («out_bits» .exit)) ⌝ }
+{
+    let asked = slice_reduce_asks(
+        keys,
+        offsets,
+        ends,
+        values,
+        get_keys,
+        starts,
+        stops,
+        code,
+        out_kinds.len(),
+        out_bits.len(),
+    );
+    match asked {
+        Asked::Yes => {
+            let order = batch_keys::quick_order(keys);
+            let n = inner::slice_reduce(
+                keys,
+                offsets,
+                ends,
+                values,
+                order,
+                get_keys,
+                starts,
+                stops,
+                code,
+                ddof,
+                out_kinds,
+                out_bits,
+            );
+            Counted::Count(n)
+        }
+        Asked::No(r) => Counted::Refused(r),
+    }
+}

@@ -1,0 +1,90 @@
+// Searches for the positions of a block of intervals, step by step beside each other, so that none waits for the memory of another.
+use column::sequence;
+ghost use Prim.Native.Nat.{_+_, _≤_, _<_, _/_, _^_};
+ghost use mathlib.Core.Option.{none};
+ghost use mathlib.Core.Path.{_≡_};
+ghost use lib.IntN.{pos};
+ghost use lib.ListN.{length, getD};
+ghost use Rattle.column.specs.Questions.{endsValid};
+ghost use Rattle.getitems.specs.Workers.{sought, found, Begun, Halvings, Searched, Kept};
+
+// How many are looked for at once.
+pub const BLOCK: usize = 16;
+
+// What is looked for: the position as clamped to the sequence, or the one before it.
+fn place(ends: &[i64], position: i64, back: usize) -> usize
+    ensures { λ r. ⌜ (r ≡ sought (now (ends .entry)) back position) × (r < 2 ^ 63) ⌝ }
+{
+    let length = sequence::magnitude(sequence::length(ends));
+    let clamped = num::smaller_count(sequence::magnitude(position), length);
+    if clamped < back { 0 } else { clamped - back }
+}
+
+// No end is passed yet.
+fn start(
+    ends: &[i64],
+    positions: &[i64],
+    from: usize,
+    back: usize,
+    places: &mut [usize],
+    lows: &mut [usize],
+)
+    requires { ⌜ (length (now places) ≡ 16) × (length (now lows) ≡ 16) × (from < 2 ^ 63) ⌝ }
+    ensures { λ _. ⌜ Begun (now (ends .entry)) (now (positions .entry)) from back (now (places .exit)) (now (lows .exit)) ⌝ }
+{
+    let mut k: usize = 0;
+    while k < BLOCK {
+        let position = sequence::entry_or(positions, from + k, 0);
+        places[k] = place(ends, position, back);
+        lows[k] = 0;
+        k += 1;
+    }
+}
+
+// A step of each.
+fn halve(ends: &[i64], size: usize, places: &[usize], lows: &mut [usize])
+    requires { ⌜ Halvings (now ends) (now places) (now lows) size × (0 < size) ⌝ }
+    ensures { λ _. ⌜ Halvings (now (ends .entry)) (now (places .entry)) (now (lows .exit)) (size / 2) ⌝ }
+{
+    let mut k: usize = 0;
+    while k < BLOCK {
+        let low = lows[k];
+        let place = places[k];
+        lows[k] = slice::inner::half(ends, low, size, place);
+        k += 1;
+    }
+}
+
+// The searches of the block at `from`.
+fn search(ends: &[i64], positions: &[i64], from: usize, back: usize, block: &mut [usize])
+    requires { ⌜ (length (now block) ≡ 16) × (from < 2 ^ 63) ⌝ }
+    ensures { λ _. ⌜ Searched (now (ends .entry)) (now (positions .entry)) back from (now (block .exit)) ⌝ }
+{
+    let mut places = [0usize; BLOCK];
+    start(ends, positions, from, back, &mut places, &mut *block);
+    let mut size = ends.len();
+    while 0 < size {
+        halve(ends, size, &places, &mut *block);
+        size /= 2;
+    }
+}
+
+// The first end above the position at i, or above the one before it; those before i have been looked for.
+pub fn find_next(
+    ends: &[i64],
+    positions: &[i64],
+    i: usize,
+    back: usize,
+    block: &mut [usize],
+) -> usize
+    requires { ⌜ (i < length (now positions)) × Kept (now ends) (now positions) back (now block) i ⌝ }
+    ensures { λ r. ⌜ (r ≤ length (now (ends .entry))) × (endsValid (now (ends .entry)) ≡ none → r ≡ found (now (ends .entry)) back (getD (now (positions .entry)) i (pos 0)))
+        × Kept (now (ends .entry)) (now (positions .entry)) back (now (block .exit)) (i + 1) ⌝ }
+{
+    let slot = i % BLOCK;
+    if slot == 0 {
+        search(ends, positions, i, back, &mut *block);
+        return block[0];
+    }
+    block[slot]
+}

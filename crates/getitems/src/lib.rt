@@ -1,0 +1,170 @@
+// Calls on a sequence that take intervals.
+pub mod inner;
+
+use column::answer::Asked;
+use column::answer::Batched;
+use column::answer::Counted;
+use column::answer::RleBatch;
+use inner::searches;
+ghost use Prim.Native.Nat.{_+_, _<_, _^_};
+ghost use Rattle.column.specs.Asking.{shownAsked};
+ghost use Rattle.column.specs.Flat.{WritesFlat};
+ghost use Rattle.column.specs.Lists.{total};
+ghost use Rattle.column.specs.Questions.{endsValid, room};
+ghost use Rattle.column.specs.Runs.{sequence};
+ghost use Rattle.num.specs.Numbers.{saturated};
+ghost use lib.ListN.{length};
+ghost use mathlib.Core.List.{[], _∷_};
+ghost use mathlib.Core.Option.{none};
+ghost use mathlib.Core.Path.{_≡_};
+ghost use Rattle.reduce.specs.Calls.{WritesReductions};
+ghost use Rattle.getitems.specs.Calls as calls;
+ghost use Rattle.getitems.specs.Workers.{intervalCounts};
+
+// How many runs the slices of all intervals have.
+fn count_runs(ends: &[i64], starts: &[i64], stops: &[i64]) -> usize
+    ensures { λ r. ⌜ (endsValid (now (ends .entry)) ≡ none → length (now (starts .entry)) ≡ length (now (stops .entry)) → r ≡ saturated (total (intervalCounts (now (starts .entry)) (now (stops .entry)) (now (ends .entry))))) ⌝ }
+{
+    if starts.len() != stops.len() {
+        return 0;
+    }
+    let mut firsts = [0usize; searches::BLOCK];
+    let mut lasts = [0usize; searches::BLOCK];
+    let mut total: usize = 0;
+    let mut i: usize = 0;
+    while i < starts.len() {
+        let start = starts[i];
+        let stop = stops[i];
+        let first = searches::find_next(ends, starts, i, 0, &mut firsts);
+        let last = searches::find_next(ends, stops, i, 1, &mut lasts);
+        let count = inner::count_at(ends, start, stop, first, last);
+        total = num::saturating_add(total, count);
+        i += 1;
+    }
+    total
+}
+
+fn getitems_asks(
+    ends: &[i64],
+    values: &[i64],
+    starts: &[i64],
+    stops: &[i64],
+    out_offsets: usize,
+    out_ends: usize,
+    out_values: usize,
+) -> Asked
+    ensures { λ r. ⌜ («out_ends» < 2 ^ 63 → «out_values» < 2 ^ 63
+        → shownAsked r ≡ calls.getitemsAsked (sequence (now (ends .entry)) (now (values .entry))) (now (starts .entry)) (now (stops .entry)) («out_offsets» ∷ «out_ends» ∷ «out_values» ∷ [])) ⌝ }
+{
+    let runs = count_runs(ends, starts, stops);
+    let room = slice::ask_flat_room(starts.len() + 1, runs, out_offsets, out_ends, out_values);
+    let inside = questions::first_no(questions::ask_intervals(starts, stops), room);
+    let valid = questions::first_no(questions::ask_ends(ends), inside);
+    let paired = questions::first_no(questions::ask_lengths(8, starts.len(), stops.len()), valid);
+    questions::first_no(questions::ask_lengths(3, ends.len(), values.len()), paired)
+}
+
+// The slices of many intervals, laid flat.
+pub fn getitems(
+    ends: &[i64],
+    values: &[i64],
+    starts: &[i64],
+    stops: &[i64],
+    out_offsets: &mut [usize],
+    out_ends: &mut [i64],
+    out_values: &mut [i64],
+) -> Batched
+    ensures { λ r. ⌜ WritesFlat
+        (calls.getitems (sequence (now (ends .entry)) (now (values .entry))) (now (starts .entry)) (now (stops .entry))
+        (length (now («out_offsets» .entry)) ∷ length (now («out_ends» .entry)) ∷ length (now («out_values» .entry)) ∷ [])) r
+        (now («out_offsets» .entry)) (now («out_offsets» .exit)) (now («out_ends» .entry)) (now («out_ends» .exit)) (now («out_values» .entry)) (now («out_values» .exit)) ⌝ }
+{
+    let asked = getitems_asks(
+        ends,
+        values,
+        starts,
+        stops,
+        out_offsets.len(),
+        out_ends.len(),
+        out_values.len(),
+    );
+    match asked {
+        Asked::Yes => {
+            let runs = inner::getitems(
+                ends,
+                values,
+                starts,
+                stops,
+                out_offsets,
+                out_ends,
+                out_values,
+            );
+            Batched::Batch(RleBatch {
+                keys: starts.len(),
+                runs,
+            })
+        }
+        Asked::No(r) => Batched::Refused(r),
+    }
+}
+
+fn slice_reduce_asks(
+    ends: &[i64],
+    values: &[i64],
+    starts: &[i64],
+    stops: &[i64],
+    code: u8,
+    out_kinds: usize,
+    out_bits: usize,
+) -> Asked
+    ensures { λ r. ⌜ shownAsked r ≡ calls.sliceReduceAsked (sequence (now (ends .entry)) (now (values .entry))) (now (starts .entry)) (now (stops .entry)) code («out_kinds» ∷ «out_bits» ∷ []) ⌝ }
+{
+    let room = questions::ask_both(starts.len(), out_kinds, out_bits);
+    let inside = questions::first_no(questions::ask_intervals(starts, stops), room);
+    let valid = questions::first_no(questions::ask_ends(ends), inside);
+    let paired = questions::first_no(questions::ask_lengths(8, starts.len(), stops.len()), valid);
+    let lengths = questions::first_no(questions::ask_lengths(3, ends.len(), values.len()), paired);
+    questions::first_no(questions::ask_code(0, 2, code), lengths)
+}
+
+// The sum, mean or variance of the slice of each interval, by code: kind bytes, and 64 bits for each.
+pub fn slice_reduce(
+    ends: &[i64],
+    values: &[i64],
+    starts: &[i64],
+    stops: &[i64],
+    code: u8,
+    ddof: i64,
+    out_kinds: &mut [u8],
+    out_bits: &mut [u64],
+) -> Counted
+    ensures { λ r. ⌜ WritesReductions
+        (calls.sliceReduce (sequence (now (ends .entry)) (now (values .entry))) (now (starts .entry)) (now (stops .entry)) code ddof (length (now («out_kinds» .entry)) ∷ length (now («out_bits» .entry)) ∷ [])) r
+        (now («out_kinds» .entry)) (now («out_kinds» .exit)) (now («out_bits» .entry)) (now («out_bits» .exit)) ⌝ }
+{
+    let asked = slice_reduce_asks(
+        ends,
+        values,
+        starts,
+        stops,
+        code,
+        out_kinds.len(),
+        out_bits.len(),
+    );
+    match asked {
+        Asked::Yes => {
+            let n = inner::slice_reduce(
+                ends,
+                values,
+                starts,
+                stops,
+                code,
+                ddof,
+                out_kinds,
+                out_bits,
+            );
+            Counted::Count(n)
+        }
+        Asked::No(r) => Counted::Refused(r),
+    }
+}

@@ -1,3 +1,0 @@
--- getitems of batch.rs, by intervals each with a key; to be read after the definitions of column, slice and batch.
-pub mod Items
-pub mod Workers

@@ -1,0 +1,5 @@
+pub mod Asks
+pub mod Examples
+pub mod First
+pub mod Groups
+pub mod Writing

@@ -1,0 +1,69 @@
+pub mod inner;
+
+use column::answer::Asked;
+use column::answer::Counted;
+ghost use mathlib.Core.List.{[], _∷_};
+ghost use mathlib.Core.Path.{_≡_};
+ghost use lib.ListN.{length};
+ghost use Rattle.column.specs.Asking.{shownAsked};
+ghost use Rattle.column.specs.Paper.{WritesEntries};
+ghost use Rattle.merge_plan.specs.Calls.{WritesGroups};
+ghost use Rattle.merge_plan.specs.Calls as calls;
+
+fn merge_plan_asks(ends: &[i64], mask: &[u8], out_ends: usize, out_offsets: usize) -> Asked
+    ensures { λ r. ⌜ shownAsked r ≡ calls.mergePlanAsked (now (ends .entry)) (now (mask .entry)) («out_ends» ∷ «out_offsets» ∷ []) ⌝ }
+{
+    let room = questions::first_no(
+        questions::ask_room(0, ends.len(), out_ends),
+        questions::ask_room(1, ends.len() + 1, out_offsets),
+    );
+    let valid = questions::first_no(questions::ask_ends(ends), room);
+    let masked = questions::first_no(merge_mask::ask_mask_length(mask, ends), valid);
+    questions::first_no(questions::ask_mask(mask), masked)
+}
+
+// The groups that a mask makes: the end of each, and which runs it has.
+pub fn merge_plan(
+    ends: &[i64],
+    mask: &[u8],
+    out_ends: &mut [i64],
+    out_offsets: &mut [usize],
+) -> Counted
+    ensures { λ r. ⌜ WritesGroups
+        (calls.mergePlan (now (ends .entry)) (now (mask .entry)) (length (now («out_ends» .entry)) ∷ length (now («out_offsets» .entry)) ∷ [])) r
+        (now («out_ends» .entry)) (now («out_ends» .exit)) (now («out_offsets» .entry)) (now («out_offsets» .exit)) ⌝ }
+{
+    let asked = merge_plan_asks(ends, mask, out_ends.len(), out_offsets.len());
+    match asked {
+        Asked::Yes => {
+            let n = inner::merge_plan(ends, mask, out_ends, out_offsets);
+            Counted::Count(n)
+        }
+        Asked::No(r) => Counted::Refused(r),
+    }
+}
+
+fn group_ids_asks(offsets: &[usize], out_ids: usize) -> Asked
+    ensures { λ r. ⌜ shownAsked r ≡ calls.groupIdsAsked (now (offsets .entry)) («out_ids» ∷ []) ⌝ }
+{
+    questions::first_no(
+        questions::ask_offsets_rise(offsets),
+        questions::ask_room(0, questions::last_offset(offsets), out_ids),
+    )
+}
+
+// The group of each run.
+pub fn group_ids(offsets: &[usize], out_ids: &mut [usize]) -> Counted
+    ensures { λ r. ⌜ WritesEntries
+        (calls.groupIds (now (offsets .entry)) (length (now («out_ids» .entry)) ∷ [])) r
+        (now («out_ids» .entry)) (now («out_ids» .exit)) ⌝ }
+{
+    let asked = group_ids_asks(offsets, out_ids.len());
+    match asked {
+        Asked::Yes => {
+            let n = inner::group_ids(offsets, out_ids);
+            Counted::Count(n)
+        }
+        Asked::No(r) => Counted::Refused(r),
+    }
+}

@@ -1,0 +1,3 @@
+-- ranges_where, of transform.rs; to be read after the definitions of column.
+pub mod Calls
+pub mod Workers

@@ -1,0 +1,50 @@
+pub mod inner;
+
+use column::answer::Asked;
+use column::answer::Counted;
+use column::sequence;
+ghost use mathlib.Core.List.{[], _∷_};
+ghost use mathlib.Core.Path.{_≡_};
+ghost use lib.ListN.{length};
+ghost use Rattle.column.specs.Asking.{shownAsked};
+ghost use Rattle.column.specs.Runs.{sequence};
+ghost use Rattle.ranges_where.specs.Calls.{WritesRanges};
+ghost use Rattle.ranges_where.specs.Calls as calls;
+
+fn ranges_where_asks(
+    ends: &[i64],
+    values: &[i64],
+    code: u8,
+    out_starts: usize,
+    out_ends: usize,
+) -> Asked
+    ensures { λ r. ⌜ shownAsked r ≡ calls.rangesWhereAsked (sequence (now (ends .entry)) (now (values .entry))) code («out_starts» ∷ «out_ends» ∷ []) ⌝ }
+{
+    questions::first_no(
+        questions::ask_code(7, 8, code),
+        questions::ask_sequence_into(ends, values, ends.len(), out_starts, out_ends),
+    )
+}
+
+// The ranges of positions at which the value is equal to, or less than, a number; touching ranges are one.
+pub fn ranges_where(
+    ends: &[i64],
+    values: &[i64],
+    code: u8,
+    number: i64,
+    out_starts: &mut [i64],
+    out_ends: &mut [i64],
+) -> Counted
+    ensures { λ r. ⌜ WritesRanges
+        (calls.rangesWhere (sequence (now (ends .entry)) (now (values .entry))) code number (length (now («out_starts» .entry)) ∷ length (now («out_ends» .entry)) ∷ [])) r
+        (now («out_starts» .entry)) (now («out_starts» .exit)) (now («out_ends» .entry)) (now («out_ends» .exit)) ⌝ }
+{
+    let asked = ranges_where_asks(ends, values, code, out_starts.len(), out_ends.len());
+    match asked {
+        Asked::Yes => {
+            let n = inner::ranges_where(ends, values, code, number, out_starts, out_ends);
+            Counted::Count(n)
+        }
+        Asked::No(r) => Counted::Refused(r),
+    }
+}
