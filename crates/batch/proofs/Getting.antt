@@ -21,7 +21,7 @@ use Rattle.batch_index.specs.Calls.{lowest}
 use Rattle.batch_index.proofs.Lowest.{lowest-within}
 use Rattle.batch.specs.declared.Got.{Got}
 use Rattle.batch.specs.Batch.{batch, entries, batchValid, find}
-use Rattle.batch.specs.Calls.{get, WritesGot}
+use Rattle.batch.specs.Calls.{get, WrittenGot}
 use Rattle.batch.specs.Workers.{ValidBatch}
 use Rattle.batch.proofs.Asks.{valid-told}
 use Rattle.batch.proofs.Entries.{find-is, has-is, column-is, column-count, part-valid, parts-paired}
@@ -60,12 +60,12 @@ module _ (ks os : List ℕ) (es vs : List ℤ) (key : ℕ) {at : ℕ} (ea : at �
           let r = both-told f (length e) (length v) (all-yes (batchValid (batch ks os es vs) ∷ room (both f) (length e ∷ length v ∷ []) ∷ []) yes .1 .0) in
           (omega (arith, r .0, found-count told), omega (arith, r .1, found-count told, parts-paired ks os es vs told at))
 
-      pub got-nothing : at ≡ length ks → WritesGot (get (batch ks os es vs) key (length e ∷ length v ∷ [])) Got.Nothing e e v v
+      pub got-nothing : at ≡ length ks → WrittenGot (get (batch ks os es vs) key (length e ∷ length v ∷ [])) Got.Nothing e e v v
       unfolding get over endsOf valuesOf
       got-nothing h = rw (yes, has-is ks os es vs told key, le-ltb (lowest key ks) (length ks) (omega (arith, h, ea))) (record { answer = refl; ends = refl; values = refl })
 
       pub got-runs : {n : ℕ} {e′ v′ : List ℤ} → (at ≡ length ks → ⊥) → n ≡ length (getD (parts os es) at []) → e′ ≡ over (getD (parts os es) at []) e → v′ ≡ over (getD (parts os vs) at []) v
-          → WritesGot (get (batch ks os es vs) key (length e ∷ length v ∷ [])) (Got.Count n) e e′ v v′
+          → WrittenGot (get (batch ks os es vs) key (length e ∷ length v ∷ [])) (Got.Count n) e e′ v v′
       unfolding get
       got-runs {n} h en ee ev =
           let ne : lowest key ks ≡ length ks → ⊥ = λ z. h (ea ∙ z) in
@@ -74,6 +74,6 @@ module _ (ks os : List ℕ) (es vs : List ℤ) (key : ℕ) {at : ℕ} (ea : at �
           rw (yes, has-is ks os es vs told key, lt-ltb (lowest key ks) (length ks) l)
           (record { answer = rw m; ends = ee ∙ ap (λ (l : List ℤ). over l e) (sym (found-ends told)); values = ev ∙ ap (λ (l : List ℤ). over l v) (sym (found-values told)) })
 
-    pub got-refused : {r : Refusal} → getAsked ks os es vs key (length e) (length v) ≡ some (paper r) → WritesGot (get (batch ks os es vs) key (length e ∷ length v ∷ [])) (Got.Refused r) e e v v
+    pub got-refused : {r : Refusal} → getAsked ks os es vs key (length e) (length v) ≡ some (paper r) → WrittenGot (get (batch ks os es vs) key (length e ∷ length v ∷ [])) (Got.Refused r) e e v v
     unfolding get
     got-refused h = rw h (record { answer = refl; ends = refl; values = refl })

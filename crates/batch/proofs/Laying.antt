@@ -20,7 +20,7 @@ use Rattle.column.specs.Paper.{answers, paper}
 use Rattle.column.specs.Runs.{Filled}
 use Rattle.column.proofs.Buffer.{Written, write-start, write-next}
 use Rattle.slice.proofs.Items.{Laying, laying-start, laying-room, laying-next, laying-end}
-use Rattle.batch.specs.Batch.{Entry, columnsOf, WritesBatch}
+use Rattle.batch.specs.Batch.{Entry, columnsOf, WrittenBatch}
 use Rattle.batch.specs.Workers.{FilledBatch}
 
 -- no entry
@@ -73,10 +73,10 @@ batch-end {es} {x = x} {n = n} hx s h =
 
 module _ {q : Question} (es : List Entry) where
   pub batch-written : {k k′ x x′ : List ℕ} {e e′ v v′ : List ℤ} {r : RleBatch} → q ≡ none → r .keys ≡ length es → FilledBatch es k k′ x x′ e e′ v v′ (r .runs)
-      → WritesBatch (q otherwise es) (Batched.Batch r) k k′ x x′ e e′ v v′
+      → WrittenBatch (q otherwise es) (Batched.Batch r) k k′ x x′ e e′ v v′
   batch-written {r = r} h ek f =
       let a : r ≡ flatCounts (columnsOf es) = ap₂ (λ (a b : ℕ). record { keys = a; runs = b }) (ek ∙ sym (length-map es (λ (e : Entry). e .runs))) (f .count) in
       rw h (record { answer = ap answers a; keys = f .keys; offsets = f .offsets; ends = f .ends; values = f .values })
 
-  pub batch-refused : {r : Refusal} {k x : List ℕ} {e v : List ℤ} → q ≡ some (paper r) → WritesBatch (q otherwise es) (Batched.Refused r) k k x x e e v v
+  pub batch-refused : {r : Refusal} {k x : List ℕ} {e v : List ℤ} → q ≡ some (paper r) → WrittenBatch (q otherwise es) (Batched.Refused r) k k x x e e v v
   batch-refused h = rw h (record { answer = refl; keys = refl; offsets = refl; ends = refl; values = refl })

@@ -13,6 +13,7 @@ use Rattle.column.specs.Lists.{any}
 use Rattle.column.specs.Paper.{Outcome, shownBatched, counts, written}
 use Rattle.column.specs.Questions.{agree}
 use Rattle.column.specs.Runs.{Runs}
+use Rattle.column.specs.Lent.{Lent, given, after}
 
 -- "A batch is u32 keys, offsets, and flat ends and values", as a call is handed it
 pub record Batch : Type 0 where
@@ -21,6 +22,9 @@ pub record Batch : Type 0 where
 
 abbrev pub batch : List ℕ → List ℕ → List ℤ → List ℤ → Batch
 batch ks os es vs = record { keys = ks; flat = flat os es vs }
+
+abbrev pub givenBatch : Lent ℕ → Lent ℕ → Lent ℤ → Lent ℤ → Batch
+givenBatch ks os es vs = batch (given ks) (given os) (given es) (given vs)
 
 -- a key with its sequence
 pub record Entry : Type 0 where
@@ -45,12 +49,17 @@ abbrev pub columnsOf : List Entry → List Runs
 columnsOf es = map (λ (e : Entry). e .runs) es
 
 -- the promise of a call that writes a batch into four buffers, each before and after
-pub record WritesBatch (o : Outcome (List Entry)) (r : Batched) (k k′ x x′ : List ℕ) (e e′ v v′ : List ℤ) : Type 0 where
+pub record WrittenBatch (o : Outcome (List Entry)) (r : Batched) (k k′ x x′ : List ℕ) (e e′ v v′ : List ℤ) : Type 0 where
   pub answer : shownBatched r ≡ counts (λ es. flatCounts (columnsOf es)) o
   pub keys : k′ ≡ written keysOf o k
   pub offsets : x′ ≡ written (λ es. flatOffsets (columnsOf es)) o x
   pub ends : e′ ≡ written (λ es. flatEnds (columnsOf es)) o e
   pub values : v′ ≡ written (λ es. flatValues (columnsOf es)) o v
+
+-- of the buffers that a call is lent: question 12 is about their lengths
+abbrev pub WritesBatch : (List ℕ → Outcome (List Entry)) → Lent ℕ → Lent ℕ → Lent ℤ → Lent ℤ → Batched → Type 0
+WritesBatch call k x e v r =
+    WrittenBatch (call (length (given k) ∷ length (given x) ∷ length (given e) ∷ length (given v) ∷ [])) r (given k) (after k) (given x) (after x) (given e) (after e) (given v) (after v)
 
 -- ---- what a batch is asked: 2 (what 2 and what 3), then 3 and 4
 

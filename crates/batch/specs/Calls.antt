@@ -12,6 +12,7 @@ use Rattle.column.specs.Questions.{distinctKeys, room, both}
 use Rattle.column.specs.Runs.{Runs, endsOf, valuesOf}
 use Rattle.batch.specs.Batch.{Batch, entries, batchValid, has, find}
 use Rattle.batch.specs.declared.Got.{Got}
+use Rattle.column.specs.Lent.{Lent, given, after}
 
 -- ---- from_parts
 
@@ -43,7 +44,12 @@ runsIn none = []
 runsIn (some rs) = rs
 
 -- the promise: two buffers, each before and after
-pub record WritesGot (o : Outcome (Option Runs)) (r : Got) (e e′ v v′ : List ℤ) : Type 0 where
+pub record WrittenGot (o : Outcome (Option Runs)) (r : Got) (e e′ v v′ : List ℤ) : Type 0 where
   pub answer : shownGot r ≡ counts countOf o
   pub ends : e′ ≡ written (λ g. endsOf (runsIn g)) o e
   pub values : v′ ≡ written (λ g. valuesOf (runsIn g)) o v
+
+-- of the buffers that a call is lent: question 12 is about their lengths
+abbrev pub WritesGot : (List ℕ → Outcome (Option Runs)) → Lent ℤ → Lent ℤ → Got → Type 0
+WritesGot call e v r =
+    WrittenGot (call (length (given e) ∷ length (given v) ∷ [])) r (given e) (after e) (given v) (after v)

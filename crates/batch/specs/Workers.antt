@@ -16,6 +16,7 @@ use Rattle.batch_keys.specs.Workers.{Known, Kept}
 use Rattle.batch.specs.Batch.{Batch, Entry, keysOf, columnsOf}
 use Rattle.batch.specs.declared.inner.lookup.Lookup.{Lookup}
 use Rattle.batch.specs.declared.two.Joined.{Joined}
+use Rattle.column.specs.Lent.{Lent, given, after}
 
 -- every question of a batch answered "yes"
 pub record ValidBatch (b : Batch) : Type 0 where
@@ -38,10 +39,18 @@ pub record FilledBatch (es : List Entry) (k k′ x x′ : List ℕ) (e e′ v v�
   pub ends : e′ ≡ over (flatEnds (columnsOf es)) e
   pub values : v′ ≡ over (flatValues (columnsOf es)) v
 
+-- of the buffers that a call is lent
+abbrev pub FillsBatch : List Entry → Lent ℕ → Lent ℕ → Lent ℤ → Lent ℤ → ℕ → Type 0
+FillsBatch es k x e v n = FilledBatch es (given k) (after k) (given x) (after x) (given e) (after e) (given v) (after v) n
+
 -- entries laid flat, written into the front of four buffers, each before and after, and both counts
 pub record FilledCounts (es : List Entry) (k k′ x x′ : List ℕ) (e e′ v v′ : List ℤ) (r : RleBatch) : Type 0 where
   pub filled : FilledBatch es k k′ x x′ e e′ v v′ (r .runs)
   pub many : r .keys ≡ length es
+
+-- of the buffers that a call is lent
+abbrev pub FillsCounts : List Entry → Lent ℕ → Lent ℕ → Lent ℤ → Lent ℤ → RleBatch → Type 0
+FillsCounts es k x e v r = FilledCounts es (given k) (after k) (given x) (after x) (given e) (after e) (given v) (after v) r
 
 -- ---- the keys of two batches, one after the other: f tells what is at each place
 

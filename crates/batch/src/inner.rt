@@ -8,10 +8,11 @@ ghost use mathlib.Core.Path.{_≡_};
 ghost use lib.ListN.{length, getD};
 ghost use Rattle.column.specs.Lists.{parts};
 ghost use Rattle.column.specs.Runs.{over};
+ghost use Rattle.column.specs.Lent.{given, after};
 
 // The entries of the key at a position; none where there is no such position.
 pub fn part_at<'o, 'e>(offsets: &'o [usize], entries: &'e [i64], position: usize) -> &'e [i64]
-    ensures { λ r. ⌜ now r ≡ getD (parts (now (offsets .entry)) (now (entries .entry))) position [] ⌝ }
+    ensures { λ r. ⌜ now r ≡ getD (parts (given offsets) (given entries)) position [] ⌝ }
 {
     if offsets.len() <= position {
         return &entries[..0];
@@ -27,7 +28,7 @@ pub fn part_at<'o, 'e>(offsets: &'o [usize], entries: &'e [i64], position: usize
 // The entries, copied to the front of a buffer.
 pub fn copy(entries: &[i64], out: &mut [i64])
     requires { ⌜ length (now entries) ≤ length (now out) ⌝ }
-    ensures { λ _. ⌜ now (out .exit) ≡ over (now (entries .entry)) (now (out .entry)) ⌝ }
+    ensures { λ _. ⌜ after out ≡ over (given entries) (given out) ⌝ }
 {
     let mut i: usize = 0;
     while i < entries.len() {

@@ -8,11 +8,10 @@ use column::error::Refusal;
 ghost use Prim.Native.Nat.{_+_};
 ghost use mathlib.Core.List.{[], _∷_};
 ghost use mathlib.Core.Path.{_≡_};
-ghost use lib.ListN.{length};
 ghost use Rattle.column.specs.Asking.{shownAsked, firstNo};
 ghost use Rattle.column.specs.Paper.{shownChecked};
 ghost use Rattle.column.specs.Questions.{room};
-ghost use Rattle.batch.specs.Batch.{batch, lengthsAsked, contentAsked, batchValid, batchNeeds};
+ghost use Rattle.batch.specs.Batch.{lengthsAsked, contentAsked, batchValid, batchNeeds, givenBatch};
 ghost use Rattle.batch.specs.Calls.{WritesGot};
 ghost use Rattle.batch.specs.Calls as calls;
 
@@ -25,7 +24,7 @@ pub enum Got {
 
 // What 2 and what 3 of 2.
 pub fn ask_lengths(keys: &[u32], offsets: &[usize], ends: &[i64], values: &[i64]) -> Asked
-    ensures { λ r. ⌜ shownAsked r ≡ firstNo (lengthsAsked (batch (now (keys .entry)) (now (offsets .entry)) (now (ends .entry)) (now (values .entry)))) ⌝ }
+    ensures { λ r. ⌜ shownAsked r ≡ firstNo (lengthsAsked (givenBatch keys offsets ends values)) ⌝ }
 {
     questions::first_no(
         questions::ask_lengths(2, offsets.len(), keys.len() + 1),
@@ -35,7 +34,7 @@ pub fn ask_lengths(keys: &[u32], offsets: &[usize], ends: &[i64], values: &[i64]
 
 // 3 and 4.
 pub fn ask_content(keys: &[u32], offsets: &[usize], ends: &[i64], values: &[i64]) -> Asked
-    ensures { λ r. ⌜ shownAsked r ≡ firstNo (contentAsked (batch (now (keys .entry)) (now (offsets .entry)) (now (ends .entry)) (now (values .entry)))) ⌝ }
+    ensures { λ r. ⌜ shownAsked r ≡ firstNo (contentAsked (givenBatch keys offsets ends values)) ⌝ }
 {
     questions::first_no(
         questions::ask_offsets(offsets, ends.len()),
@@ -45,7 +44,7 @@ pub fn ask_content(keys: &[u32], offsets: &[usize], ends: &[i64], values: &[i64]
 
 // 2, 3 and 4.
 pub fn ask_batch(keys: &[u32], offsets: &[usize], ends: &[i64], values: &[i64]) -> Asked
-    ensures { λ r. ⌜ shownAsked r ≡ batchValid (batch (now (keys .entry)) (now (offsets .entry)) (now (ends .entry)) (now (values .entry))) ⌝ }
+    ensures { λ r. ⌜ shownAsked r ≡ batchValid (givenBatch keys offsets ends values) ⌝ }
 {
     questions::first_no(
         ask_lengths(keys, offsets, ends, values),
@@ -75,9 +74,12 @@ pub fn ask_room(
 
 // A batch that may come from anywhere: only checked.
 pub fn from_parts(keys: &[u32], offsets: &[usize], ends: &[i64], values: &[i64]) -> Checked
-    ensures { λ r. ⌜ shownChecked r ≡ calls.fromParts (batch (now (keys .entry)) (now (offsets .entry)) (now (ends .entry)) (now (values .entry))) ⌝ }
+    ensures { λ r. ⌜ shownChecked r ≡ calls.fromParts (givenBatch keys offsets ends values) ⌝ }
 {
-    let asked = questions::first_no(ask_batch(keys, offsets, ends, values), batch_keys::ask_keys(keys));
+    let asked = questions::first_no(
+        ask_batch(keys, offsets, ends, values),
+        batch_keys::ask_keys(keys),
+    );
     match asked {
         Asked::Yes => Checked::Valid,
         Asked::No(r) => Checked::Refused(r),
@@ -94,9 +96,7 @@ pub fn get(
     out_ends: &mut [i64],
     out_values: &mut [i64],
 ) -> Got
-    ensures { λ r. ⌜ WritesGot
-        (calls.get (batch (now (keys .entry)) (now (offsets .entry)) (now (ends .entry)) (now (values .entry))) key (length (now («out_ends» .entry)) ∷ length (now («out_values» .entry)) ∷ [])) r
-        (now («out_ends» .entry)) (now («out_ends» .exit)) (now («out_values» .entry)) (now («out_values» .exit)) ⌝ }
+    ensures { λ r. ⌜ WritesGot (calls.get (givenBatch keys offsets ends values) key) «out_ends» «out_values» r ⌝ }
 {
     let at = batch_index::inner::scan(keys, key);
     let found_ends = inner::part_at(offsets, ends, at);

@@ -3,7 +3,7 @@
 use column::answer::Asked;
 ghost use mathlib.Core.Path.{_≡_};
 ghost use Rattle.column.specs.Asking.{shownAsked, firstNo};
-ghost use Rattle.batch.specs.Batch.{batch, bothLengths, bothContent, bothValid};
+ghost use Rattle.batch.specs.Batch.{bothLengths, bothContent, bothValid, givenBatch};
 
 // What is at a place: whether it gives a key of the result, the key, and its position in each batch, past the last where it has none.
 pub struct Joined {
@@ -25,7 +25,8 @@ fn ask_lengths(
     b_ends: &[i64],
     b_values: &[i64],
 ) -> Asked
-    ensures { λ r. ⌜ shownAsked r ≡ firstNo (bothLengths (batch (now («a_keys» .entry)) (now («a_offsets» .entry)) (now («a_ends» .entry)) (now («a_values» .entry))) (batch (now («b_keys» .entry)) (now («b_offsets» .entry)) (now («b_ends» .entry)) (now («b_values» .entry)))) ⌝ }
+    ensures { λ r. ⌜ shownAsked r ≡ firstNo
+        (bothLengths (givenBatch «a_keys» «a_offsets» «a_ends» «a_values») (givenBatch «b_keys» «b_offsets» «b_ends» «b_values»)) ⌝ }
 {
     let paired = questions::first_no(
         questions::ask_lengths(3, a_ends.len(), a_values.len()),
@@ -52,7 +53,8 @@ fn ask_content(
     b_ends: &[i64],
     b_values: &[i64],
 ) -> Asked
-    ensures { λ r. ⌜ shownAsked r ≡ firstNo (bothContent (batch (now («a_keys» .entry)) (now («a_offsets» .entry)) (now («a_ends» .entry)) (now («a_values» .entry))) (batch (now («b_keys» .entry)) (now («b_offsets» .entry)) (now («b_ends» .entry)) (now («b_values» .entry)))) ⌝ }
+    ensures { λ r. ⌜ shownAsked r ≡ firstNo
+        (bothContent (givenBatch «a_keys» «a_offsets» «a_ends» «a_values») (givenBatch «b_keys» «b_offsets» «b_ends» «b_values»)) ⌝ }
 {
     let valid = questions::first_no(
         questions::ask_sequences(a_offsets, a_ends),
@@ -73,7 +75,8 @@ pub fn ask_batches(
     b_ends: &[i64],
     b_values: &[i64],
 ) -> Asked
-    ensures { λ r. ⌜ shownAsked r ≡ bothValid (batch (now («a_keys» .entry)) (now («a_offsets» .entry)) (now («a_ends» .entry)) (now («a_values» .entry))) (batch (now («b_keys» .entry)) (now («b_offsets» .entry)) (now («b_ends» .entry)) (now («b_values» .entry))) ⌝ }
+    ensures { λ r. ⌜ shownAsked
+        r ≡ bothValid (givenBatch «a_keys» «a_offsets» «a_ends» «a_values») (givenBatch «b_keys» «b_offsets» «b_ends» «b_values») ⌝ }
 {
     questions::first_no(
         ask_lengths(

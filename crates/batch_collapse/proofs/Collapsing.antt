@@ -29,7 +29,7 @@ use Rattle.batch_keys.specs.Calls.{once}
 use Rattle.batch_keys.proofs.Once.{once-few, once-no-doubles}
 use Rattle.batch.specs.Batch.{batch, Entry, columnsOf}
 use Rattle.batch.proofs.Laying.{noEntry, LayingBatch, batch-start, batch-next, batch-end, batch-written, batch-refused}
-use Rattle.batch_collapse.specs.Calls.{collapseFrom, collapseRuns, members, renamed, collapseKey, collapse, WritesCollapse}
+use Rattle.batch_collapse.specs.Calls.{collapseFrom, collapseRuns, members, renamed, collapseKey, collapse, WrittenCollapse}
 use Rattle.batch_collapse.specs.Workers.{NextGroup, Grouped, memberRuns, FoldRoom, Free, FilledGroup, CollapseRoom, FilledGroups}
 use Rattle.batch_collapse.proofs.Asks.{allAsked}
 use Rattle.batch_collapse.proofs.Columns.{all-valid, all-runs}
@@ -176,7 +176,7 @@ module _ (ks os : List ℕ) (es vs : List ℤ) (newKeys : List ℕ) (fill : Fill
 
   pub collapse-written : {k′ x′ : List ℕ} {e′ v′ s′ t′ : List ℤ} {r : RleBatch} {w : ℤ} → asked ≡ none → w ≡ valueOf fill
       → FilledGroups (map (collapseKey (operation code) (Value w) (renamed (batch ks os es vs) newKeys)) (once newKeys)) (2 * length es) k k′ x x′ e e′ v v′ s s′ t t′ r
-      → WritesCollapse outcome (2 * length es) (Batched.Batch r) k k′ x x′ e e′ v v′ s s′ t t′
+      → WrittenCollapse outcome (2 * length es) (Batched.Batch r) k k′ x x′ e e′ v v′ s s′ t t′
   unfolding collapse
   collapse-written {k′} {x′} {e′} {v′} {s′} {t′} {r} h ew f =
       let rs = map (collapseKey (operation code) fill (renamed (batch ks os es vs) newKeys)) (once newKeys) in
@@ -187,7 +187,7 @@ module _ (ks os : List ℕ) (es vs : List ℤ) (newKeys : List ℕ) (fill : Fill
         scratch-values = rw h (p .scratch-values .long, p .scratch-values .later);
       }
 
-  pub collapse-refused : {r : Refusal} → asked ≡ some (paper r) → WritesCollapse outcome (2 * length es) (Batched.Refused r) k k x x e e v v s s t t
+  pub collapse-refused : {r : Refusal} → asked ≡ some (paper r) → WrittenCollapse outcome (2 * length es) (Batched.Refused r) k k x x e e v v s s t t
   unfolding collapse
   collapse-refused h =
       record { batch = batch-refused (map (collapseKey (operation code) fill (renamed (batch ks os es vs) newKeys)) (once newKeys)) h; scratch-ends = rw h; scratch-values = rw h }

@@ -16,8 +16,9 @@ use Rattle.column.specs.Flat.{columns}
 use Rattle.column.specs.Paper.{Outcome, answers, refuses}
 use Rattle.column.specs.Questions.{listed, agree, room, both}
 use Rattle.column.specs.Runs.{Runs, lengthOf, dense, encode}
-use Rattle.batch.specs.Batch.{Batch, Entry, entriesFrom, lengthsAsked, contentAsked, batchNeeds, WritesBatch}
+use Rattle.batch.specs.Batch.{Batch, Entry, entriesFrom, lengthsAsked, contentAsked, batchNeeds, WrittenBatch}
 use Rattle.batch_keys.specs.Calls.{once}
+use Rattle.column.specs.Lent.{Lent, given, after}
 
 -- ---- a group of sequences
 
@@ -81,7 +82,13 @@ Scratch (answers es) n s s′ = (length s′ ≡ length s) × (drop n s′ ≡ d
 Scratch (refuses r) n s s′ = s′ ≡ s
 
 -- the promise: six buffers, each before and after
-pub record WritesCollapse (o : Outcome (List Entry)) (needed : ℕ) (r : Batched) (k k′ x x′ : List ℕ) (e e′ v v′ s s′ t t′ : List ℤ) : Type 0 where
-  pub batch : WritesBatch o r k k′ x x′ e e′ v v′
+pub record WrittenCollapse (o : Outcome (List Entry)) (needed : ℕ) (r : Batched) (k k′ x x′ : List ℕ) (e e′ v v′ s s′ t t′ : List ℤ) : Type 0 where
+  pub batch : WrittenBatch o r k k′ x x′ e e′ v v′
   pub scratch-ends : Scratch o needed s s′
   pub scratch-values : Scratch o needed t t′
+
+-- of the buffers that a call is lent: question 12 is about their lengths
+abbrev pub WritesCollapse : (List ℕ → Outcome (List Entry)) → ℕ → Lent ℕ → Lent ℕ → Lent ℤ → Lent ℤ → Lent ℤ → Lent ℤ → Batched → Type 0
+WritesCollapse call n k x e v s t r =
+    WrittenCollapse (call (length (given k) ∷ length (given x) ∷ length (given e) ∷ length (given v) ∷ length (given s) ∷ length (given t) ∷ [])) n r
+    (given k) (after k) (given x) (after x) (given e) (after e) (given v) (after v) (given s) (after s) (given t) (after t)

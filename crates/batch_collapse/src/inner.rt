@@ -14,17 +14,18 @@ ghost use Rattle.num.specs.Numbers.{operation};
 ghost use Rattle.column.specs.declared.answer.Fill.the-variants.{Value, Missing};
 ghost use Rattle.column.specs.Asking.{shownAsked};
 ghost use Rattle.column.specs.Combine.{combined};
-ghost use Rattle.column.specs.Runs.{sequence, over};
+ghost use Rattle.column.specs.Runs.{sequence, over, givenSequence};
 ghost use Rattle.batch_index.specs.Workers.{doubled, NextPosition};
 ghost use Rattle.ops.specs.Calls.{sides};
-ghost use Rattle.batch.specs.Batch.{batch};
+ghost use Rattle.batch.specs.Batch.{batch, givenBatch};
 ghost use Rattle.batch_keys.specs.Calls.{once};
 ghost use Rattle.batch_collapse.specs.Calls.{collapseRuns, filledGroup, members, renamed, filledGroups, collapseKey};
 ghost use Rattle.batch_collapse.specs.Workers.{Together, NextGroup, Grouped, memberRuns, Foldable, FoldedMember, FoldRoom, Folded, FilledGroup, CollapseRoom, FilledGroups};
+ghost use Rattle.column.specs.Lent.{given, after};
 
 // Whether no key is below the one before it.
 fn never_fall(keys: &[u32]) -> bool
-    ensures { λ r. ⌜ (r ≡ true → Together (now (keys .entry))) ⌝ }
+    ensures { λ r. ⌜ (r ≡ true → Together (given keys)) ⌝ }
 {
     let mut i: usize = 1;
     while i < keys.len() {
@@ -40,7 +41,7 @@ fn never_fall(keys: &[u32]) -> bool
 
 // Whether it is known that equal keys stand together: the keys never fall, or none is given twice.
 pub fn stand_together(keys: &[u32]) -> bool
-    ensures { λ r. ⌜ (r ≡ true → Together (now (keys .entry))) ⌝ }
+    ensures { λ r. ⌜ (r ≡ true → Together (given keys)) ⌝ }
 {
     if never_fall(keys) {
         return true;
@@ -51,7 +52,7 @@ pub fn stand_together(keys: &[u32]) -> bool
 // Whether the key at a position stands before it too.
 fn stands_before(keys: &[u32], together: bool, i: usize) -> bool
     requires { ⌜ (together ≡ true → Together (now keys)) × (i < length (now keys)) ⌝ }
-    ensures { λ r. ⌜ r ≡ doubled (now (keys .entry)) i ⌝ }
+    ensures { λ r. ⌜ r ≡ doubled (given keys) i ⌝ }
 {
     if i == 0 {
         return false;
@@ -66,7 +67,7 @@ fn stands_before(keys: &[u32], together: bool, i: usize) -> bool
 // The next position, from one on, of a key that does not stand before it too.
 fn next_group(keys: &[u32], together: bool, from: usize) -> usize
     requires { ⌜ (together ≡ true → Together (now keys)) × (from ≤ length (now keys)) ⌝ }
-    ensures { λ r. ⌜ NextGroup (now (keys .entry)) from r ⌝ }
+    ensures { λ r. ⌜ NextGroup (given keys) from r ⌝ }
 {
     let mut i = from;
     while i < keys.len() {
@@ -81,7 +82,7 @@ fn next_group(keys: &[u32], together: bool, from: usize) -> usize
 // The next position of the key at `last`, behind that.
 fn next_member(keys: &[u32], together: bool, last: usize) -> usize
     requires { ⌜ (together ≡ true → Together (now keys)) × (last < length (now keys)) ⌝ }
-    ensures { λ r. ⌜ NextPosition (getD (now (keys .entry)) last 0) (now (keys .entry)) (last + 1) r ⌝ }
+    ensures { λ r. ⌜ NextPosition (getD (given keys) last 0) (given keys) (last + 1) r ⌝ }
 {
     let key = keys[last];
     let next = last + 1;
@@ -108,7 +109,8 @@ fn ask_group(
     first: usize,
 ) -> Asked
     requires { ⌜ Grouped (batch (now keys) (now offsets) (now ends) (now values)) (now «new_keys») together × (first < length (now «new_keys»)) × (doubled (now «new_keys») first ≡ false) ⌝ }
-    ensures { λ r. ⌜ shownAsked r ≡ filledGroup (operation code) Missing (members (renamed (batch (now (keys .entry)) (now (offsets .entry)) (now (ends .entry)) (now (values .entry))) (now («new_keys» .entry))) (getD (now («new_keys» .entry)) first 0)) ⌝ }
+    ensures { λ r. ⌜ shownAsked r ≡ filledGroup (operation code)
+        Missing (members (renamed (givenBatch keys offsets ends values) (given «new_keys»)) (getD (given «new_keys») first 0)) ⌝ }
 {
     let length = sequence::length(part_at(offsets, ends, first));
     let mut at = next_member(new_keys, together, first);
@@ -135,7 +137,8 @@ fn ask_all_groups(
     code: u8,
 ) -> Asked
     requires { ⌜ Grouped (batch (now keys) (now offsets) (now ends) (now values)) (now «new_keys») together ⌝ }
-    ensures { λ r. ⌜ shownAsked r ≡ filledGroups (operation code) Missing (renamed (batch (now (keys .entry)) (now (offsets .entry)) (now (ends .entry)) (now (values .entry))) (now («new_keys» .entry))) (once (now («new_keys» .entry))) ⌝ }
+    ensures { λ r. ⌜ shownAsked r ≡ filledGroups
+        (operation code) Missing (renamed (givenBatch keys offsets ends values) (given «new_keys»)) (once (given «new_keys»)) ⌝ }
 {
     let mut n: usize = 0;
     let mut first = next_group(new_keys, together, 0);
@@ -164,7 +167,8 @@ pub fn ask_groups(
     code: u8,
 ) -> Asked
     requires { ⌜ Grouped (batch (now keys) (now offsets) (now ends) (now values)) (now «new_keys») together ⌝ }
-    ensures { λ r. ⌜ shownAsked r ≡ filledGroups (operation code) fill (renamed (batch (now (keys .entry)) (now (offsets .entry)) (now (ends .entry)) (now (values .entry))) (now («new_keys» .entry))) (once (now («new_keys» .entry))) ⌝ }
+    ensures { λ r. ⌜ shownAsked r ≡
+        filledGroups (operation code) fill (renamed (givenBatch keys offsets ends values) (given «new_keys»)) (once (given «new_keys»)) ⌝ }
 {
     match fill {
         Fill::Value(_) => Asked::Yes,
@@ -183,7 +187,7 @@ fn group_runs(
     first: usize,
 ) -> usize
     requires { ⌜ Grouped (batch (now keys) (now offsets) (now ends) (now values)) (now «new_keys») together × (first < length (now «new_keys»)) × (doubled (now «new_keys») first ≡ false) ⌝ }
-    ensures { λ r. ⌜ r ≡ memberRuns (renamed (batch (now (keys .entry)) (now (offsets .entry)) (now (ends .entry)) (now (values .entry))) (now («new_keys» .entry))) (getD (now («new_keys» .entry)) first 0) ⌝ }
+    ensures { λ r. ⌜ r ≡ memberRuns (renamed (givenBatch keys offsets ends values) (given «new_keys»)) (getD (given «new_keys») first 0) ⌝ }
 {
     let mut runs = part_at(offsets, ends, first).len();
     let mut at = next_member(new_keys, together, first);
@@ -208,8 +212,10 @@ fn fold_member(
 ) -> usize
     requires { ⌜ Foldable (sequence (now ends) (now values)) count (now «out_ends») (now «out_values») (now «scratch_ends») (now «scratch_values») ⌝ }
     ensures { λ r. ⌜ FoldedMember
-        (combined (operation code) (sides (sequence (take count (now («scratch_ends» .entry))) (take count (now («scratch_values» .entry)))) (sequence (now (ends .entry)) (now (values .entry))) (Value fill) (Value fill)))
-        (now («out_ends» .entry)) (now («out_ends» .exit)) (now («out_values» .entry)) (now («out_values» .exit)) (now («scratch_ends» .entry)) (now («scratch_ends» .exit)) (now («scratch_values» .entry)) (now («scratch_values» .exit)) r ⌝ }
+        (combined (operation code)
+        (sides (sequence (take count (given «scratch_ends»)) (take count (given «scratch_values»))) (givenSequence ends values) (Value fill)
+        (Value fill))) (given «out_ends») (after «out_ends») (given «out_values»)
+        (after «out_values») (given «scratch_ends») (after «scratch_ends») (given «scratch_values») (after «scratch_values») r ⌝ }
 {
     let runs = ops::inner::zip_with(
         &scratch_ends[..count],
@@ -245,9 +251,13 @@ fn fold_group(
 ) -> usize
     requires { ⌜ Grouped (batch (now keys) (now offsets) (now ends) (now values)) (now «new_keys») together
         × FoldRoom (batch (now keys) (now offsets) (now ends) (now values)) (now «new_keys») first (now «out_ends») (now «out_values») (now «scratch_ends») (now «scratch_values») ⌝ }
-    ensures { λ r. ⌜ Folded (collapseRuns (operation code) (Value fill) (members (renamed (batch (now (keys .entry)) (now (offsets .entry)) (now (ends .entry)) (now (values .entry))) (now («new_keys» .entry))) (getD (now («new_keys» .entry)) first 0)))
-        (length (now (ends .entry))) (memberRuns (renamed (batch (now (keys .entry)) (now (offsets .entry)) (now (ends .entry)) (now (values .entry))) (now («new_keys» .entry))) (getD (now («new_keys» .entry)) first 0))
-        (now («out_ends» .entry)) (now («out_ends» .exit)) (now («out_values» .entry)) (now («out_values» .exit)) (now («scratch_ends» .entry)) (now («scratch_ends» .exit)) (now («scratch_values» .entry)) (now («scratch_values» .exit)) r ⌝ }
+    ensures { λ r. ⌜ Folded
+        (collapseRuns (operation code) (Value fill)
+        (members (renamed (givenBatch keys offsets ends values) (given «new_keys»)) (getD (given «new_keys») first 0)))
+        (length (given ends))
+        (memberRuns (renamed (givenBatch keys offsets ends values) (given «new_keys»)) (getD (given «new_keys») first 0)) (given «out_ends»)
+        (after «out_ends») (given «out_values»)
+        (after «out_values») (given «scratch_ends») (after «scratch_ends») (given «scratch_values») (after «scratch_values») r ⌝ }
 {
     let mut at = next_member(new_keys, together, first);
     let mut count = merge::inner::merged(
@@ -276,7 +286,7 @@ fn fold_group(
 // The first entries of a buffer, copied behind the first n of a scratch buffer.
 fn put_aside(entries: &[i64], runs: usize, scratch: &mut [i64], n: usize)
     requires { ⌜ (runs ≤ length (now entries)) × (n + runs ≤ length (now scratch)) ⌝ }
-    ensures { λ _. ⌜ now (scratch .exit) ≡ take n (now (scratch .entry)) ++ over (take runs (now (entries .entry))) (drop n (now (scratch .entry))) ⌝ }
+    ensures { λ _. ⌜ after scratch ≡ take n (given scratch) ++ over (take runs (given entries)) (drop n (given scratch)) ⌝ }
 {
     copy(&entries[..runs], &mut scratch[n..]);
 }
@@ -284,7 +294,7 @@ fn put_aside(entries: &[i64], runs: usize, scratch: &mut [i64], n: usize)
 // The entries that were put aside, copied back, and over them the first of the scratch buffer.
 fn put_back(scratch: &[i64], n: usize, runs: usize, count: usize, out: &mut [i64])
     requires { ⌜ (n + runs ≤ length (now scratch)) × (runs ≤ length (now out)) × (count ≤ runs) ⌝ }
-    ensures { λ _. ⌜ now (out .exit) ≡ over (take count (now (scratch .entry))) (over (take runs (drop n (now (scratch .entry)))) (now (out .entry))) ⌝ }
+    ensures { λ _. ⌜ after out ≡ over (take count (given scratch)) (over (take runs (drop n (given scratch))) (given out)) ⌝ }
 {
     copy(&scratch[n..n + runs], out);
     copy(&scratch[..count], out);
@@ -308,8 +318,11 @@ fn collapse_group(
 ) -> usize
     requires { ⌜ Grouped (batch (now keys) (now offsets) (now ends) (now values)) (now «new_keys») together
         × FoldRoom (batch (now keys) (now offsets) (now ends) (now values)) (now «new_keys») first (now «out_ends») (now «out_values») (now «scratch_ends») (now «scratch_values») ⌝ }
-    ensures { λ r. ⌜ FilledGroup (collapseRuns (operation code) (Value fill) (members (renamed (batch (now (keys .entry)) (now (offsets .entry)) (now (ends .entry)) (now (values .entry))) (now («new_keys» .entry))) (getD (now («new_keys» .entry)) first 0)))
-        (2 * length (now (ends .entry))) (now («out_ends» .entry)) (now («out_ends» .exit)) (now («out_values» .entry)) (now («out_values» .exit)) (now («scratch_ends» .entry)) (now («scratch_ends» .exit)) (now («scratch_values» .entry)) (now («scratch_values» .exit)) r ⌝ }
+    ensures { λ r. ⌜ FilledGroup
+        (collapseRuns (operation code) (Value fill)
+        (members (renamed (givenBatch keys offsets ends values) (given «new_keys»)) (getD (given «new_keys») first 0)))
+        (2 * length (given ends)) (given «out_ends») (after «out_ends») (given «out_values»)
+        (after «out_values») (given «scratch_ends») (after «scratch_ends») (given «scratch_values») (after «scratch_values») r ⌝ }
 {
     if next_member(new_keys, together, first) == new_keys.len() {
         return merge::inner::merged(
@@ -362,9 +375,11 @@ pub fn collapse(
 ) -> RleBatch
     requires { ⌜ Grouped (batch (now keys) (now offsets) (now ends) (now values)) (now «new_keys») together
         × CollapseRoom (batch (now keys) (now offsets) (now ends) (now values)) (now «out_keys») (now «out_offsets») (now «out_ends») (now «out_values») (now «scratch_ends») (now «scratch_values») ⌝ }
-    ensures { λ r. ⌜ FilledGroups (map (collapseKey (operation code) (Value fill) (renamed (batch (now (keys .entry)) (now (offsets .entry)) (now (ends .entry)) (now (values .entry))) (now («new_keys» .entry)))) (once (now («new_keys» .entry))))
-        (2 * length (now (ends .entry))) (now («out_keys» .entry)) (now («out_keys» .exit)) (now («out_offsets» .entry)) (now («out_offsets» .exit))
-        (now («out_ends» .entry)) (now («out_ends» .exit)) (now («out_values» .entry)) (now («out_values» .exit)) (now («scratch_ends» .entry)) (now («scratch_ends» .exit)) (now («scratch_values» .entry)) (now («scratch_values» .exit)) r ⌝ }
+    ensures { λ r. ⌜ FilledGroups
+        (map (collapseKey (operation code) (Value fill) (renamed (givenBatch keys offsets ends values) (given «new_keys»)))
+        (once (given «new_keys»))) (2 * length (given ends)) (given «out_keys») (after «out_keys») (given «out_offsets»)
+        (after «out_offsets») (given «out_ends») (after «out_ends») (given «out_values»)
+        (after «out_values») (given «scratch_ends») (after «scratch_ends») (given «scratch_values») (after «scratch_values») r ⌝ }
 {
     out_offsets[0] = 0;
     let mut used: usize = 0;

@@ -10,9 +10,10 @@ ghost use mathlib.Core.Path.{_≡_};
 ghost use lib.ListN.{length};
 ghost use Rattle.column.specs.Asking.{shownAsked};
 ghost use Rattle.column.specs.Questions.{room, both};
-ghost use Rattle.batch.specs.Batch.{batch, batchNeeds};
+ghost use Rattle.batch.specs.Batch.{batchNeeds, givenBatch};
 ghost use Rattle.batch_collapse.specs.Calls.{WritesCollapse};
 ghost use Rattle.batch_collapse.specs.Calls as calls;
+ghost use Rattle.column.specs.Lent.{given};
 
 fn collapse_asks(
     keys: &[u32],
@@ -22,7 +23,7 @@ fn collapse_asks(
     new_keys: &[u32],
     code: u8,
 ) -> Asked
-    ensures { λ r. ⌜ shownAsked r ≡ calls.collapseAsked (batch (now (keys .entry)) (now (offsets .entry)) (now (ends .entry)) (now (values .entry))) (now («new_keys» .entry)) code ⌝ }
+    ensures { λ r. ⌜ shownAsked r ≡ calls.collapseAsked (givenBatch keys offsets ends values) (given «new_keys») code ⌝ }
 {
     let renamed = questions::ask_lengths(4, new_keys.len(), keys.len());
     let content = batch::ask_content(keys, offsets, ends, values);
@@ -79,12 +80,8 @@ pub fn collapse(
     scratch_ends: &mut [i64],
     scratch_values: &mut [i64],
 ) -> Batched
-    ensures { λ r. ⌜ WritesCollapse
-        (calls.collapse (batch (now (keys .entry)) (now (offsets .entry)) (now (ends .entry)) (now (values .entry))) (now («new_keys» .entry)) fill code
-        (length (now («out_keys» .entry)) ∷ length (now («out_offsets» .entry)) ∷ length (now («out_ends» .entry)) ∷ length (now («out_values» .entry))
-        ∷ length (now («scratch_ends» .entry)) ∷ length (now («scratch_values» .entry)) ∷ [])) (2 * length (now (ends .entry))) r
-        (now («out_keys» .entry)) (now («out_keys» .exit)) (now («out_offsets» .entry)) (now («out_offsets» .exit))
-        (now («out_ends» .entry)) (now («out_ends» .exit)) (now («out_values» .entry)) (now («out_values» .exit)) (now («scratch_ends» .entry)) (now («scratch_ends» .exit)) (now («scratch_values» .entry)) (now («scratch_values» .exit)) ⌝ }
+    ensures { λ r. ⌜ WritesCollapse (calls.collapse (givenBatch keys offsets ends values) (given «new_keys») fill code)
+        (2 * length (given ends)) «out_keys» «out_offsets» «out_ends» «out_values» «scratch_ends» «scratch_values» r ⌝ }
 {
     let asked = collapse_asks(keys, offsets, ends, values, new_keys, code);
     match asked {

@@ -13,7 +13,7 @@ use Rattle.column.specs.Asking.{Question, firstNo}
 use Rattle.column.specs.Paper.{paper}
 use Rattle.column.specs.Questions.{room}
 use Rattle.column.proofs.FirstNo.{all-yes}
-use Rattle.batch.specs.Batch.{Batch, Entry, batch, entries, batchNeeds, WritesBatch, bothValid}
+use Rattle.batch.specs.Batch.{Batch, Entry, batch, entries, batchNeeds, WrittenBatch, bothValid}
 use Rattle.batch.specs.Workers.{FilledCounts}
 use Rattle.batch.proofs.Asks.{both-told, batch-room}
 use Rattle.batch.proofs.Laying.{batch-written, batch-refused}
@@ -43,7 +43,7 @@ module _ (ka oa : List ℕ) (ea va : List ℤ) (kb ob : List ℕ) (eb vb : List 
   abbrev result : List Entry
   result = map (concatKey (entries a) (entries b)) ks
 
-  pub invalid-refused : {r : Refusal} → bothValid a b ≡ some (paper r) → WritesBatch (concat a b buffers) (Batched.Refused r) k k x x e e v v
+  pub invalid-refused : {r : Refusal} → bothValid a b ≡ some (paper r) → WrittenBatch (concat a b buffers) (Batched.Refused r) k k x x e e v v
   unfolding concat
   invalid-refused {r} h = let n : asks ≡ some (paper r) = rw h in batch-refused result n
 
@@ -67,10 +67,10 @@ module _ (ka oa : List ℕ) (ea va : List ℤ) (kb ob : List ℕ) (eb vb : List 
         }
 
     pub concat-written : {k′ x′ : List ℕ} {e′ v′ : List ℤ} {r : RleBatch} → q ≡ none → FilledCounts result k k′ x x′ e e′ v v′ r
-        → WritesBatch (concat a b buffers) (Batched.Batch r) k k′ x x′ e e′ v v′
+        → WrittenBatch (concat a b buffers) (Batched.Batch r) k k′ x x′ e e′ v v′
     unfolding concat
     concat-written n w = batch-written result (asked ∙ n) (w .many) (w .filled)
 
-    pub concat-refused : {r : Refusal} → q ≡ some (paper r) → WritesBatch (concat a b buffers) (Batched.Refused r) k k x x e e v v
+    pub concat-refused : {r : Refusal} → q ≡ some (paper r) → WrittenBatch (concat a b buffers) (Batched.Refused r) k k x x e e v v
     unfolding concat
     concat-refused n = batch-refused result (asked ∙ n)

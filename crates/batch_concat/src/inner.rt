@@ -13,13 +13,14 @@ ghost use mathlib.Core.Path.{_≡_};
 ghost use lib.IntN.{pos};
 ghost use lib.ListN.{length, getD};
 ghost use Rattle.column.specs.Asking.{shownAsked};
-ghost use Rattle.column.specs.Runs.{runsOf, encode, Filled};
+ghost use Rattle.column.specs.Runs.{runsOf, encode, Fills};
 ghost use Rattle.transform.specs.Calls.{shown};
-ghost use Rattle.batch.specs.Batch.{batch, entries};
-ghost use Rattle.batch.specs.Workers.{ValidBatch, FilledCounts, NextKept, KnownKeys, KeptOther};
+ghost use Rattle.batch.specs.Batch.{batch, entries, givenBatch};
+ghost use Rattle.batch.specs.Workers.{ValidBatch, NextKept, KnownKeys, KeptOther, FillsCounts};
 ghost use Rattle.batch_keys.specs.Calls.{once};
 ghost use Rattle.batch_concat.specs.Calls.{concatKey, fitKeys};
 ghost use Rattle.batch_concat.specs.Workers.{keyAt, Joinable, ConcatRoom};
+ghost use Rattle.column.specs.Lent.{given, after};
 
 fn both(first: bool, second: bool) -> bool
     ensures { λ r. ⌜ r ≡ first && second ⌝ }
@@ -40,7 +41,8 @@ fn key_at(
     block: &mut [u32],
 ) -> Joined
     requires { ⌜ KnownKeys (now «a_keys») (now «b_keys») lookup × (at < length (now «a_keys») + length (now «b_keys»)) × KeptOther (now «a_keys») (now «b_keys») (lookup .indexed) (now block) at ⌝ }
-    ensures { λ r. ⌜ (r ≡ keyAt (now («a_keys» .entry)) (now («b_keys» .entry)) at) × KeptOther (now («a_keys» .entry)) (now («b_keys» .entry)) (lookup .indexed) (now (block .exit)) (at + 1) ⌝ }
+    ensures { λ r. ⌜ (r ≡ keyAt (given «a_keys») (given «b_keys») at)
+        × KeptOther (given «a_keys») (given «b_keys») (lookup .indexed) (after block) (at + 1) ⌝ }
 {
     let a_order = lookup.a;
     let b_order = lookup.b;
@@ -78,8 +80,9 @@ fn next_key(
     block: &mut [u32],
 ) -> Joined
     requires { ⌜ KnownKeys (now «a_keys») (now «b_keys») lookup × (from ≤ length (now «a_keys») + length (now «b_keys»)) × KeptOther (now «a_keys») (now «b_keys») (lookup .indexed) (now block) from ⌝ }
-    ensures { λ r. ⌜ NextKept (keyAt (now («a_keys» .entry)) (now («b_keys» .entry))) (length (now («a_keys» .entry)) + length (now («b_keys» .entry))) from r
-        × (r .at < length (now («a_keys» .entry)) + length (now («b_keys» .entry)) → KeptOther (now («a_keys» .entry)) (now («b_keys» .entry)) (lookup .indexed) (now (block .exit)) (r .at + 1)) ⌝ }
+    ensures { λ r. ⌜ NextKept (keyAt (given «a_keys») (given «b_keys»)) (length (given «a_keys») + length (given «b_keys»)) from r ×
+        (r .at < length (given «a_keys»)
+        + length (given «b_keys») → KeptOther (given «a_keys») (given «b_keys») (lookup .indexed) (after block) (r .at + 1)) ⌝ }
 {
     let places = a_keys.len() + b_keys.len();
     let mut at = from;
@@ -114,8 +117,8 @@ pub fn ask_joined(
 ) -> Asked
     requires { ⌜ ValidBatch (batch (now «a_keys») (now «a_offsets») (now «a_ends») (now «a_values»)) × ValidBatch (batch (now «b_keys») (now «b_offsets») (now «b_ends») (now «b_values»))
         × KnownKeys (now «a_keys») (now «b_keys») lookup × (lookup .indexed ≡ true → length (now block) ≡ 32768) ⌝ }
-    ensures { λ r. ⌜ shownAsked r ≡ fitKeys (entries (batch (now («a_keys» .entry)) (now («a_offsets» .entry)) (now («a_ends» .entry)) (now («a_values» .entry))))
-        (entries (batch (now («b_keys» .entry)) (now («b_offsets» .entry)) (now («b_ends» .entry)) (now («b_values» .entry)))) (once (now («a_keys» .entry) ++ now («b_keys» .entry))) ⌝ }
+    ensures { λ r. ⌜ shownAsked r ≡ fitKeys (entries (givenBatch «a_keys» «a_offsets» «a_ends» «a_values»))
+        (entries (givenBatch «b_keys» «b_offsets» «b_ends» «b_values»)) (once (given «a_keys» ++ given «b_keys»)) ⌝ }
 {
     let places = a_keys.len() + b_keys.len();
     let mut joined = next_key(a_keys, b_keys, lookup, 0, 0, &mut *block);
@@ -137,7 +140,7 @@ pub fn ask_joined(
 // The first of two sequences' first value, whichever has one.
 fn first_value(a_values: &[i64], b_values: &[i64]) -> i64
     requires { ⌜ 0 < length (now «a_values») + length (now «b_values») ⌝ }
-    ensures { λ r. ⌜ r ≡ getD (now («a_values» .entry) ++ now («b_values» .entry)) 0 (pos 0) ⌝ }
+    ensures { λ r. ⌜ r ≡ getD (given «a_values» ++ given «b_values») 0 (pos 0) ⌝ }
 {
     if a_values.len() == 0 {
         return b_values[0];
@@ -155,8 +158,8 @@ fn concat_two(
     out_values: &mut [i64],
 ) -> usize
     requires { ⌜ Joinable (now «a_ends») (now «a_values») (now «b_ends») (now «b_values») (now «out_ends») (now «out_values») ⌝ }
-    ensures { λ r. ⌜ Filled (encode (shown (runsOf (now («a_ends» .entry)) (now («a_values» .entry)) ∷ runsOf (now («b_ends» .entry)) (now («b_values» .entry)) ∷ [])))
-        (now («out_ends» .entry)) (now («out_ends» .exit)) (now («out_values» .entry)) (now («out_values» .exit)) r ⌝ }
+    ensures { λ r. ⌜ Fills (encode (shown (runsOf (given «a_ends») (given «a_values») ∷ runsOf (given «b_ends») (given «b_values») ∷ [])))
+        «out_ends» «out_values» r ⌝ }
 {
     if a_ends.len() + b_ends.len() == 0 {
         return 0;
@@ -196,10 +199,10 @@ pub fn concat_keys(
 ) -> RleBatch
     requires { ⌜ ConcatRoom (batch (now «a_keys») (now «a_offsets») (now «a_ends») (now «a_values»)) (batch (now «b_keys») (now «b_offsets») (now «b_ends») (now «b_values»))
         (now «out_keys») (now «out_offsets») (now «out_ends») (now «out_values») × KnownKeys (now «a_keys») (now «b_keys») lookup × (lookup .indexed ≡ true → length (now block) ≡ 32768) ⌝ }
-    ensures { λ r. ⌜ FilledCounts (map (concatKey (entries (batch (now («a_keys» .entry)) (now («a_offsets» .entry)) (now («a_ends» .entry)) (now («a_values» .entry))))
-        (entries (batch (now («b_keys» .entry)) (now («b_offsets» .entry)) (now («b_ends» .entry)) (now («b_values» .entry))))) (once (now («a_keys» .entry) ++ now («b_keys» .entry))))
-        (now («out_keys» .entry)) (now («out_keys» .exit)) (now («out_offsets» .entry)) (now («out_offsets» .exit))
-        (now («out_ends» .entry)) (now («out_ends» .exit)) (now («out_values» .entry)) (now («out_values» .exit)) r ⌝ }
+    ensures { λ r. ⌜ FillsCounts
+        (map (concatKey (entries (givenBatch «a_keys» «a_offsets» «a_ends» «a_values»))
+        (entries (givenBatch «b_keys» «b_offsets» «b_ends» «b_values»))) (once (given «a_keys» ++ given «b_keys»)))
+        «out_keys» «out_offsets» «out_ends» «out_values» r ⌝ }
 {
     let places = a_keys.len() + b_keys.len();
     out_offsets[0] = 0;

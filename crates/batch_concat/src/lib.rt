@@ -6,10 +6,9 @@ use column::answer::Asked;
 use column::answer::Batched;
 ghost use mathlib.Core.Bool.{true};
 ghost use mathlib.Core.Option.{none};
-ghost use mathlib.Core.List.{[], _∷_};
 ghost use mathlib.Core.Path.{_≡_};
 ghost use lib.ListN.{length};
-ghost use Rattle.batch.specs.Batch.{batch, WritesBatch, bothValid};
+ghost use Rattle.batch.specs.Batch.{batch, WritesBatch, bothValid, givenBatch};
 ghost use Rattle.batch.specs.Workers.{KnownKeys};
 ghost use Rattle.batch_concat.specs.Calls as calls;
 
@@ -33,10 +32,8 @@ fn concat_by(
     requires { ⌜ (bothValid (batch (now «a_keys») (now «a_offsets») (now «a_ends») (now «a_values»)) (batch (now «b_keys») (now «b_offsets») (now «b_ends») (now «b_values»)) ≡ none)
         × KnownKeys (now «a_keys») (now «b_keys») lookup × (lookup .indexed ≡ true → length (now block) ≡ 32768) ⌝ }
     ensures { λ r. ⌜ WritesBatch
-        (calls.concat (batch (now («a_keys» .entry)) (now («a_offsets» .entry)) (now («a_ends» .entry)) (now («a_values» .entry))) (batch (now («b_keys» .entry)) (now («b_offsets» .entry)) (now («b_ends» .entry)) (now («b_values» .entry)))
-        (length (now («out_keys» .entry)) ∷ length (now («out_offsets» .entry)) ∷ length (now («out_ends» .entry)) ∷ length (now («out_values» .entry)) ∷ [])) r
-        (now («out_keys» .entry)) (now («out_keys» .exit)) (now («out_offsets» .entry)) (now («out_offsets» .exit))
-        (now («out_ends» .entry)) (now («out_ends» .exit)) (now («out_values» .entry)) (now («out_values» .exit)) ⌝ }
+        (calls.concat (givenBatch «a_keys» «a_offsets» «a_ends» «a_values») (givenBatch «b_keys» «b_offsets» «b_ends» «b_values»))
+        «out_keys» «out_offsets» «out_ends» «out_values» r ⌝ }
 {
     let keys = a_keys.len() + b_keys.len();
     let room = batch::ask_room(
@@ -103,10 +100,8 @@ pub fn concat(
     out_values: &mut [i64],
 ) -> Batched
     ensures { λ r. ⌜ WritesBatch
-        (calls.concat (batch (now («a_keys» .entry)) (now («a_offsets» .entry)) (now («a_ends» .entry)) (now («a_values» .entry))) (batch (now («b_keys» .entry)) (now («b_offsets» .entry)) (now («b_ends» .entry)) (now («b_values» .entry)))
-        (length (now («out_keys» .entry)) ∷ length (now («out_offsets» .entry)) ∷ length (now («out_ends» .entry)) ∷ length (now («out_values» .entry)) ∷ [])) r
-        (now («out_keys» .entry)) (now («out_keys» .exit)) (now («out_offsets» .entry)) (now («out_offsets» .exit))
-        (now («out_ends» .entry)) (now («out_ends» .exit)) (now («out_values» .entry)) (now («out_values» .exit)) ⌝ }
+        (calls.concat (givenBatch «a_keys» «a_offsets» «a_ends» «a_values») (givenBatch «b_keys» «b_offsets» «b_ends» «b_values»))
+        «out_keys» «out_offsets» «out_ends» «out_values» r ⌝ }
 {
     let asked = batch::two::ask_batches(
         a_keys,

@@ -9,11 +9,12 @@ ghost use lib.ListN.{length};
 ghost use Rattle.num.specs.Numbers.{saturated};
 ghost use Rattle.column.specs.Lists.{total};
 ghost use Rattle.batch_keys.specs.Workers.{Known, Blocks};
-ghost use Rattle.slice.specs.Workers.{FilledFlat};
-ghost use Rattle.batch.specs.Batch.{batch, entries};
+ghost use Rattle.slice.specs.Workers.{FillsFlat};
+ghost use Rattle.batch.specs.Batch.{batch, entries, givenBatch};
 ghost use Rattle.batch.specs.Slices.{itemRuns};
 ghost use Rattle.batch.specs.Workers.{Intervals};
 ghost use Rattle.batch_getitems.specs.Workers.{Gettable};
+ghost use Rattle.column.specs.Lent.{given};
 
 // How many runs the slices of all intervals have; at most usize::MAX is told.
 fn count_items_by(
@@ -29,8 +30,8 @@ fn count_items_by(
     block: &mut [u32],
 ) -> usize
     requires { ⌜ Intervals (batch (now keys) (now offsets) (now ends) (now values)) (now «get_keys») (now starts) (now stops) × Known order (now keys) × (indexed ≡ true → Blocks (now keys) (now block)) ⌝ }
-    ensures { λ r. ⌜ r ≡ saturated (total (map length (itemRuns (now («get_keys» .entry)) (now (starts .entry)) (now (stops .entry))
-        (entries (batch (now (keys .entry)) (now (offsets .entry)) (now (ends .entry)) (now (values .entry))))))) ⌝ }
+    ensures { λ r. ⌜ r ≡ saturated
+        (total (map length (itemRuns (given «get_keys») (given starts) (given stops) (entries (givenBatch keys offsets ends values))))) ⌝ }
 {
     let mut total: usize = 0;
     let mut at: usize = 0;
@@ -58,8 +59,8 @@ pub fn count_items(
     stops: &[i64],
 ) -> usize
     requires { ⌜ Intervals (batch (now keys) (now offsets) (now ends) (now values)) (now «get_keys») (now starts) (now stops) × Known order (now keys) ⌝ }
-    ensures { λ r. ⌜ r ≡ saturated (total (map length (itemRuns (now («get_keys» .entry)) (now (starts .entry)) (now (stops .entry))
-        (entries (batch (now (keys .entry)) (now (offsets .entry)) (now (ends .entry)) (now (values .entry))))))) ⌝ }
+    ensures { λ r. ⌜ r ≡ saturated
+        (total (map length (itemRuns (given «get_keys») (given starts) (given stops) (entries (givenBatch keys offsets ends values))))) ⌝ }
 {
     if batch_keys::inner::index_pays(order, keys.len(), get_keys.len()) {
         let mut block = [0u32; 32768];
@@ -108,8 +109,8 @@ fn getitems_by(
     out_values: &mut [i64],
 ) -> usize
     requires { ⌜ Gettable (batch (now keys) (now offsets) (now ends) (now values)) (now «get_keys») (now starts) (now stops) (now «out_offsets») (now «out_ends») (now «out_values») × Known order (now keys) × (indexed ≡ true → Blocks (now keys) (now block)) ⌝ }
-    ensures { λ r. ⌜ FilledFlat (itemRuns (now («get_keys» .entry)) (now (starts .entry)) (now (stops .entry)) (entries (batch (now (keys .entry)) (now (offsets .entry)) (now (ends .entry)) (now (values .entry)))))
-        (now («out_offsets» .entry)) (now («out_offsets» .exit)) (now («out_ends» .entry)) (now («out_ends» .exit)) (now («out_values» .entry)) (now («out_values» .exit)) r ⌝ }
+    ensures { λ r. ⌜ FillsFlat (itemRuns (given «get_keys») (given starts) (given stops) (entries (givenBatch keys offsets ends values)))
+        «out_offsets» «out_ends» «out_values» r ⌝ }
 {
     out_offsets[0] = 0;
     let mut used: usize = 0;
@@ -149,8 +150,8 @@ pub fn getitems(
     out_values: &mut [i64],
 ) -> usize
     requires { ⌜ Gettable (batch (now keys) (now offsets) (now ends) (now values)) (now «get_keys») (now starts) (now stops) (now «out_offsets») (now «out_ends») (now «out_values») × Known order (now keys) ⌝ }
-    ensures { λ r. ⌜ FilledFlat (itemRuns (now («get_keys» .entry)) (now (starts .entry)) (now (stops .entry)) (entries (batch (now (keys .entry)) (now (offsets .entry)) (now (ends .entry)) (now (values .entry)))))
-        (now («out_offsets» .entry)) (now («out_offsets» .exit)) (now («out_ends» .entry)) (now («out_ends» .exit)) (now («out_values» .entry)) (now («out_values» .exit)) r ⌝ }
+    ensures { λ r. ⌜ FillsFlat (itemRuns (given «get_keys») (given starts) (given stops) (entries (givenBatch keys offsets ends values)))
+        «out_offsets» «out_ends» «out_values» r ⌝ }
 {
     if batch_keys::inner::index_pays(order, keys.len(), get_keys.len()) {
         let mut block = [0u32; 32768];

@@ -4,13 +4,12 @@ pub mod inner;
 use column::answer::Asked;
 use column::answer::Batched;
 use column::answer::RleBatch;
-ghost use mathlib.Core.List.{[], _∷_};
 ghost use mathlib.Core.Path.{_≡_};
-ghost use lib.ListN.{length};
 ghost use Rattle.column.specs.Asking.{shownAsked};
 ghost use Rattle.column.specs.Flat.{WritesFlat};
-ghost use Rattle.batch.specs.Batch.{batch};
+ghost use Rattle.batch.specs.Batch.{givenBatch};
 ghost use Rattle.batch_getitems.specs.Calls as calls;
+ghost use Rattle.column.specs.Lent.{given};
 
 // The batch's own questions, and at the place of 9 what 8 of 2, 9 and what 7 of 2.
 fn getitems_asks(
@@ -22,8 +21,8 @@ fn getitems_asks(
     starts: &[i64],
     stops: &[i64],
 ) -> Asked
-    ensures { λ r. ⌜ shownAsked r ≡ calls.getitemsAsked (batch (now (keys .entry)) (now (offsets .entry)) (now (ends .entry)) (now (values .entry)))
-        (now («get_keys» .entry)) (now (starts .entry)) (now (stops .entry)) ⌝ }
+    ensures { λ r.
+        ⌜ shownAsked r ≡ calls.getitemsAsked (givenBatch keys offsets ends values) (given «get_keys») (given starts) (given stops) ⌝ }
 {
     let inside = questions::ask_intervals(starts, stops);
     let keyed = questions::ask_lengths(7, get_keys.len(), starts.len());
@@ -45,10 +44,8 @@ pub fn getitems(
     out_ends: &mut [i64],
     out_values: &mut [i64],
 ) -> Batched
-    ensures { λ r. ⌜ WritesFlat
-        (calls.getitems (batch (now (keys .entry)) (now (offsets .entry)) (now (ends .entry)) (now (values .entry))) (now («get_keys» .entry)) (now (starts .entry)) (now (stops .entry))
-        (length (now («out_offsets» .entry)) ∷ length (now («out_ends» .entry)) ∷ length (now («out_values» .entry)) ∷ [])) r
-        (now («out_offsets» .entry)) (now («out_offsets» .exit)) (now («out_ends» .entry)) (now («out_ends» .exit)) (now («out_values» .entry)) (now («out_values» .exit)) ⌝ }
+    ensures { λ r. ⌜ WritesFlat (calls.getitems (givenBatch keys offsets ends values) (given «get_keys») (given starts) (given stops))
+        «out_offsets» «out_ends» «out_values» r ⌝ }
 {
     let asked = getitems_asks(keys, offsets, ends, values, get_keys, starts, stops);
     match asked {

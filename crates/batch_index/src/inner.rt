@@ -6,6 +6,7 @@ ghost use lib.Dec.{eqb};
 ghost use lib.ListN.{length, getD};
 ghost use Rattle.batch_index.specs.Calls.{lowest};
 ghost use Rattle.batch_index.specs.Workers.{Others, Skipped, NextPosition, mixed, shareIn, homeIn, Slots, Sought, Indexed, Entered, NextOfShare, FoundBefore, FoundAll};
+ghost use Rattle.column.specs.Lent.{given, after};
 
 // As many keys are compared at once.
 const STRIDE: usize = 32;
@@ -21,7 +22,7 @@ fn count_if_other(count: u32, x: u32, y: u32) -> u32
 // Whether the keys from `from` up to `to` are all known to be others. It counts, as that becomes vector instructions.
 fn all_others(keys: &[u32], from: usize, to: usize, key: u32) -> bool
     requires { ⌜ (from ≤ to) × (to ≤ length (now keys)) × (to ≤ from + 32) ⌝ }
-    ensures { λ r. ⌜ (r ≡ true → Others key (now (keys .entry)) from to) ⌝ }
+    ensures { λ r. ⌜ (r ≡ true → Others key (given keys) from to) ⌝ }
 {
     let mut count: u32 = 0;
     let mut i = from;
@@ -35,7 +36,7 @@ fn all_others(keys: &[u32], from: usize, to: usize, key: u32) -> bool
 // How far from `from` on all keys are known to be others, a stride at a time.
 fn skip_others(keys: &[u32], from: usize, key: u32) -> usize
     requires { ⌜ from ≤ length (now keys) ⌝ }
-    ensures { λ r. ⌜ Skipped key (now (keys .entry)) from r ⌝ }
+    ensures { λ r. ⌜ Skipped key (given keys) from r ⌝ }
 {
     let mut i = from;
     while keys.len() - i >= STRIDE {
@@ -51,7 +52,7 @@ fn skip_others(keys: &[u32], from: usize, key: u32) -> usize
 // The lowest position of a key from `from` on, or how many keys there are.
 pub fn scan_from(keys: &[u32], from: usize, key: u32) -> usize
     requires { ⌜ from ≤ length (now keys) ⌝ }
-    ensures { λ r. ⌜ NextPosition key (now (keys .entry)) from r ⌝ }
+    ensures { λ r. ⌜ NextPosition key (given keys) from r ⌝ }
 {
     let mut i = skip_others(keys, from, key);
     while i < keys.len() {
@@ -64,7 +65,7 @@ pub fn scan_from(keys: &[u32], from: usize, key: u32) -> usize
 }
 
 pub fn scan(keys: &[u32], key: u32) -> usize
-    ensures { λ r. ⌜ r ≡ lowest key (now (keys .entry)) ⌝ }
+    ensures { λ r. ⌜ r ≡ lowest key (given keys) ⌝ }
 {
     scan_from(keys, 0, key)
 }
@@ -126,7 +127,7 @@ pub fn widened(held: u32) -> usize
 // How far behind `home` the key's position stands, or else the next empty slot; `REACH` if neither is in reach.
 fn seek(table: &[u32], keys: &[u32], home: usize, key: u32) -> usize
     requires { ⌜ Slots (now keys) (now table) × (home < 32768) ⌝ }
-    ensures { λ r. ⌜ Sought (now (keys .entry)) (now (table .entry)) home key r ⌝ }
+    ensures { λ r. ⌜ Sought (given keys) (given table) home key r ⌝ }
 {
     let mut d: usize = 0;
     while d < REACH {
@@ -146,7 +147,7 @@ fn seek(table: &[u32], keys: &[u32], home: usize, key: u32) -> usize
 // no room.
 pub fn enter(table: &mut [u32], keys: &[u32], shares: usize, i: usize) -> usize
     requires { ⌜ (shares < 2 ^ 32) × (length (now keys) < 2 ^ 32) × (i < length (now keys)) × Indexed (now keys) shares (shareIn shares (getD (now keys) i 0)) (now table) i ⌝ }
-    ensures { λ r. ⌜ Entered (now (keys .entry)) shares i (now (table .exit)) r ⌝ }
+    ensures { λ r. ⌜ Entered (given keys) shares i (after table) r ⌝ }
 {
     let key = keys[i];
     let from = home(shares, key);
@@ -165,7 +166,7 @@ pub fn enter(table: &mut [u32], keys: &[u32], shares: usize, i: usize) -> usize
 // The lowest position of a key of the share, or how many keys there are.
 fn look_up(table: &[u32], keys: &[u32], shares: usize, key: u32) -> usize
     requires { ⌜ (shares < 2 ^ 32) × Indexed (now keys) shares (shareIn shares key) (now table) (length (now keys)) ⌝ }
-    ensures { λ r. ⌜ r ≡ lowest key (now (keys .entry)) ⌝ }
+    ensures { λ r. ⌜ r ≡ lowest key (given keys) ⌝ }
 {
     let from = home(shares, key);
     let d = seek(table, keys, from, key);
@@ -182,7 +183,7 @@ fn look_up(table: &[u32], keys: &[u32], shares: usize, key: u32) -> usize
 // The lowest position from `from` on of a key of the share, or how many keys there are.
 pub fn next_in_share(keys: &[u32], shares: usize, part: usize, from: usize) -> usize
     requires { ⌜ (shares < 2 ^ 32) × (from ≤ length (now keys)) ⌝ }
-    ensures { λ r. ⌜ NextOfShare (now (keys .entry)) shares part from r ⌝ }
+    ensures { λ r. ⌜ NextOfShare (given keys) shares part from r ⌝ }
 {
     let mut i = from;
     while i < keys.len() {
@@ -197,7 +198,7 @@ pub fn next_in_share(keys: &[u32], shares: usize, part: usize, from: usize) -> u
 // Puts the keys of a share into an empty table. Whether there was room.
 fn fill(table: &mut [u32], keys: &[u32], shares: usize, part: usize) -> bool
     requires { ⌜ (shares < 2 ^ 32) × (length (now keys) < 2 ^ 32) × Indexed (now keys) shares part (now table) 0 ⌝ }
-    ensures { λ r. ⌜ (r ≡ true → Indexed (now (keys .entry)) shares part (now (table .exit)) (length (now (keys .entry)))) ⌝ }
+    ensures { λ r. ⌜ (r ≡ true → Indexed (given keys) shares part (after table) (length (given keys))) ⌝ }
 {
     let mut i = next_in_share(keys, shares, part, 0);
     while i < keys.len() {
@@ -212,7 +213,7 @@ fn fill(table: &mut [u32], keys: &[u32], shares: usize, part: usize) -> bool
 // By the table if it holds the share, or else one key after another.
 fn find(table: &[u32], indexed: bool, keys: &[u32], shares: usize, key: u32) -> usize
     requires { ⌜ (shares < 2 ^ 32) × (indexed ≡ true → Indexed (now keys) shares (shareIn shares key) (now table) (length (now keys))) ⌝ }
-    ensures { λ r. ⌜ r ≡ lowest key (now (keys .entry)) ⌝ }
+    ensures { λ r. ⌜ r ≡ lowest key (given keys) ⌝ }
 {
     if indexed {
         return look_up(table, keys, shares, key);
@@ -232,7 +233,7 @@ fn find_each(
 )
     requires { ⌜ (shares < 2 ^ 32) × (length (now keys) < 2 ^ 32) × (indexed ≡ true → Indexed (now keys) shares part (now table) (length (now keys)))
         × FoundBefore (now keys) (now wanted) shares part (now found) ⌝ }
-    ensures { λ _. ⌜ FoundBefore (now (keys .entry)) (now (wanted .entry)) shares (part + 1) (now (found .exit)) ⌝ }
+    ensures { λ _. ⌜ FoundBefore (given keys) (given wanted) shares (part + 1) (after found) ⌝ }
 {
     let mut i = next_in_share(wanted, shares, part, 0);
     while i < wanted.len() {
@@ -247,7 +248,7 @@ fn find_each(
 // each interval, which would then touch the pages of the table at every call.
 fn find_share(keys: &[u32], shares: usize, part: usize, wanted: &[u32], found: &mut [u32])
     requires { ⌜ (shares < 2 ^ 32) × (length (now keys) < 2 ^ 32) × FoundBefore (now keys) (now wanted) shares part (now found) ⌝ }
-    ensures { λ _. ⌜ FoundBefore (now (keys .entry)) (now (wanted .entry)) shares (part + 1) (now (found .exit)) ⌝ }
+    ensures { λ _. ⌜ FoundBefore (given keys) (given wanted) shares (part + 1) (after found) ⌝ }
 {
     let mut table = [0u32; 33024];
     let indexed = fill(&mut table, keys, shares, part);
@@ -257,7 +258,7 @@ fn find_share(keys: &[u32], shares: usize, part: usize, wanted: &[u32], found: &
 // Finds each wanted key.
 pub fn find_all(keys: &[u32], wanted: &[u32], found: &mut [u32])
     requires { ⌜ (length (now keys) < 2 ^ 32) × (length (now wanted) ≤ length (now found)) ⌝ }
-    ensures { λ _. ⌜ FoundAll (now (keys .entry)) (now (wanted .entry)) (now (found .exit)) ⌝ }
+    ensures { λ _. ⌜ FoundAll (given keys) (given wanted) (after found) ⌝ }
 {
     let shares = shares_for(keys.len());
     find_share(keys, shares, 0, wanted, &mut *found);

@@ -9,6 +9,7 @@ ghost use lib.ListN.{length};
 ghost use lib.Dec.{eqb};
 ghost use Rattle.column.specs.Lists.{any};
 ghost use Rattle.batch_index.specs.Workers.{every, FirstDouble, PassedShare};
+ghost use Rattle.column.specs.Lent.{given};
 
 // Where a pass has ended, and whether it was for want of room in the table.
 struct Passed {
@@ -19,7 +20,7 @@ struct Passed {
 // The lowest position below `limit` of a key of the share that stands before it too, or `limit`.
 fn pass(keys: &[u32], shares: usize, part: usize, limit: usize) -> Passed
     requires { ⌜ (shares < 2 ^ 32) × (length (now keys) < 2 ^ 32) × (limit ≤ length (now keys)) ⌝ }
-    ensures { λ r. ⌜ PassedShare (now (keys .entry)) shares part limit r ⌝ }
+    ensures { λ r. ⌜ PassedShare (given keys) shares part limit r ⌝ }
 {
     let mut table = [0u32; 33024];
     let mut i = next_in_share(keys, shares, part, 0);
@@ -41,14 +42,14 @@ fn pass(keys: &[u32], shares: usize, part: usize, limit: usize) -> Passed
 
 // Whether the key stands among the keys.
 fn is_among(keys: &[u32], key: u32) -> bool
-    ensures { λ r. ⌜ r ≡ any (eqb key) (now (keys .entry)) ⌝ }
+    ensures { λ r. ⌜ r ≡ any (eqb key) (given keys) ⌝ }
 {
     inner::scan(keys, key) < keys.len()
 }
 
 // Each key looked for among those before it.
 fn scan(keys: &[u32]) -> usize
-    ensures { λ r. ⌜ FirstDouble every (now (keys .entry)) (length (now (keys .entry))) r ⌝ }
+    ensures { λ r. ⌜ FirstDouble every (given keys) (length (given keys)) r ⌝ }
 {
     let mut i: usize = 0;
     while i < keys.len() {
@@ -63,7 +64,7 @@ fn scan(keys: &[u32]) -> usize
 
 // The lowest position of a key that stands before it too, or how many keys there are. Keys that crowd in one share are scanned.
 pub fn first_duplicate(keys: &[u32]) -> usize
-    ensures { λ r. ⌜ FirstDouble every (now (keys .entry)) (length (now (keys .entry))) r ⌝ }
+    ensures { λ r. ⌜ FirstDouble every (given keys) (length (given keys)) r ⌝ }
 {
     if keys.len() < 48 {
         return scan(keys);

@@ -1,17 +1,18 @@
 // Searches for a key. Each finds its lowest position, or how many keys there are.
 use crate::Order;
 use batch_index::inner::widened;
-ghost use Prim.Native.Nat.{_+_, _≤_, _<_, _^_};
+ghost use Prim.Native.Nat.{_+_, _<_, _^_};
 ghost use mathlib.Core.Bool.{true, _&&_, cond};
 ghost use mathlib.Core.Path.{_≡_};
 ghost use lib.Dec.{eqb, ltb};
 ghost use lib.ListN.{length, getD};
 ghost use Rattle.batch_index.specs.Calls.{lowest};
 ghost use Rattle.batch_keys.specs.Workers.{ascends, Known, BlockEnd, BlockFound, Kept};
+ghost use Rattle.column.specs.Lent.{given, after};
 
 // Whether the key stands at a position.
 fn stands_at(keys: &[u32], position: usize, key: u32) -> bool
-    ensures { λ r. ⌜ r ≡ ltb position (length (now (keys .entry))) && eqb (getD (now (keys .entry)) position 0) key ⌝ }
+    ensures { λ r. ⌜ r ≡ ltb position (length (given keys)) && eqb (getD (given keys) position 0) key ⌝ }
 {
     if position < keys.len() {
         keys[position] == key
@@ -31,7 +32,7 @@ fn low_after(low: usize, step: usize, below: bool) -> usize
 // By halving, among keys that ascend. Of `size` keys the half is left either way.
 fn halve(keys: &[u32], key: u32) -> usize
     requires { ⌜ ascends (now keys) ≡ true ⌝ }
-    ensures { λ r. ⌜ r ≡ lowest key (now (keys .entry)) ⌝ }
+    ensures { λ r. ⌜ r ≡ lowest key (given keys) ⌝ }
 {
     let mut low: usize = 0;
     let mut size = keys.len();
@@ -51,7 +52,7 @@ fn halve(keys: &[u32], key: u32) -> usize
 // As what is known of the keys allows. Where none is given twice, the key is looked for at `near` first.
 pub fn find(keys: &[u32], order: Order, near: usize, key: u32) -> usize
     requires { ⌜ Known order (now keys) ⌝ }
-    ensures { λ r. ⌜ r ≡ lowest key (now (keys .entry)) ⌝ }
+    ensures { λ r. ⌜ r ≡ lowest key (given keys) ⌝ }
 {
     match order {
         Order::Ascending => {
@@ -109,7 +110,7 @@ fn block_end(i: usize, wanted: usize) -> usize
 // Finds the wanted keys of the block at i; the lowest position of the first.
 fn find_block(keys: &[u32], wanted: &[u32], i: usize, block: &mut [u32]) -> usize
     requires { ⌜ (length (now keys) < 2 ^ 32) × (i < length (now wanted)) × (length (now block) ≡ 32768) ⌝ }
-    ensures { λ r. ⌜ BlockFound (now (keys .entry)) (now (wanted .entry)) i (now (block .exit)) r ⌝ }
+    ensures { λ r. ⌜ BlockFound (given keys) (given wanted) i (after block) r ⌝ }
 {
     let end = block_end(i, wanted.len());
     batch_index::inner::find_all(keys, &wanted[i..end], &mut *block);
@@ -127,7 +128,8 @@ pub fn find_next(
     block: &mut [u32],
 ) -> usize
     requires { ⌜ Known order (now keys) × (i < length (now wanted)) × Kept (now keys) (now wanted) indexed (now block) i ⌝ }
-    ensures { λ r. ⌜ (r ≡ lowest (getD (now (wanted .entry)) i 0) (now (keys .entry))) × Kept (now (keys .entry)) (now (wanted .entry)) indexed (now (block .exit)) (i + 1) ⌝ }
+    ensures { λ r.
+        ⌜ (r ≡ lowest (getD (given wanted) i 0) (given keys)) × Kept (given keys) (given wanted) indexed (after block) (i + 1) ⌝ }
 {
     if indexed {
         let slot = i % BLOCK;

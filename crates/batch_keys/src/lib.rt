@@ -14,6 +14,7 @@ ghost use Rattle.column.specs.Questions.{distinctKeys};
 ghost use Rattle.batch_index.specs.Workers.{FirstDouble, every};
 ghost use Rattle.batch_keys.specs.Calls as calls;
 ghost use Rattle.batch_keys.specs.Workers.{ascends, Known};
+ghost use Rattle.column.specs.Lent.{given};
 
 // What is known of keys: each is above the one before it; or none is given twice.
 pub enum Order {
@@ -24,7 +25,7 @@ pub enum Order {
 
 // Whether each key is above the one before it.
 fn ascends(keys: &[u32]) -> bool
-    ensures { λ r. ⌜ r ≡ ascends (now (keys .entry)) ⌝ }
+    ensures { λ r. ⌜ r ≡ ascends (given keys) ⌝ }
 {
     let mut i: usize = 1;
     while i < keys.len() {
@@ -40,7 +41,7 @@ fn ascends(keys: &[u32]) -> bool
 
 // The lowest position of a key that stands before it too, or how many keys there are.
 pub fn first_duplicate(keys: &[u32]) -> usize
-    ensures { λ r. ⌜ FirstDouble every (now (keys .entry)) (length (now (keys .entry))) r ⌝ }
+    ensures { λ r. ⌜ FirstDouble every (given keys) (length (given keys)) r ⌝ }
 {
     if ascends(keys) {
         return keys.len();
@@ -50,7 +51,7 @@ pub fn first_duplicate(keys: &[u32]) -> usize
 
 // 8
 pub fn ask_keys(keys: &[u32]) -> Asked
-    ensures { λ r. ⌜ shownAsked r ≡ distinctKeys (now (keys .entry)) ⌝ }
+    ensures { λ r. ⌜ shownAsked r ≡ distinctKeys (given keys) ⌝ }
 {
     let position = first_duplicate(keys);
     if position < keys.len() {
@@ -65,7 +66,7 @@ pub fn ask_keys(keys: &[u32]) -> Asked
 
 // What is known of keys by looking at each and the one before it.
 pub fn quick_order(keys: &[u32]) -> Order
-    ensures { λ r. ⌜ Known r (now (keys .entry)) ⌝ }
+    ensures { λ r. ⌜ Known r (given keys) ⌝ }
 {
     if ascends(keys) {
         Order::Ascending
@@ -76,7 +77,7 @@ pub fn quick_order(keys: &[u32]) -> Order
 
 // What is known of keys by looking at all of them.
 pub fn order_of(keys: &[u32]) -> Order
-    ensures { λ r. ⌜ Known r (now (keys .entry)) ⌝ }
+    ensures { λ r. ⌜ Known r (given keys) ⌝ }
 {
     if ascends(keys) {
         return Order::Ascending;
@@ -89,7 +90,7 @@ pub fn order_of(keys: &[u32]) -> Order
 
 // The lowest position of a key.
 pub fn position(keys: &[u32], key: u32) -> Found
-    ensures { λ r. ⌜ shownFound r ≡ calls.position (now (keys .entry)) key ⌝ }
+    ensures { λ r. ⌜ shownFound r ≡ calls.position (given keys) key ⌝ }
 {
     let at = batch_index::inner::scan(keys, key);
     if at < keys.len() {

@@ -29,7 +29,7 @@ use Rattle.slice.proofs.Touching.{touched-inside, touches, touched-count}
 use Rattle.shift.proofs.Shifting.{shift-few}
 use Rattle.transform.specs.Calls.{reverseRuns}
 use Rattle.transform.proofs.Reversing.{reverse-count}
-use Rattle.batch.specs.Batch.{Batch, batch, Entry, entries, keysOf, columnsOf, WritesBatch, batchValid, batchNeeds}
+use Rattle.batch.specs.Batch.{Batch, batch, Entry, entries, keysOf, columnsOf, WrittenBatch, batchValid, batchNeeds}
 use Rattle.batch.specs.Workers.{ValidBatch, FilledBatch}
 use Rattle.batch.proofs.Asks.{valid-told, Room, batch-room}
 use Rattle.batch.proofs.Entries.{columns-are, columns-many, columns-total, column-is, column-count, part-valid, parts-paired, entries-keys, entries-columns, entries-many}
@@ -215,7 +215,7 @@ module _ (m : Mapping) (ks os : List ℕ) (es vs : List ℤ) (k x : List ℕ) (e
   }
 
   pub each-written : {k′ x′ : List ℕ} {e′ v′ : List ℤ} {n : ℕ} → FilledBatch (results m (batch ks os es vs)) k k′ x x′ e e′ v v′ n
-      → WritesBatch (mapEach m (batch ks os es vs) (length k ∷ length x ∷ length e ∷ length v ∷ []))
+      → WrittenBatch (mapEach m (batch ks os es vs) (length k ∷ length x ∷ length e ∷ length v ∷ []))
       (Batched.Batch (record { keys = length ks; runs = n })) k k′ x x′ e e′ v v′
   unfolding mapEach
   each-written f = batch-written (results m (batch ks os es vs)) yes (sym (results-many m ks os es vs (told .0))) f

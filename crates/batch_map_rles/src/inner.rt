@@ -5,11 +5,12 @@ ghost use mathlib.Core.Option.{none};
 ghost use mathlib.Core.Path.{_≡_};
 ghost use lib.ListN.{length};
 ghost use Rattle.column.specs.Questions.{endsValid};
-ghost use Rattle.column.specs.Runs.{runsOf, Filled};
-ghost use Rattle.batch.specs.Batch.{batch, entries};
-ghost use Rattle.batch.specs.Workers.{FilledBatch};
+ghost use Rattle.column.specs.Runs.{runsOf, Fills};
+ghost use Rattle.batch.specs.Batch.{batch, entries, givenBatch};
+ghost use Rattle.batch.specs.Workers.{FillsBatch};
 ghost use Rattle.batch_map_rles.specs.Calls.{onEach};
 ghost use Rattle.batch_map_rles.specs.Workers.{mapped, more, Mappable};
+ghost use Rattle.column.specs.Lent.{given};
 
 // What is done to the sequence of each key.
 pub enum Mapping {
@@ -27,8 +28,7 @@ fn map_runs(
 ) -> usize
     requires { ⌜ (endsValid (now ends) ≡ none) × (length (now ends) ≡ length (now values))
         × (length (now ends) + more mapping ≤ length (now «out_ends»)) × (length (now ends) + more mapping ≤ length (now «out_values»)) ⌝ }
-    ensures { λ r. ⌜ Filled (mapped mapping (runsOf (now (ends .entry)) (now (values .entry))))
-        (now («out_ends» .entry)) (now («out_ends» .exit)) (now («out_values» .entry)) (now («out_values» .exit)) r ⌝ }
+    ensures { λ r. ⌜ Fills (mapped mapping (runsOf (given ends) (given values))) «out_ends» «out_values» r ⌝ }
 {
     match mapping {
         Mapping::Shift { distance, fill } => {
@@ -55,9 +55,8 @@ pub fn map_rles(
     out_values: &mut [i64],
 ) -> usize
     requires { ⌜ Mappable mapping (batch (now keys) (now offsets) (now ends) (now values)) (now «out_keys») (now «out_offsets») (now «out_ends») (now «out_values») ⌝ }
-    ensures { λ r. ⌜ FilledBatch (onEach (mapped mapping) (entries (batch (now (keys .entry)) (now (offsets .entry)) (now (ends .entry)) (now (values .entry)))))
-        (now («out_keys» .entry)) (now («out_keys» .exit)) (now («out_offsets» .entry)) (now («out_offsets» .exit))
-        (now («out_ends» .entry)) (now («out_ends» .exit)) (now («out_values» .entry)) (now («out_values» .exit)) r ⌝ }
+    ensures { λ r. ⌜ FillsBatch
+        (onEach (mapped mapping) (entries (givenBatch keys offsets ends values))) «out_keys» «out_offsets» «out_ends» «out_values» r ⌝ }
 {
     out_offsets[0] = 0;
     let mut used: usize = 0;

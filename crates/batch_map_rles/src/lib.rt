@@ -10,9 +10,10 @@ ghost use mathlib.Core.List.{[], _∷_};
 ghost use mathlib.Core.Path.{_≡_};
 ghost use lib.ListN.{length};
 ghost use Rattle.column.specs.Asking.{shownAsked};
-ghost use Rattle.batch.specs.Batch.{batch, WritesBatch};
+ghost use Rattle.batch.specs.Batch.{WritesBatch, givenBatch};
 ghost use Rattle.batch_map_rles.specs.Calls as calls;
 ghost use Rattle.batch_map_rles.specs.Workers.{more, mapEach};
+ghost use Rattle.column.specs.Lent.{given};
 
 // 2, 3, 4, and 12 for the same keys and so many runs.
 fn each_asks(
@@ -26,8 +27,8 @@ fn each_asks(
     out_ends: usize,
     out_values: usize,
 ) -> Asked
-    ensures { λ r. ⌜ shownAsked r ≡ calls.eachAsked (batch (now (keys .entry)) (now (offsets .entry)) (now (ends .entry)) (now (values .entry))) runs
-        («out_keys» ∷ «out_offsets» ∷ «out_ends» ∷ «out_values» ∷ []) ⌝ }
+    ensures { λ r. ⌜ shownAsked
+        r ≡ calls.eachAsked (givenBatch keys offsets ends values) runs («out_keys» ∷ «out_offsets» ∷ «out_ends» ∷ «out_values» ∷ []) ⌝ }
 {
     questions::first_no(
         batch::ask_batch(keys, offsets, ends, values),
@@ -45,7 +46,7 @@ fn each_asks(
 
 // So many runs are left at most.
 fn most_runs(mapping: Mapping, keys: &[u32], ends: &[i64]) -> usize
-    ensures { λ r. ⌜ r ≡ length (now (ends .entry)) + more mapping * length (now (keys .entry)) ⌝ }
+    ensures { λ r. ⌜ r ≡ length (given ends) + more mapping * length (given keys) ⌝ }
 {
     match mapping {
         Mapping::Shift { distance, fill } => ends.len() + keys.len(),
@@ -66,11 +67,8 @@ fn map_each(
     out_ends: &mut [i64],
     out_values: &mut [i64],
 ) -> Batched
-    ensures { λ r. ⌜ WritesBatch
-        (mapEach mapping (batch (now (keys .entry)) (now (offsets .entry)) (now (ends .entry)) (now (values .entry)))
-        (length (now («out_keys» .entry)) ∷ length (now («out_offsets» .entry)) ∷ length (now («out_ends» .entry)) ∷ length (now («out_values» .entry)) ∷ [])) r
-        (now («out_keys» .entry)) (now («out_keys» .exit)) (now («out_offsets» .entry)) (now («out_offsets» .exit))
-        (now («out_ends» .entry)) (now («out_ends» .exit)) (now («out_values» .entry)) (now («out_values» .exit)) ⌝ }
+    ensures { λ r.
+        ⌜ WritesBatch (mapEach mapping (givenBatch keys offsets ends values)) «out_keys» «out_offsets» «out_ends» «out_values» r ⌝ }
 {
     let asked = each_asks(
         keys,
@@ -118,11 +116,8 @@ pub fn shift(
     out_ends: &mut [i64],
     out_values: &mut [i64],
 ) -> Batched
-    ensures { λ r. ⌜ WritesBatch
-        (calls.shift (batch (now (keys .entry)) (now (offsets .entry)) (now (ends .entry)) (now (values .entry))) distance fill
-        (length (now («out_keys» .entry)) ∷ length (now («out_offsets» .entry)) ∷ length (now («out_ends» .entry)) ∷ length (now («out_values» .entry)) ∷ [])) r
-        (now («out_keys» .entry)) (now («out_keys» .exit)) (now («out_offsets» .entry)) (now («out_offsets» .exit))
-        (now («out_ends» .entry)) (now («out_ends» .exit)) (now («out_values» .entry)) (now («out_values» .exit)) ⌝ }
+    ensures { λ r. ⌜
+        WritesBatch (calls.shift (givenBatch keys offsets ends values) distance fill) «out_keys» «out_offsets» «out_ends» «out_values» r ⌝ }
 {
     map_each(
         keys,
@@ -148,11 +143,8 @@ pub fn reversed(
     out_ends: &mut [i64],
     out_values: &mut [i64],
 ) -> Batched
-    ensures { λ r. ⌜ WritesBatch
-        (calls.reversed (batch (now (keys .entry)) (now (offsets .entry)) (now (ends .entry)) (now (values .entry)))
-        (length (now («out_keys» .entry)) ∷ length (now («out_offsets» .entry)) ∷ length (now («out_ends» .entry)) ∷ length (now («out_values» .entry)) ∷ [])) r
-        (now («out_keys» .entry)) (now («out_keys» .exit)) (now («out_offsets» .entry)) (now («out_offsets» .exit))
-        (now («out_ends» .entry)) (now («out_ends» .exit)) (now («out_values» .entry)) (now («out_values» .exit)) ⌝ }
+    ensures { λ r.
+        ⌜ WritesBatch (calls.reversed (givenBatch keys offsets ends values)) «out_keys» «out_offsets» «out_ends» «out_values» r ⌝ }
 {
     map_each(
         keys,
@@ -181,10 +173,7 @@ pub fn map_rles_slice(
     out_values: &mut [i64],
 ) -> Batched
     ensures { λ r. ⌜ WritesBatch
-        (calls.mapRlesSlice (batch (now (keys .entry)) (now (offsets .entry)) (now (ends .entry)) (now (values .entry))) start end
-        (length (now («out_keys» .entry)) ∷ length (now («out_offsets» .entry)) ∷ length (now («out_ends» .entry)) ∷ length (now («out_values» .entry)) ∷ [])) r
-        (now («out_keys» .entry)) (now («out_keys» .exit)) (now («out_offsets» .entry)) (now («out_offsets» .exit))
-        (now («out_ends» .entry)) (now («out_ends» .exit)) (now («out_values» .entry)) (now («out_values» .exit)) ⌝ }
+        (calls.mapRlesSlice (givenBatch keys offsets ends values) start end) «out_keys» «out_offsets» «out_ends» «out_values» r ⌝ }
 {
     map_each(
         keys,

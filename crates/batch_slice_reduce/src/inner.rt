@@ -7,9 +7,10 @@ ghost use mathlib.Core.Path.{_≡_};
 ghost use Rattle.batch_keys.specs.Workers.{Known, Blocks};
 ghost use Rattle.reduce.specs.Calls.{reduction};
 ghost use Rattle.reduce.specs.Workers.{FilledReductions};
-ghost use Rattle.batch.specs.Batch.{batch, entries};
+ghost use Rattle.batch.specs.Batch.{batch, entries, givenBatch};
 ghost use Rattle.batch.specs.Slices.{itemRuns};
 ghost use Rattle.batch_slice_reduce.specs.Workers.{Reducible};
+ghost use Rattle.column.specs.Lent.{given, after};
 
 // The reduction of the slice of each interval.
 fn slice_reduce_by(
@@ -29,8 +30,10 @@ fn slice_reduce_by(
     out_bits: &mut [u64],
 ) -> usize
     requires { ⌜ Reducible (batch (now keys) (now offsets) (now ends) (now values)) (now «get_keys») (now starts) (now stops) (now «out_kinds») (now «out_bits») × Known order (now keys) × (indexed ≡ true → Blocks (now keys) (now block)) ⌝ }
-    ensures { λ r. ⌜ FilledReductions (map (reduction code ddof) (itemRuns (now («get_keys» .entry)) (now (starts .entry)) (now (stops .entry)) (entries (batch (now (keys .entry)) (now (offsets .entry)) (now (ends .entry)) (now (values .entry))))))
-        (now («out_kinds» .entry)) (now («out_kinds» .exit)) (now («out_bits» .entry)) (now («out_bits» .exit)) r ⌝ }
+    ensures { λ r. ⌜ FilledReductions
+        (map (reduction code ddof)
+        (itemRuns (given «get_keys») (given starts) (given stops) (entries (givenBatch keys offsets ends values))))
+        (given «out_kinds») (after «out_kinds») (given «out_bits») (after «out_bits») r ⌝ }
 {
     let mut at: usize = 0;
     let mut i: usize = 0;
@@ -69,8 +72,10 @@ pub fn slice_reduce(
     out_bits: &mut [u64],
 ) -> usize
     requires { ⌜ Reducible (batch (now keys) (now offsets) (now ends) (now values)) (now «get_keys») (now starts) (now stops) (now «out_kinds») (now «out_bits») × Known order (now keys) ⌝ }
-    ensures { λ r. ⌜ FilledReductions (map (reduction code ddof) (itemRuns (now («get_keys» .entry)) (now (starts .entry)) (now (stops .entry)) (entries (batch (now (keys .entry)) (now (offsets .entry)) (now (ends .entry)) (now (values .entry))))))
-        (now («out_kinds» .entry)) (now («out_kinds» .exit)) (now («out_bits» .entry)) (now («out_bits» .exit)) r ⌝ }
+    ensures { λ r. ⌜ FilledReductions
+        (map (reduction code ddof)
+        (itemRuns (given «get_keys») (given starts) (given stops) (entries (givenBatch keys offsets ends values))))
+        (given «out_kinds») (after «out_kinds») (given «out_bits») (after «out_bits») r ⌝ }
 {
     if batch_keys::inner::index_pays(order, keys.len(), get_keys.len()) {
         let mut block = [0u32; 32768];

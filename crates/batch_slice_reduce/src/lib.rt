@@ -5,11 +5,11 @@ use column::answer::Asked;
 use column::answer::Counted;
 ghost use mathlib.Core.List.{[], _∷_};
 ghost use mathlib.Core.Path.{_≡_};
-ghost use lib.ListN.{length};
 ghost use Rattle.column.specs.Asking.{shownAsked};
 ghost use Rattle.reduce.specs.Calls.{WritesReductions};
-ghost use Rattle.batch.specs.Batch.{batch};
+ghost use Rattle.batch.specs.Batch.{givenBatch};
 ghost use Rattle.batch_slice_reduce.specs.Calls as calls;
+ghost use Rattle.column.specs.Lent.{given};
 
 fn slice_reduce_asks(
     keys: &[u32],
@@ -23,8 +23,8 @@ fn slice_reduce_asks(
     out_kinds: usize,
     out_bits: usize,
 ) -> Asked
-    ensures { λ r. ⌜ shownAsked r ≡ calls.sliceReduceAsked (batch (now (keys .entry)) (now (offsets .entry)) (now (ends .entry)) (now (values .entry)))
-        (now («get_keys» .entry)) (now (starts .entry)) (now (stops .entry)) code («out_kinds» ∷ «out_bits» ∷ []) ⌝ }
+    ensures { λ r. ⌜ shownAsked r ≡ calls.sliceReduceAsked
+        (givenBatch keys offsets ends values) (given «get_keys») (given starts) (given stops) code («out_kinds» ∷ «out_bits» ∷ []) ⌝ }
 {
     let inside = questions::first_no(
         questions::ask_intervals(starts, stops),
@@ -58,9 +58,8 @@ pub fn slice_reduce(
     out_bits: &mut [u64],
 ) -> Counted
     ensures { λ r. ⌜ WritesReductions
-        (calls.sliceReduce (batch (now (keys .entry)) (now (offsets .entry)) (now (ends .entry)) (now (values .entry))) (now («get_keys» .entry)) (now (starts .entry)) (now (stops .entry)) code ddof
-        (length (now («out_kinds» .entry)) ∷ length (now («out_bits» .entry)) ∷ [])) r
-        (now («out_kinds» .entry)) (now («out_kinds» .exit)) (now («out_bits» .entry)) (now («out_bits» .exit)) ⌝ }
+        (calls.sliceReduce (givenBatch keys offsets ends values) (given «get_keys») (given starts) (given stops) code ddof)
+        «out_kinds» «out_bits» r ⌝ }
 {
     let asked = slice_reduce_asks(
         keys,

@@ -17,7 +17,7 @@ use Rattle.column.specs.Lists.{total}
 use Rattle.column.specs.Paper.{PaperRefusal}
 use Rattle.column.specs.Questions.{listed, room}
 use Rattle.column.proofs.FirstNo.{all-yes, asked-next, asked-last}
-use Rattle.batch.specs.Batch.{Batch, batchNeeds, WritesBatch, bothValid}
+use Rattle.batch.specs.Batch.{Batch, batchNeeds, WrittenBatch, bothValid}
 use Rattle.batch.specs.Workers.{ValidBatch, FilledCounts}
 use Rattle.batch.proofs.Asks.{both-told, batch-room, saturated-room}
 use Rattle.batch.proofs.Laying.{batch-written}
@@ -64,7 +64,7 @@ module _ (a b : Batch) (how code : ℕ) where
     -- a fill that is missing shows nowhere: the result is that of its value
     pub zip-written : {x y : ℤ} → x ≡ valueOf fa → y ≡ valueOf fb → {k k′ o o′ : List ℕ} {e e′ v v′ : List ℤ} {r : RleBatch} → allAsked (length k ∷ length o ∷ length e ∷ length v ∷ []) ≡ none
         → FilledCounts (map (zipPair (operation code) (Value x) (Value y)) (allPairs how a b)) k k′ o o′ e e′ v v′ r
-        → WritesBatch (zipWith a b how fa fb code (length k ∷ length o ∷ length e ∷ length v ∷ [])) (Batched.Batch r) k k′ o o′ e e′ v v′
+        → WrittenBatch (zipWith a b how fa fb code (length k ∷ length o ∷ length e ∷ length v ∷ [])) (Batched.Batch r) k k′ o o′ e e′ v v′
     unfolding zipWith combined table greatestLength rowAt valueAt
     zip-written ex ey {k} {k′} {o} {o′} {e} {e′} {v} {v′} {r} h f =
         let g : FilledCounts (map (zipPair (operation code) fa fb) (allPairs how a b)) k k′ o o′ e e′ v v′ r = rw (ex, ey) at f in

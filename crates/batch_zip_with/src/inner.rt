@@ -14,10 +14,11 @@ ghost use mathlib.Core.Path.{_≡_};
 ghost use lib.ListN.{length};
 ghost use Rattle.num.specs.Numbers.{operation};
 ghost use Rattle.column.specs.declared.answer.Fill.the-variants.{Value};
-ghost use Rattle.batch.specs.Batch.{batch, entries};
-ghost use Rattle.batch.specs.Workers.{ValidBatch, FilledCounts, NextKept, KnownKeys, KeptOther};
+ghost use Rattle.batch.specs.Batch.{batch, entries, givenBatch};
+ghost use Rattle.batch.specs.Workers.{ValidBatch, NextKept, KnownKeys, KeptOther, FillsCounts};
 ghost use Rattle.batch_zip_with.specs.Calls.{keepsLeft, keepsRight, pairs, zipPair};
 ghost use Rattle.batch_zip_with.specs.Workers.{placesOf, pairAt, AsksPairs, ZipRoom};
+ghost use Rattle.column.specs.Lent.{given, after};
 
 fn keeps_left(how: u8) -> bool
     ensures { λ r. ⌜ r ≡ keepsLeft how ⌝ }
@@ -68,7 +69,8 @@ fn pair_at(
     block: &mut [u32],
 ) -> Joined
     requires { ⌜ KnownKeys (now «a_keys») (now «b_keys») lookup × (at < length (now «a_keys») + length (now «b_keys»)) × KeptOther (now «a_keys») (now «b_keys») (lookup .indexed) (now block) at ⌝ }
-    ensures { λ r. ⌜ (r ≡ pairAt how (now («a_keys» .entry)) (now («b_keys» .entry)) at) × KeptOther (now («a_keys» .entry)) (now («b_keys» .entry)) (lookup .indexed) (now (block .exit)) (at + 1) ⌝ }
+    ensures { λ r. ⌜ (r ≡ pairAt how (given «a_keys») (given «b_keys») at)
+        × KeptOther (given «a_keys») (given «b_keys») (lookup .indexed) (after block) (at + 1) ⌝ }
 {
     let other = find_other(a_keys, b_keys, lookup, at, near, block);
     if at < a_keys.len() {
@@ -123,8 +125,10 @@ fn next_pair(
     block: &mut [u32],
 ) -> Joined
     requires { ⌜ KnownKeys (now «a_keys») (now «b_keys») lookup × (from ≤ placesOf how (length (now «a_keys»)) (length (now «b_keys»))) × KeptOther (now «a_keys») (now «b_keys») (lookup .indexed) (now block) from ⌝ }
-    ensures { λ r. ⌜ NextKept (pairAt how (now («a_keys» .entry)) (now («b_keys» .entry))) (placesOf how (length (now («a_keys» .entry))) (length (now («b_keys» .entry)))) from r
-        × (r .at < placesOf how (length (now («a_keys» .entry))) (length (now («b_keys» .entry))) → KeptOther (now («a_keys» .entry)) (now («b_keys» .entry)) (lookup .indexed) (now (block .exit)) (r .at + 1)) ⌝ }
+    ensures { λ r. ⌜ NextKept (pairAt how (given «a_keys») (given «b_keys»))
+        (placesOf how (length (given «a_keys»)) (length (given «b_keys»))) from r ×
+        (r .at < placesOf how (length (given «a_keys»))
+        (length (given «b_keys»)) → KeptOther (given «a_keys») (given «b_keys») (lookup .indexed) (after block) (r .at + 1)) ⌝ }
 {
     let places = places(how, a_keys.len(), b_keys.len());
     let mut near = first_near;
@@ -170,8 +174,8 @@ pub fn ask_pairs(
     requires { ⌜ ValidBatch (batch (now «a_keys») (now «a_offsets») (now «a_ends») (now «a_values»)) × ValidBatch (batch (now «b_keys») (now «b_offsets») (now «b_ends») (now «b_values»))
         × KnownKeys (now «a_keys») (now «b_keys») lookup × (lookup .indexed ≡ true → length (now block) ≡ 32768) ⌝ }
     ensures { λ r. ⌜ AsksPairs «fill_a» «fill_b»
-        (pairs how (entries (batch (now («a_keys» .entry)) (now («a_offsets» .entry)) (now («a_ends» .entry)) (now («a_values» .entry))))
-        (entries (batch (now («b_keys» .entry)) (now («b_offsets» .entry)) (now («b_ends» .entry)) (now («b_values» .entry))))) r ⌝ }
+        (pairs how (entries (givenBatch «a_keys» «a_offsets» «a_ends» «a_values»))
+        (entries (givenBatch «b_keys» «b_offsets» «b_ends» «b_values»))) r ⌝ }
 {
     let places = places(how, a_keys.len(), b_keys.len());
     let mut asked = Asked::Yes;
@@ -221,10 +225,10 @@ pub fn zip_pairs(
 ) -> RleBatch
     requires { ⌜ ZipRoom (batch (now «a_keys») (now «a_offsets») (now «a_ends») (now «a_values»)) (batch (now «b_keys») (now «b_offsets») (now «b_ends») (now «b_values»))
         (pairs how (entries (batch (now «a_keys») (now «a_offsets») (now «a_ends») (now «a_values»))) (entries (batch (now «b_keys») (now «b_offsets») (now «b_ends») (now «b_values»)))) (now «out_keys») (now «out_offsets») (now «out_ends») (now «out_values») × KnownKeys (now «a_keys») (now «b_keys») lookup × (lookup .indexed ≡ true → length (now block) ≡ 32768) ⌝ }
-    ensures { λ r. ⌜ FilledCounts (map (zipPair (operation code) (Value «fill_a») (Value «fill_b»)) (pairs how (entries (batch (now («a_keys» .entry)) (now («a_offsets» .entry)) (now («a_ends» .entry)) (now («a_values» .entry))))
-        (entries (batch (now («b_keys» .entry)) (now («b_offsets» .entry)) (now («b_ends» .entry)) (now («b_values» .entry))))))
-        (now («out_keys» .entry)) (now («out_keys» .exit)) (now («out_offsets» .entry)) (now («out_offsets» .exit))
-        (now («out_ends» .entry)) (now («out_ends» .exit)) (now («out_values» .entry)) (now («out_values» .exit)) r ⌝ }
+    ensures { λ r. ⌜ FillsCounts
+        (map (zipPair (operation code) (Value «fill_a») (Value «fill_b»))
+        (pairs how (entries (givenBatch «a_keys» «a_offsets» «a_ends» «a_values»))
+        (entries (givenBatch «b_keys» «b_offsets» «b_ends» «b_values»)))) «out_keys» «out_offsets» «out_ends» «out_values» r ⌝ }
 {
     let places = places(how, a_keys.len(), b_keys.len());
     out_offsets[0] = 0;

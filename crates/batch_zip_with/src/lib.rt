@@ -7,12 +7,11 @@ use column::answer::Asked;
 use column::answer::Batched;
 use column::answer::Fill;
 ghost use mathlib.Core.Bool.{true};
-ghost use mathlib.Core.List.{[], _∷_};
 ghost use mathlib.Core.Option.{none};
 ghost use mathlib.Core.Path.{_≡_};
 ghost use lib.ListN.{length};
 ghost use Rattle.column.specs.Asking.{shownAsked};
-ghost use Rattle.batch.specs.Batch.{batch, WritesBatch};
+ghost use Rattle.batch.specs.Batch.{batch, WritesBatch, givenBatch};
 ghost use Rattle.batch.specs.Workers.{KnownKeys};
 ghost use Rattle.batch_zip_with.specs.Calls as calls;
 
@@ -28,7 +27,8 @@ fn zip_asks(
     how: u8,
     code: u8,
 ) -> Asked
-    ensures { λ r. ⌜ shownAsked r ≡ calls.zipAsked (batch (now («a_keys» .entry)) (now («a_offsets» .entry)) (now («a_ends» .entry)) (now («a_values» .entry))) (batch (now («b_keys» .entry)) (now («b_offsets» .entry)) (now («b_ends» .entry)) (now («b_values» .entry))) how code ⌝ }
+    ensures { λ r. ⌜ shownAsked r ≡ calls.zipAsked
+        (givenBatch «a_keys» «a_offsets» «a_ends» «a_values») (givenBatch «b_keys» «b_offsets» «b_ends» «b_values») how code ⌝ }
 {
     let valid = questions::first_no(
         questions::ask_code(0, 9, code),
@@ -70,10 +70,8 @@ fn zip_with_by(
     requires { ⌜ (calls.zipAsked (batch (now «a_keys») (now «a_offsets») (now «a_ends») (now «a_values»)) (batch (now «b_keys») (now «b_offsets») (now «b_ends») (now «b_values»)) how code ≡ none)
         × KnownKeys (now «a_keys») (now «b_keys») lookup × (lookup .indexed ≡ true → length (now block) ≡ 32768) ⌝ }
     ensures { λ r. ⌜ WritesBatch
-        (calls.zipWith (batch (now («a_keys» .entry)) (now («a_offsets» .entry)) (now («a_ends» .entry)) (now («a_values» .entry))) (batch (now («b_keys» .entry)) (now («b_offsets» .entry)) (now («b_ends» .entry)) (now («b_values» .entry))) how «fill_a» «fill_b» code
-        (length (now («out_keys» .entry)) ∷ length (now («out_offsets» .entry)) ∷ length (now («out_ends» .entry)) ∷ length (now («out_values» .entry)) ∷ [])) r
-        (now («out_keys» .entry)) (now («out_keys» .exit)) (now («out_offsets» .entry)) (now («out_offsets» .exit))
-        (now («out_ends» .entry)) (now («out_ends» .exit)) (now («out_values» .entry)) (now («out_values» .exit)) ⌝ }
+        (calls.zipWith (givenBatch «a_keys» «a_offsets» «a_ends» «a_values») (givenBatch «b_keys» «b_offsets» «b_ends» «b_values»)
+        how «fill_a» «fill_b» code) «out_keys» «out_offsets» «out_ends» «out_values» r ⌝ }
 {
     let pairs = inner::ask_pairs(
         a_keys,
@@ -150,10 +148,8 @@ pub fn zip_with(
     out_values: &mut [i64],
 ) -> Batched
     ensures { λ r. ⌜ WritesBatch
-        (calls.zipWith (batch (now («a_keys» .entry)) (now («a_offsets» .entry)) (now («a_ends» .entry)) (now («a_values» .entry))) (batch (now («b_keys» .entry)) (now («b_offsets» .entry)) (now («b_ends» .entry)) (now («b_values» .entry))) how «fill_a» «fill_b» code
-        (length (now («out_keys» .entry)) ∷ length (now («out_offsets» .entry)) ∷ length (now («out_ends» .entry)) ∷ length (now («out_values» .entry)) ∷ [])) r
-        (now («out_keys» .entry)) (now («out_keys» .exit)) (now («out_offsets» .entry)) (now («out_offsets» .exit))
-        (now («out_ends» .entry)) (now («out_ends» .exit)) (now («out_values» .entry)) (now («out_values» .exit)) ⌝ }
+        (calls.zipWith (givenBatch «a_keys» «a_offsets» «a_ends» «a_values») (givenBatch «b_keys» «b_offsets» «b_ends» «b_values»)
+        how «fill_a» «fill_b» code) «out_keys» «out_offsets» «out_ends» «out_values» r ⌝ }
 {
     let asked = zip_asks(
         a_keys,

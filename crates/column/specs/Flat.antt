@@ -11,6 +11,7 @@ use Rattle.column.specs.Questions.{paired, offsetsValid, sequencesValid}
 use Rattle.column.specs.Runs.{Sequence, sequence, Runs, runs, endsOf, valuesOf}
 use Rattle.column.specs.declared.answer.RleBatch.{RleBatch}
 use Rattle.column.specs.declared.answer.Batched.{Batched}
+use Rattle.column.specs.Lent.{Lent, given, after}
 
 pub record Flat : Type 0 where
   pub offsets : List ℕ
@@ -19,6 +20,9 @@ pub record Flat : Type 0 where
 
 abbrev pub flat : List ℕ → List ℤ → List ℤ → Flat
 flat os es vs = record { offsets = os; ends = es; values = vs }
+
+abbrev pub givenFlat : Lent ℕ → Lent ℤ → Lent ℤ → Flat
+givenFlat os es vs = flat (given os) (given es) (given vs)
 
 -- as many as there are offsets but the first
 abbrev pub count : Flat → ℕ
@@ -77,8 +81,13 @@ abbrev pub flatCounts : List Runs → RleBatch
 flatCounts cs = record { keys = length cs; runs = total (map length cs) }
 
 -- the promise of a call that writes sequences laid flat, each buffer before and after
-pub record WritesFlat (o : Outcome (List Runs)) (r : Batched) (x x′ : List ℕ) (e e′ v v′ : List ℤ) : Type 0 where
+pub record WrittenFlat (o : Outcome (List Runs)) (r : Batched) (x x′ : List ℕ) (e e′ v v′ : List ℤ) : Type 0 where
   pub answer : shownBatched r ≡ counts flatCounts o
   pub offsets : x′ ≡ written flatOffsets o x
   pub ends : e′ ≡ written flatEnds o e
   pub values : v′ ≡ written flatValues o v
+
+-- of the buffers that a call is lent: question 12 is about their lengths
+abbrev pub WritesFlat : (List ℕ → Outcome (List Runs)) → Lent ℕ → Lent ℤ → Lent ℤ → Batched → Type 0
+WritesFlat call x e v r =
+    WrittenFlat (call (length (given x) ∷ length (given e) ∷ length (given v) ∷ [])) r (given x) (after x) (given e) (after e) (given v) (after v)

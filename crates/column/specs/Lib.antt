@@ -3,6 +3,7 @@
 pub mod Asking
 pub mod Combine
 pub mod Flat
+pub mod Lent
 pub mod Lists
 pub mod Paper
 pub mod Questions

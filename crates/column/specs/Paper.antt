@@ -16,6 +16,7 @@ use Rattle.column.specs.declared.answer.Found.{Found}
 use Rattle.column.specs.declared.answer.RleBatch.{RleBatch}
 use Rattle.column.specs.declared.answer.Batched.{Batched}
 use Rattle.column.specs.Runs.{Runs, endsOf, valuesOf, over}
+use Rattle.column.specs.Lent.{Lent, given, after}
 
 -- a refusal: its number, its values in the order of document 01, and the key or sequence position that it also carries
 pub record PaperRefusal : Type 0 where
@@ -97,12 +98,22 @@ written f (answers x) before = over (f x) before
 written f (refuses r) before = before
 
 -- the promise of a call that writes runs into two buffers, each before and after
-pub record WritesRuns (o : Outcome Runs) (r : Counted) (e e′ v v′ : List ℤ) : Type 0 where
+pub record WrittenRuns (o : Outcome Runs) (r : Counted) (e e′ v v′ : List ℤ) : Type 0 where
   pub answer : shownCounted r ≡ counts length o
   pub ends : e′ ≡ written endsOf o e
   pub values : v′ ≡ written valuesOf o v
 
+-- of the buffers that a call is lent: question 12 is about their lengths
+abbrev pub WritesRuns : (List ℕ → Outcome Runs) → Lent ℤ → Lent ℤ → Counted → Type 0
+WritesRuns call e v r =
+    WrittenRuns (call (length (given e) ∷ length (given v) ∷ [])) r (given e) (after e) (given v) (after v)
+
 -- and of one that writes entries into a single buffer
-pub record WritesEntries {A : Type 0} (o : Outcome (List A)) (r : Counted) (b b′ : List A) : Type 0 where
+pub record WrittenEntries {A : Type 0} (o : Outcome (List A)) (r : Counted) (b b′ : List A) : Type 0 where
   pub answer : shownCounted r ≡ counts length o
   pub entries : b′ ≡ written (λ xs. xs) o b
+
+-- of the buffers that a call is lent: question 12 is about their lengths
+abbrev pub WritesEntries : {A : Type 0} → (List ℕ → Outcome (List A)) → Lent A → Counted → Type 0
+WritesEntries call b r =
+    WrittenEntries (call (length (given b) ∷ [])) r (given b) (after b)

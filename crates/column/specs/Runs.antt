@@ -6,6 +6,7 @@ use mathlib.Core.Path.{_≡_}
 use lib.IntN.{ℤ, pos, negsuc}
 use lib.ListN.{length, getD, drop, replicate}
 use Rattle.num.specs.Numbers.{eqZ}
+use Rattle.column.specs.Lent.{Lent, given, after}
 
 -- "A sequence is a list of ends and an equally long list of values", as a call is handed it
 pub record Sequence : Type 0 where
@@ -14,6 +15,9 @@ pub record Sequence : Type 0 where
 
 abbrev pub sequence : List ℤ → List ℤ → Sequence
 sequence es vs = record { ends = es; values = vs }
+
+abbrev pub givenSequence : Lent ℤ → Lent ℤ → Sequence
+givenSequence es vs = sequence (given es) (given vs)
 
 -- a run: its end, and its value
 pub record Run : Type 0 where
@@ -101,3 +105,7 @@ pub record Filled (rs : Runs) (e e′ v v′ : List ℤ) (n : ℕ) : Type 0 wher
   pub count : n ≡ length rs
   pub ends : e′ ≡ over (endsOf rs) e
   pub values : v′ ≡ over (valuesOf rs) v
+
+-- of the buffers that a call is lent
+abbrev pub Fills : Runs → Lent ℤ → Lent ℤ → ℕ → Type 0
+Fills rs e v n = Filled rs (given e) (after e) (given v) (after v) n

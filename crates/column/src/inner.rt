@@ -3,6 +3,7 @@ ghost use Prim.Native.Nat.{_+_, _<_, _^_};
 ghost use mathlib.Core.Path.{_≡_};
 ghost use lib.ListN.{length};
 ghost use Rattle.column.specs.Workers.{placeAfter, nextPlace, PushedMerged, Appendable, Appended};
+ghost use Rattle.column.specs.Lent.{given, after};
 
 // The last run that was written: its place and its value. Before the first run they are 0 and that run's own value.
 pub struct Writer {
@@ -26,7 +27,7 @@ pub fn push_merged(
     value: i64,
 ) -> Writer
     requires { ⌜ (writer .at + 1 < 2 ^ 64) × (nextPlace writer value < length (now «out_ends»)) × (nextPlace writer value < length (now «out_values»)) ⌝ }
-    ensures { λ r. ⌜ PushedMerged writer end value (now («out_ends» .entry)) (now («out_ends» .exit)) (now («out_values» .entry)) (now («out_values» .exit)) r ⌝ }
+    ensures { λ r. ⌜ PushedMerged writer end value (given «out_ends») (after «out_ends») (given «out_values») (after «out_values») r ⌝ }
 {
     let at = place_after(writer.at, writer.last, value);
     out_ends[at] = end;
@@ -45,7 +46,8 @@ pub fn append_merged(
     out_values: &mut [i64],
 ) -> Writer
     requires { ⌜ Appendable start offset (now ends) (now values) (now «out_ends») (now «out_values») writer ⌝ }
-    ensures { λ r. ⌜ Appended start offset (now (ends .entry)) (now (values .entry)) (now («out_ends» .entry)) (now («out_ends» .exit)) (now («out_values» .entry)) (now («out_values» .exit)) writer r ⌝ }
+    ensures { λ r. ⌜ Appended start
+        offset (given ends) (given values) (given «out_ends») (after «out_ends») (given «out_values») (after «out_values») writer r ⌝ }
 {
     let mut next = writer;
     let mut r: usize = 0;

@@ -4,10 +4,11 @@ ghost use mathlib.Core.Bool.{cond};
 ghost use mathlib.Core.Path.{_≡_};
 ghost use lib.Dec.{eqb};
 ghost use Rattle.column.specs.Workers.{firstUnlisted, maskOnes};
+ghost use Rattle.column.specs.Lent.{given};
 
 // The lowest index of a byte above 1, or the length.
 pub fn first_unlisted(mask: &[u8]) -> usize
-    ensures { λ r. ⌜ r ≡ firstUnlisted (now (mask .entry)) ⌝ }
+    ensures { λ r. ⌜ r ≡ firstUnlisted (given mask) ⌝ }
 {
     let mut i = 0;
     while i < mask.len() {
@@ -29,7 +30,7 @@ fn count_if_one(count: usize, byte: u8) -> usize
 
 // How many bytes are 1. The choice has no branch, so that the loop becomes vector instructions.
 pub fn mask_ones(mask: &[u8]) -> usize
-    ensures { λ r. ⌜ r ≡ maskOnes (now (mask .entry)) ⌝ }
+    ensures { λ r. ⌜ r ≡ maskOnes (given mask) ⌝ }
 {
     let mut count: usize = 0;
     let mut i: usize = 0;

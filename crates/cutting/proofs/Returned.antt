@@ -11,10 +11,10 @@ use Rattle.column.specs.declared.answer.Batched.{Batched}
 use Rattle.column.specs.declared.answer.Counted.{Counted}
 use Rattle.column.specs.Flat.{flatOffsets, flatEnds, flatValues}
 use Rattle.column.specs.Lists.{total}
-use Rattle.column.specs.Paper.{answers, shownCounted, shownBatched, WritesRuns}
+use Rattle.column.specs.Paper.{answers, shownCounted, shownBatched, WrittenRuns}
 use Rattle.column.specs.Runs.{sequence, Runs, endsOf, valuesOf, over}
 use Rattle.column.proofs.Sequences.{length-ends, length-values}
-use Rattle.batch.specs.Batch.{batch, Entry, keysOf, columnsOf, WritesBatch}
+use Rattle.batch.specs.Batch.{batch, Entry, keysOf, columnsOf, WrittenBatch}
 use Rattle.cutting.specs.Cut.{sequenceOf, batchOf}
 use Rattle.cutting.proofs.Laid.{length-flat-ends, length-flat-values, length-flat-offsets}
 
@@ -23,7 +23,7 @@ unfolding over
 front xs before n e = rw (← e, take-append-seam)
 
 -- of a call that writes runs
-module _ {rs : Runs} {r : Counted} {e e′ v v′ : List ℤ} (w : WritesRuns (answers rs) r e e′ v v′) where
+module _ {rs : Runs} {r : Counted} {e e′ v v′ : List ℤ} (w : WrittenRuns (answers rs) r e e′ v v′) where
   pub count-returned : shownCounted r ≡ answers (length rs)
   count-returned = w .answer
 
@@ -32,7 +32,7 @@ module _ {rs : Runs} {r : Counted} {e e′ v v′ : List ℤ} (w : WritesRuns (a
       rw (w .ends, w .values, front (endsOf rs) e (length rs) (length-ends rs), front (valuesOf rs) v (length rs) (length-values rs))
 
 -- of a call that writes a batch
-module _ {es : List Entry} {r : Batched} {k k′ x x′ : List ℕ} {e e′ v v′ : List ℤ} (w : WritesBatch (answers es) r k k′ x x′ e e′ v v′) where
+module _ {es : List Entry} {r : Batched} {k k′ x x′ : List ℕ} {e e′ v v′ : List ℤ} (w : WrittenBatch (answers es) r k k′ x x′ e e′ v v′) where
   abbrev keys : ℕ
   keys = length es
 

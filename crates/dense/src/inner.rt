@@ -8,8 +8,9 @@ ghost use mathlib.Core.Path.{_≡_};
 ghost use lib.ListN.{length, take, drop, replicate};
 ghost use Rattle.num.specs.Numbers.{eqZ};
 ghost use Rattle.column.specs.Questions.{endsValid};
-ghost use Rattle.column.specs.Runs.{runsOf, dense, encode, over, Filled};
+ghost use Rattle.column.specs.Runs.{runsOf, dense, encode, over, Fills};
 ghost use Rattle.dense.specs.Workers.{Constant, Encoded, Encodable};
+ghost use Rattle.column.specs.Lent.{given, after};
 
 // As many values are compared at once: so many that short runs never fill a block, and the branch on it is predicted.
 const BLOCK: usize = 32;
@@ -25,7 +26,7 @@ fn count_if_equal(count: usize, x: i64, y: i64) -> usize
 // It counts, as that becomes vector instructions, where a conjunction becomes a branch for each value.
 fn all_equal(values: &[i64], from: usize, to: usize, value: i64) -> bool
     requires { ⌜ (from ≤ to) × (to ≤ length (now values)) ⌝ }
-    ensures { λ r. ⌜ (r ≡ true → Constant (now (values .entry)) from to value) ⌝ }
+    ensures { λ r. ⌜ (r ≡ true → Constant (given values) from to value) ⌝ }
 {
     let mut count: usize = 0;
     let mut i = from;
@@ -47,7 +48,7 @@ fn push_values(
     out_values: &mut [i64],
 ) -> Writer
     requires { ⌜ Encodable (now values) (now «out_ends») (now «out_values») writer from to ⌝ }
-    ensures { λ r. ⌜ Encoded (now (values .entry)) (now («out_ends» .entry)) (now («out_ends» .exit)) (now («out_values» .entry)) (now («out_values» .exit)) r to ⌝ }
+    ensures { λ r. ⌜ Encoded (given values) (given «out_ends») (after «out_ends») (given «out_values») (after «out_values») r to ⌝ }
 {
     let mut next = writer;
     let mut i = from;
@@ -69,7 +70,7 @@ fn push_block(
     out_values: &mut [i64],
 ) -> Writer
     requires { ⌜ (from < to) × Encodable (now values) (now «out_ends») (now «out_values») writer from to ⌝ }
-    ensures { λ r. ⌜ Encoded (now (values .entry)) (now («out_ends» .entry)) (now («out_ends» .exit)) (now («out_values» .entry)) (now («out_values» .exit)) r to ⌝ }
+    ensures { λ r. ⌜ Encoded (given values) (given «out_ends») (after «out_ends») (given «out_values») (after «out_values») r to ⌝ }
 {
     let last = writer.last;
     if all_equal(values, from, to, last) {
@@ -82,7 +83,7 @@ fn push_block(
 // The merged runs of values.
 pub fn from_dense(values: &[i64], out_ends: &mut [i64], out_values: &mut [i64]) -> usize
     requires { ⌜ (length (now values) ≤ length (now «out_ends»)) × (length (now values) ≤ length (now «out_values»)) ⌝ }
-    ensures { λ r. ⌜ Filled (encode (now (values .entry))) (now («out_ends» .entry)) (now («out_ends» .exit)) (now («out_values» .entry)) (now («out_values» .exit)) r ⌝ }
+    ensures { λ r. ⌜ Fills (encode (given values)) «out_ends» «out_values» r ⌝ }
 {
     if values.len() == 0 {
         return 0;
@@ -102,7 +103,7 @@ pub fn from_dense(values: &[i64], out_ends: &mut [i64], out_values: &mut [i64]) 
 // The entries from `from` up to `to` set to a value.
 fn fill(out: &mut [i64], from: usize, to: usize, value: i64)
     requires { ⌜ (from ≤ to) × (to ≤ length (now out)) ⌝ }
-    ensures { λ _. ⌜ now (out .exit) ≡ take from (now (out .entry)) ++ replicate (to - from) value ++ drop to (now (out .entry)) ⌝ }
+    ensures { λ _. ⌜ after out ≡ take from (given out) ++ replicate (to - from) value ++ drop to (given out) ⌝ }
 {
     let mut p = from;
     while p < to {
@@ -114,7 +115,8 @@ fn fill(out: &mut [i64], from: usize, to: usize, value: i64)
 // What a sequence shows, position by position.
 pub fn to_dense(ends: &[i64], values: &[i64], out: &mut [i64]) -> usize
     requires { ⌜ (endsValid (now ends) ≡ none) × (length (now ends) ≡ length (now values)) × (length (dense (runsOf (now ends) (now values))) ≤ length (now out)) ⌝ }
-    ensures { λ r. ⌜ (r ≡ length (dense (runsOf (now (ends .entry)) (now (values .entry))))) × (now (out .exit) ≡ over (dense (runsOf (now (ends .entry)) (now (values .entry)))) (now (out .entry))) ⌝ }
+    ensures { λ r. ⌜ (r ≡ length (dense (runsOf (given ends) (given values))))
+        × (after out ≡ over (dense (runsOf (given ends) (given values))) (given out)) ⌝ }
 {
     let mut p: usize = 0;
     let mut r: usize = 0;

@@ -5,17 +5,15 @@ use column::answer::Counted;
 use column::sequence;
 ghost use mathlib.Core.List.{[], _∷_};
 ghost use mathlib.Core.Path.{_≡_};
-ghost use lib.ListN.{length};
 ghost use Rattle.column.specs.Asking.{shownAsked};
 ghost use Rattle.column.specs.Paper.{WritesRuns, WritesEntries};
-ghost use Rattle.column.specs.Runs.{sequence};
+ghost use Rattle.column.specs.Runs.{givenSequence};
 ghost use Rattle.dense.specs.Calls as calls;
+ghost use Rattle.column.specs.Lent.{given};
 
 // The merged sequence that shows the values.
 pub fn from_dense(values: &[i64], out_ends: &mut [i64], out_values: &mut [i64]) -> Counted
-    ensures { λ r. ⌜ WritesRuns
-        (calls.fromDense (now (values .entry)) (length (now («out_ends» .entry)) ∷ length (now («out_values» .entry)) ∷ [])) r
-        (now («out_ends» .entry)) (now («out_ends» .exit)) (now («out_values» .entry)) (now («out_values» .exit)) ⌝ }
+    ensures { λ r. ⌜ WritesRuns (calls.fromDense (given values)) «out_ends» «out_values» r ⌝ }
 {
     let asked = questions::ask_both(values.len(), out_ends.len(), out_values.len());
     match asked {
@@ -28,7 +26,7 @@ pub fn from_dense(values: &[i64], out_ends: &mut [i64], out_values: &mut [i64]) 
 }
 
 fn to_dense_asks(ends: &[i64], values: &[i64], out: usize) -> Asked
-    ensures { λ r. ⌜ shownAsked r ≡ calls.toDenseAsked (sequence (now (ends .entry)) (now (values .entry))) (out ∷ []) ⌝ }
+    ensures { λ r. ⌜ shownAsked r ≡ calls.toDenseAsked (givenSequence ends values) (out ∷ []) ⌝ }
 {
     let needed = sequence::magnitude(sequence::length(ends));
     questions::first_no(
@@ -39,9 +37,7 @@ fn to_dense_asks(ends: &[i64], values: &[i64], out: usize) -> Asked
 
 // The values that a sequence shows, one for each position.
 pub fn to_dense(ends: &[i64], values: &[i64], out: &mut [i64]) -> Counted
-    ensures { λ r. ⌜ WritesEntries
-        (calls.toDense (sequence (now (ends .entry)) (now (values .entry))) (length (now (out .entry)) ∷ [])) r
-        (now (out .entry)) (now (out .exit)) ⌝ }
+    ensures { λ r. ⌜ WritesEntries (calls.toDense (givenSequence ends values)) out r ⌝ }
 {
     let asked = to_dense_asks(ends, values, out.len());
     match asked {

@@ -5,11 +5,12 @@ ghost use mathlib.Core.Path.{_≡_};
 ghost use Rattle.column.specs.Runs.{sequence, runsOf, dense};
 ghost use Rattle.equals.specs.Calls.{same};
 ghost use Rattle.equals.specs.Workers.{Comparable};
+ghost use Rattle.column.specs.Lent.{given};
 
 // Columns of one length are compared at every segment, up to the first that shows two values.
 pub fn equals(a_ends: &[i64], a_values: &[i64], b_ends: &[i64], b_values: &[i64]) -> bool
     requires { ⌜ Comparable (sequence (now «a_ends») (now «a_values»)) (sequence (now «b_ends») (now «b_values»)) ⌝ }
-    ensures { λ r. ⌜ r ≡ same (dense (runsOf (now («a_ends» .entry)) (now («a_values» .entry)))) (dense (runsOf (now («b_ends» .entry)) (now («b_values» .entry)))) ⌝ }
+    ensures { λ r. ⌜ r ≡ same (dense (runsOf (given «a_ends») (given «a_values»))) (dense (runsOf (given «b_ends») (given «b_values»))) ⌝ }
 {
     if sequence::length(a_ends) != sequence::length(b_ends) {
         return false;

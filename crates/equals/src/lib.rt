@@ -4,7 +4,7 @@ use column::answer::Asked;
 use column::error::Refusal;
 ghost use mathlib.Core.Path.{_≡_};
 ghost use Rattle.column.specs.Asking.{shownAsked};
-ghost use Rattle.column.specs.Runs.{sequence};
+ghost use Rattle.column.specs.Runs.{givenSequence};
 ghost use Rattle.equals.specs.Calls.{shownEquality};
 ghost use Rattle.equals.specs.Calls as calls;
 
@@ -16,7 +16,7 @@ pub enum Equality {
 }
 
 fn equals_asks(a_ends: &[i64], a_values: &[i64], b_ends: &[i64], b_values: &[i64]) -> Asked
-    ensures { λ r. ⌜ shownAsked r ≡ calls.equalsAsked (sequence (now («a_ends» .entry)) (now («a_values» .entry))) (sequence (now («b_ends» .entry)) (now («b_values» .entry))) ⌝ }
+    ensures { λ r. ⌜ shownAsked r ≡ calls.equalsAsked (givenSequence «a_ends» «a_values») (givenSequence «b_ends» «b_values») ⌝ }
 {
     let valid = questions::first_no(questions::ask_ends(a_ends), questions::ask_ends(b_ends));
     let paired = questions::first_no(
@@ -31,7 +31,7 @@ fn equals_asks(a_ends: &[i64], a_values: &[i64], b_ends: &[i64], b_values: &[i64
 
 // Whether two sequences show the same values at every position, however their runs are split.
 pub fn equals(a_ends: &[i64], a_values: &[i64], b_ends: &[i64], b_values: &[i64]) -> Equality
-    ensures { λ r. ⌜ shownEquality r ≡ calls.equals (sequence (now («a_ends» .entry)) (now («a_values» .entry))) (sequence (now («b_ends» .entry)) (now («b_values» .entry))) ⌝ }
+    ensures { λ r. ⌜ shownEquality r ≡ calls.equals (givenSequence «a_ends» «a_values») (givenSequence «b_ends» «b_values») ⌝ }
 {
     let asked = equals_asks(a_ends, a_values, b_ends, b_values);
     match asked {

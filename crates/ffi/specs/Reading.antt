@@ -9,9 +9,9 @@ use lib.IntN.{ℤ, pos}
 use lib.ListN.{getD}
 use Rattle.num.specs.Numbers.{residue, signed}
 use Rattle.batch.specs.declared.Got.{Got}
-use Rattle.batch.specs.Batch.{Entry, WritesBatch}
-use Rattle.batch.specs.Calls.{WritesGot}
-use Rattle.batch_collapse.specs.Calls.{WritesCollapse}
+use Rattle.batch.specs.Batch.{Entry, WrittenBatch}
+use Rattle.batch.specs.Calls.{WrittenGot}
+use Rattle.batch_collapse.specs.Calls.{WrittenCollapse}
 use Rattle.column.specs.declared.answer.Batched.{Batched}
 use Rattle.column.specs.declared.answer.Checked.{Checked}
 use Rattle.column.specs.declared.answer.Counted.{Counted}
@@ -23,26 +23,26 @@ use Rattle.column.specs.declared.error.Error.the-variants.{UnknownCode, LengthM
 use Rattle.column.specs.declared.error.InKey.{InKey}
 use Rattle.column.specs.declared.error.InKey.the-variants.{Outside, Position}
 use Rattle.column.specs.declared.error.Refusal.{Refusal}
-use Rattle.column.specs.Flat.{WritesFlat}
-use Rattle.column.specs.Paper.{Outcome, numberOf, shownBy, shownChecked, shownFound, WritesRuns, WritesEntries}
+use Rattle.column.specs.Flat.{WrittenFlat}
+use Rattle.column.specs.Paper.{Outcome, numberOf, shownBy, shownChecked, shownFound, WrittenRuns, WrittenEntries}
 use Rattle.column.specs.Runs.{Runs}
 use Rattle.many.specs.declared.PlannedMany.{PlannedMany}
-use Rattle.many.specs.Calls.{WritesPlanMany}
-use Rattle.merge_plan.specs.Calls.{WritesGroups}
+use Rattle.many.specs.Calls.{WrittenPlanMany}
+use Rattle.merge_plan.specs.Calls.{WrittenGroups}
 use Rattle.merge_mask.specs.Calls.{Group}
-use Rattle.plan.specs.Calls.{Segment, WritesPlan}
+use Rattle.plan.specs.Calls.{Segment, WrittenPlan}
 use Rattle.reduce.specs.declared.Reduced.{Reduced}
 use Rattle.reduce.specs.declared.Reduction.{Reduction}
 use Rattle.reduce.specs.declared.Reduction.the-variants.{Whole, Fraction, Nothing}
 use Rattle.reduce.specs.declared.Summed.{Summed}
-use Rattle.reduce.specs.Calls.{plusZero, kindOf, shownSummed, Reduces, WritesReductions}
+use Rattle.reduce.specs.Calls.{plusZero, kindOf, shownSummed, Reduces, WrittenReductions}
 use Rattle.equals.specs.declared.Equality.{Equality}
 use Rattle.equals.specs.Calls.{shownEquality}
 use Rattle.slice.specs.declared.Part.{Part}
 use Rattle.slice.specs.declared.View.{View}
 use Rattle.slice.specs.declared.Viewed.{Viewed}
 use Rattle.slice.specs.Calls.{shownViewed, PartOf}
-use Rattle.ranges_where.specs.Calls.{Range, WritesRanges}
+use Rattle.ranges_where.specs.Calls.{Range, WrittenRanges}
 use Rattle.ffi.specs.declared.RlBatched.{RlBatched}
 use Rattle.ffi.specs.declared.RlCounted.{RlCounted}
 use Rattle.ffi.specs.declared.RlEquality.{RlEquality}
@@ -232,35 +232,15 @@ LaidReduced o r = Laid readReduced laidReduced (λ c. Reduces o c) r
 abbrev pub LaidPart : RlPart → Part → List ℤ → Type 0
 LaidPart r p vs = PartOf (readPart r) p vs
 
-abbrev pub LaidRuns : Outcome Runs → RlCounted → List ℤ → List ℤ → List ℤ → List ℤ → Type 0
-LaidRuns o r e e′ v v′ = Laid readCounted laidCounted (λ c. WritesRuns o c e e′ v v′) r
+-- calls that write: the promise is of the buffers, and of the answer that is read
+abbrev pub LaidCounted : (Counted → Type 0) → RlCounted → Type 0
+LaidCounted promised r = Laid readCounted laidCounted promised r
 
-abbrev pub LaidEntries : {A : Type 0} → Outcome (List A) → RlCounted → List A → List A → Type 0
-LaidEntries o r b b′ = Laid readCounted laidCounted (λ c. WritesEntries o c b b′) r
+abbrev pub LaidPlannedMany : (PlannedMany → Type 0) → RlPlannedMany → Type 0
+LaidPlannedMany promised r = Laid readPlannedMany laidPlannedMany promised r
 
-abbrev pub LaidRanges : Outcome (List Range) → RlCounted → List ℤ → List ℤ → List ℤ → List ℤ → Type 0
-LaidRanges o r s s′ e e′ = Laid readCounted laidCounted (λ c. WritesRanges o c s s′ e e′) r
+abbrev pub LaidGot : (Got → Type 0) → RlGot → Type 0
+LaidGot promised r = Laid readGot laidGot promised r
 
-abbrev pub LaidGroups : Outcome (List (Group ℤ)) → RlCounted → List ℤ → List ℤ → List ℕ → List ℕ → Type 0
-LaidGroups o r e e′ x x′ = Laid readCounted laidCounted (λ c. WritesGroups o c e e′ x x′) r
-
-abbrev pub LaidReductions : Outcome (List Reduction) → RlCounted → List ℕ → List ℕ → List ℕ → List ℕ → Type 0
-LaidReductions o r k k′ b b′ = Laid readCounted laidCounted (λ c. WritesReductions o c k k′ b b′) r
-
-abbrev pub LaidPlan : Outcome (List Segment) → RlCounted → List ℤ → List ℤ → List ℕ → List ℕ → List ℕ → List ℕ → Type 0
-LaidPlan o r e e′ a a′ b b′ = Laid readCounted laidCounted (λ c. WritesPlan o c e e′ a a′ b b′) r
-
-abbrev pub LaidPlanMany : Outcome (List Segment) → RlPlannedMany → List ℤ → List ℤ → List ℕ → List ℕ → Type 0
-LaidPlanMany o r e e′ x x′ = Laid readPlannedMany laidPlannedMany (λ c. WritesPlanMany o c e e′ x x′) r
-
-abbrev pub LaidFlat : Outcome (List Runs) → RlBatched → List ℕ → List ℕ → List ℤ → List ℤ → List ℤ → List ℤ → Type 0
-LaidFlat o r x x′ e e′ v v′ = Laid readBatched laidBatched (λ c. WritesFlat o c x x′ e e′ v v′) r
-
-abbrev pub LaidGot : Outcome (Option Runs) → RlGot → List ℤ → List ℤ → List ℤ → List ℤ → Type 0
-LaidGot o r e e′ v v′ = Laid readGot laidGot (λ c. WritesGot o c e e′ v v′) r
-
-abbrev pub LaidBatch : Outcome (List Entry) → RlBatched → List ℕ → List ℕ → List ℕ → List ℕ → List ℤ → List ℤ → List ℤ → List ℤ → Type 0
-LaidBatch o r k k′ x x′ e e′ v v′ = Laid readBatched laidBatched (λ c. WritesBatch o c k k′ x x′ e e′ v v′) r
-
-abbrev pub LaidCollapse : Outcome (List Entry) → ℕ → RlBatched → List ℕ → List ℕ → List ℕ → List ℕ → List ℤ → List ℤ → List ℤ → List ℤ → List ℤ → List ℤ → List ℤ → List ℤ → Type 0
-LaidCollapse o n r k k′ x x′ e e′ v v′ s s′ t t′ = Laid readBatched laidBatched (λ c. WritesCollapse o n c k k′ x x′ e e′ v v′ s s′ t t′) r
+abbrev pub LaidBatched : (Batched → Type 0) → RlBatched → Type 0
+LaidBatched promised r = Laid readBatched laidBatched promised r

@@ -4,9 +4,10 @@ ghost use mathlib.Core.Option.{none};
 ghost use mathlib.Core.Path.{_≡_};
 ghost use lib.ListN.{length};
 ghost use Rattle.column.specs.Questions.{runByRun};
-ghost use Rattle.column.specs.Runs.{Filled};
+ghost use Rattle.column.specs.Runs.{Fills};
 ghost use Rattle.from_runs.specs.Calls.{runsFrom};
 ghost use Rattle.from_runs.specs.Workers.{PutRun};
+ghost use Rattle.column.specs.Lent.{given, after};
 
 // A run up to `end` at entry n, unless its length is 0: how many entries there are then.
 pub fn put_run(
@@ -18,7 +19,7 @@ pub fn put_run(
     value: i64,
 ) -> usize
     requires { ⌜ (n < length (now «out_ends»)) × (n < length (now «out_values»)) ⌝ }
-    ensures { λ r. ⌜ PutRun (now («out_ends» .entry)) (now («out_ends» .exit)) (now («out_values» .entry)) (now («out_values» .exit)) n run end value r ⌝ }
+    ensures { λ r. ⌜ PutRun (given «out_ends») (after «out_ends») (given «out_values») (after «out_values») n run end value r ⌝ }
 {
     if run == 0 {
         return n;
@@ -36,7 +37,7 @@ pub fn from_runs(
     out_values: &mut [i64],
 ) -> usize
     requires { ⌜ (length (now runs) ≡ length (now values)) × (runByRun 0 0 (now runs) ≡ none) × (length (now runs) ≤ length (now «out_ends»)) × (length (now runs) ≤ length (now «out_values»)) ⌝ }
-    ensures { λ r. ⌜ Filled (runsFrom 0 (now (runs .entry)) (now (values .entry))) (now («out_ends» .entry)) (now («out_ends» .exit)) (now («out_values» .entry)) (now («out_values» .exit)) r ⌝ }
+    ensures { λ r. ⌜ Fills (runsFrom 0 (given runs) (given values)) «out_ends» «out_values» r ⌝ }
 {
     let mut end: i64 = 0;
     let mut n: usize = 0;

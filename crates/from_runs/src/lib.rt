@@ -8,11 +8,12 @@ ghost use mathlib.Core.Path.{_≡_};
 ghost use lib.ListN.{length};
 ghost use Rattle.column.specs.Asking.{shownAsked};
 ghost use Rattle.column.specs.Paper.{shownChecked, WritesRuns};
-ghost use Rattle.column.specs.Runs.{sequence};
+ghost use Rattle.column.specs.Runs.{givenSequence};
 ghost use Rattle.from_runs.specs.Calls as calls;
+ghost use Rattle.column.specs.Lent.{given};
 
 fn from_runs_asks(runs: &[i64], values: &[i64], out_ends: usize, out_values: usize) -> Asked
-    ensures { λ r. ⌜ shownAsked r ≡ calls.fromRunsAsked (now (runs .entry)) (now (values .entry)) («out_ends» ∷ «out_values» ∷ []) ⌝ }
+    ensures { λ r. ⌜ shownAsked r ≡ calls.fromRunsAsked (given runs) (given values) («out_ends» ∷ «out_values» ∷ []) ⌝ }
 {
     let room = questions::ask_both(runs.len(), out_ends, out_values);
     let fit = questions::first_no(questions::ask_runs(runs), room);
@@ -26,9 +27,7 @@ pub fn from_runs(
     out_ends: &mut [i64],
     out_values: &mut [i64],
 ) -> Counted
-    ensures { λ r. ⌜ WritesRuns
-        (calls.fromRuns (now (runs .entry)) (now (values .entry)) (length (now («out_ends» .entry)) ∷ length (now («out_values» .entry)) ∷ [])) r
-        (now («out_ends» .entry)) (now («out_ends» .exit)) (now («out_values» .entry)) (now («out_values» .exit)) ⌝ }
+    ensures { λ r. ⌜ WritesRuns (calls.fromRuns (given runs) (given values)) «out_ends» «out_values» r ⌝ }
 {
     let asked = from_runs_asks(runs, values, out_ends.len(), out_values.len());
     match asked {
@@ -42,7 +41,7 @@ pub fn from_runs(
 
 // Whether ends and values are a sequence.
 pub fn from_ends(ends: &[i64], values: &[i64]) -> Checked
-    ensures { λ r. ⌜ shownChecked r ≡ calls.fromEnds (sequence (now (ends .entry)) (now (values .entry))) ⌝ }
+    ensures { λ r. ⌜ shownChecked r ≡ calls.fromEnds (givenSequence ends values) ⌝ }
 {
     let asked = questions::ask_sequence(ends, values);
     match asked {
@@ -53,9 +52,7 @@ pub fn from_ends(ends: &[i64], values: &[i64]) -> Checked
 
 // A sequence that shows one value, `length` times.
 pub fn repeat(value: i64, length: i64, out_ends: &mut [i64], out_values: &mut [i64]) -> Counted
-    ensures { λ r. ⌜ WritesRuns
-        (calls.repeat value length (lib.ListN.length (now («out_ends» .entry)) ∷ lib.ListN.length (now («out_values» .entry)) ∷ [])) r
-        (now («out_ends» .entry)) (now («out_ends» .exit)) (now («out_values» .entry)) (now («out_values» .exit)) ⌝ }
+    ensures { λ r. ⌜ WritesRuns (calls.repeat value length) «out_ends» «out_values» r ⌝ }
 {
     let runs = [length];
     let values = [value];

@@ -7,18 +7,21 @@ ghost use mathlib.Core.List.{map};
 ghost use mathlib.Core.Option.{none};
 ghost use mathlib.Core.Path.{_≡_};
 ghost use Rattle.column.specs.Questions.{endsValid};
-ghost use Rattle.column.specs.Runs.{sequence, runsOf, Filled};
-ghost use Rattle.slice.specs.Workers.{touchedBy, FilledFlat};
+ghost use Rattle.column.specs.Runs.{sequence, runsOf, Fills};
+ghost use Rattle.slice.specs.Workers.{touchedBy, FillsFlat};
 ghost use Rattle.slice.specs.Calls.{sliceRuns};
 ghost use Rattle.reduce.specs.Calls.{reduction};
 ghost use Rattle.reduce.specs.Workers.{FilledReductions};
 ghost use Rattle.getitems.specs.Calls.{intervalRuns};
 ghost use Rattle.getitems.specs.Workers.{found, SliceAt, Gettable, Reducible};
+ghost use Rattle.column.specs.Lent.{given, after};
 
 // How many runs a slice has, by the first of them and the first end at or past the slice's end.
 pub fn count_at(ends: &[i64], start: i64, stop: i64, first: usize, last: usize) -> usize
     requires { ⌜ last < 2 ^ 63 ⌝ }
-    ensures { λ r. ⌜ (endsValid (now (ends .entry)) ≡ none → first ≡ found (now (ends .entry)) 0 start → last ≡ found (now (ends .entry)) 1 stop → r ≡ touchedBy start stop (now (ends .entry)) .count) ⌝ }
+    ensures { λ r. ⌜
+        (endsValid (given ends)
+        ≡ none → first ≡ found (given ends) 0 start → last ≡ found (given ends) 1 stop → r ≡ touchedBy start stop (given ends) .count) ⌝ }
 {
     let from = num::larger(start, 0);
     let to = num::smaller(stop, sequence::length(ends));
@@ -43,8 +46,7 @@ fn slice_at(
     out_values: &mut [i64],
 ) -> usize
     requires { ⌜ SliceAt (now ends) (now values) first start stop (now «out_ends») (now «out_values») ⌝ }
-    ensures { λ r. ⌜ Filled (sliceRuns start stop (runsOf (now (ends .entry)) (now (values .entry))))
-        (now («out_ends» .entry)) (now («out_ends» .exit)) (now («out_values» .entry)) (now («out_values» .exit)) r ⌝ }
+    ensures { λ r. ⌜ Fills (sliceRuns start stop (runsOf (given ends) (given values))) «out_ends» «out_values» r ⌝ }
 {
     let from = num::larger(start, 0);
     let to = num::smaller(stop, sequence::length(ends));
@@ -75,8 +77,8 @@ pub fn getitems(
     out_values: &mut [i64],
 ) -> usize
     requires { ⌜ Gettable (sequence (now ends) (now values)) (now starts) (now stops) (now «out_offsets») (now «out_ends») (now «out_values») ⌝ }
-    ensures { λ r. ⌜ FilledFlat (intervalRuns (now (starts .entry)) (now (stops .entry)) (runsOf (now (ends .entry)) (now (values .entry))))
-        (now («out_offsets» .entry)) (now («out_offsets» .exit)) (now («out_ends» .entry)) (now («out_ends» .exit)) (now («out_values» .entry)) (now («out_values» .exit)) r ⌝ }
+    ensures { λ r. ⌜ FillsFlat
+        (intervalRuns (given starts) (given stops) (runsOf (given ends) (given values))) «out_offsets» «out_ends» «out_values» r ⌝ }
 {
     out_offsets[0] = 0;
     let mut firsts = [0usize; searches::BLOCK];
@@ -113,8 +115,9 @@ pub fn slice_reduce(
     out_bits: &mut [u64],
 ) -> usize
     requires { ⌜ Reducible (sequence (now ends) (now values)) (now starts) (now stops) (now «out_kinds») (now «out_bits») ⌝ }
-    ensures { λ r. ⌜ FilledReductions (map (reduction code ddof) (intervalRuns (now (starts .entry)) (now (stops .entry)) (runsOf (now (ends .entry)) (now (values .entry)))))
-        (now («out_kinds» .entry)) (now («out_kinds» .exit)) (now («out_bits» .entry)) (now («out_bits» .exit)) r ⌝ }
+    ensures { λ r. ⌜ FilledReductions
+        (map (reduction code ddof) (intervalRuns (given starts) (given stops) (runsOf (given ends) (given values))))
+        (given «out_kinds») (after «out_kinds») (given «out_bits») (after «out_bits») r ⌝ }
 {
     let mut i: usize = 0;
     while i < starts.len() {

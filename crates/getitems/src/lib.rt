@@ -6,12 +6,12 @@ use column::answer::Batched;
 use column::answer::Counted;
 use column::answer::RleBatch;
 use inner::searches;
-ghost use Prim.Native.Nat.{_+_, _<_, _^_};
+ghost use Prim.Native.Nat.{_<_, _^_};
 ghost use Rattle.column.specs.Asking.{shownAsked};
 ghost use Rattle.column.specs.Flat.{WritesFlat};
 ghost use Rattle.column.specs.Lists.{total};
-ghost use Rattle.column.specs.Questions.{endsValid, room};
-ghost use Rattle.column.specs.Runs.{sequence};
+ghost use Rattle.column.specs.Questions.{endsValid};
+ghost use Rattle.column.specs.Runs.{givenSequence};
 ghost use Rattle.num.specs.Numbers.{saturated};
 ghost use lib.ListN.{length};
 ghost use mathlib.Core.List.{[], _∷_};
@@ -20,10 +20,13 @@ ghost use mathlib.Core.Path.{_≡_};
 ghost use Rattle.reduce.specs.Calls.{WritesReductions};
 ghost use Rattle.getitems.specs.Calls as calls;
 ghost use Rattle.getitems.specs.Workers.{intervalCounts};
+ghost use Rattle.column.specs.Lent.{given};
 
 // How many runs the slices of all intervals have.
 fn count_runs(ends: &[i64], starts: &[i64], stops: &[i64]) -> usize
-    ensures { λ r. ⌜ (endsValid (now (ends .entry)) ≡ none → length (now (starts .entry)) ≡ length (now (stops .entry)) → r ≡ saturated (total (intervalCounts (now (starts .entry)) (now (stops .entry)) (now (ends .entry))))) ⌝ }
+    ensures { λ r. ⌜
+        (endsValid (given ends) ≡ none →
+        length (given starts) ≡ length (given stops) → r ≡ saturated (total (intervalCounts (given starts) (given stops) (given ends)))) ⌝ }
 {
     if starts.len() != stops.len() {
         return 0;
@@ -53,8 +56,9 @@ fn getitems_asks(
     out_ends: usize,
     out_values: usize,
 ) -> Asked
-    ensures { λ r. ⌜ («out_ends» < 2 ^ 63 → «out_values» < 2 ^ 63
-        → shownAsked r ≡ calls.getitemsAsked (sequence (now (ends .entry)) (now (values .entry))) (now (starts .entry)) (now (stops .entry)) («out_offsets» ∷ «out_ends» ∷ «out_values» ∷ [])) ⌝ }
+    ensures { λ r. ⌜
+        («out_ends» < 2 ^ 63 → «out_values» < 2 ^ 63 → shownAsked r
+        ≡ calls.getitemsAsked (givenSequence ends values) (given starts) (given stops) («out_offsets» ∷ «out_ends» ∷ «out_values» ∷ [])) ⌝ }
 {
     let runs = count_runs(ends, starts, stops);
     let room = slice::ask_flat_room(starts.len() + 1, runs, out_offsets, out_ends, out_values);
@@ -74,10 +78,8 @@ pub fn getitems(
     out_ends: &mut [i64],
     out_values: &mut [i64],
 ) -> Batched
-    ensures { λ r. ⌜ WritesFlat
-        (calls.getitems (sequence (now (ends .entry)) (now (values .entry))) (now (starts .entry)) (now (stops .entry))
-        (length (now («out_offsets» .entry)) ∷ length (now («out_ends» .entry)) ∷ length (now («out_values» .entry)) ∷ [])) r
-        (now («out_offsets» .entry)) (now («out_offsets» .exit)) (now («out_ends» .entry)) (now («out_ends» .exit)) (now («out_values» .entry)) (now («out_values» .exit)) ⌝ }
+    ensures { λ r.
+        ⌜ WritesFlat (calls.getitems (givenSequence ends values) (given starts) (given stops)) «out_offsets» «out_ends» «out_values» r ⌝ }
 {
     let asked = getitems_asks(
         ends,
@@ -117,7 +119,8 @@ fn slice_reduce_asks(
     out_kinds: usize,
     out_bits: usize,
 ) -> Asked
-    ensures { λ r. ⌜ shownAsked r ≡ calls.sliceReduceAsked (sequence (now (ends .entry)) (now (values .entry))) (now (starts .entry)) (now (stops .entry)) code («out_kinds» ∷ «out_bits» ∷ []) ⌝ }
+    ensures { λ r. ⌜ shownAsked
+        r ≡ calls.sliceReduceAsked (givenSequence ends values) (given starts) (given stops) code («out_kinds» ∷ «out_bits» ∷ []) ⌝ }
 {
     let room = questions::ask_both(starts.len(), out_kinds, out_bits);
     let inside = questions::first_no(questions::ask_intervals(starts, stops), room);
@@ -138,9 +141,8 @@ pub fn slice_reduce(
     out_kinds: &mut [u8],
     out_bits: &mut [u64],
 ) -> Counted
-    ensures { λ r. ⌜ WritesReductions
-        (calls.sliceReduce (sequence (now (ends .entry)) (now (values .entry))) (now (starts .entry)) (now (stops .entry)) code ddof (length (now («out_kinds» .entry)) ∷ length (now («out_bits» .entry)) ∷ [])) r
-        (now («out_kinds» .entry)) (now («out_kinds» .exit)) (now («out_bits» .entry)) (now («out_bits» .exit)) ⌝ }
+    ensures { λ r. ⌜
+        WritesReductions (calls.sliceReduce (givenSequence ends values) (given starts) (given stops) code ddof) «out_kinds» «out_bits» r ⌝ }
 {
     let asked = slice_reduce_asks(
         ends,

@@ -18,7 +18,7 @@ use Rattle.column.proofs.YesNo.{room-each, room-saturated}
 use Rattle.plan.specs.Calls.{Segment, endsIn, segments}
 use Rattle.many.specs.declared.PlannedMany.{PlannedMany}
 use Rattle.many.specs.declared.inner.Counts.{Counts}
-use Rattle.many.specs.Calls.{mostColumns, planManyAsked, WritesPlanMany}
+use Rattle.many.specs.Calls.{mostColumns, planManyAsked, WrittenPlanMany}
 use Rattle.many.specs.Workers.{Plannable, PlanManyFilled}
 use Rattle.many.proofs.Flats.{ends-columns}
 use Rattle.many.proofs.Walking.{endsOfParts}
@@ -76,7 +76,7 @@ module _ (os : List ℕ) (es vs : List ℤ) where
 -- ---- what is promised
 
 pub plan-many-written : {q : Question} {ss ss′ : List Segment} {r : Counts} {e e′ : List ℤ} {x x′ : List ℕ} → q ≡ none → ss ≡ ss′ → PlanManyFilled ss′ e e′ x x′ r
-    → WritesPlanMany (q otherwise ss) (PlannedMany.Counts (r .segments) (r .indexes)) e e′ x x′
+    → WrittenPlanMany (q otherwise ss) (PlannedMany.Counts (r .segments) (r .indexes)) e e′ x x′
 plan-many-written h s p = rw (h, s) (record {
   answer = ap₂ (λ (n m : ℕ). answers (record { segments = n; indexes = m })) (p .segments) (p .indexes);
   ends = p .ends-written;
@@ -84,5 +84,5 @@ plan-many-written h s p = rw (h, s) (record {
 })
 
 pub plan-many-refused : {q : Question} (ss : List Segment) {r : Refusal} {e : List ℤ} {x : List ℕ} → q ≡ some (paper r)
-    → WritesPlanMany (q otherwise ss) (PlannedMany.Refused r) e e x x
+    → WrittenPlanMany (q otherwise ss) (PlannedMany.Refused r) e e x x
 plan-many-refused ss h = rw h (record { answer = refl; ends = refl; indexes = refl })

@@ -10,6 +10,7 @@ use Rattle.column.specs.Paper.{Outcome, answers, refuses, paper, counts, writte
 use Rattle.column.specs.Questions.{atMost, room}
 use Rattle.plan.specs.Calls.{Segment, segments, segmentEnds, endsIn}
 use Rattle.many.specs.declared.PlannedMany.{PlannedMany}
+use Rattle.column.specs.Lent.{Lent, given, after}
 
 -- "Has a many-way call at most 128 sequences?"
 abbrev pub mostColumns : ℕ
@@ -42,7 +43,12 @@ shownPlanned (PlannedMany.Counts segments indexes) = answers (record { segments 
 shownPlanned (PlannedMany.Refused r) = refuses (paper r)
 
 -- the promise: ends and indexes, each buffer before and after
-pub record WritesPlanMany (o : Outcome (List Segment)) (r : PlannedMany) (e e′ : List ℤ) (x x′ : List ℕ) : Type 0 where
+pub record WrittenPlanMany (o : Outcome (List Segment)) (r : PlannedMany) (e e′ : List ℤ) (x x′ : List ℕ) : Type 0 where
   pub answer : shownPlanned r ≡ counts planned o
   pub ends : e′ ≡ written segmentEnds o e
   pub indexes : x′ ≡ written allIndexes o x
+
+-- of the buffers that a call is lent: question 12 is about their lengths
+abbrev pub WritesPlanMany : (List ℕ → Outcome (List Segment)) → Lent ℤ → Lent ℕ → PlannedMany → Type 0
+WritesPlanMany call e x r =
+    WrittenPlanMany (call (length (given e) ∷ length (given x) ∷ [])) r (given e) (after e) (given x) (after x)

@@ -1,12 +1,10 @@
 // Workers that assume what the call has asked, and the walk over the segments of many columns. The ends are valid.
 use column::sequence;
 use plan::inner::SPENT;
-ghost use Prim.Native.Nat.{_+_, _*_, _-_, _≤_, _<_, _^_};
-ghost use mathlib.Core.Bool.{cond};
+ghost use Prim.Native.Nat.{_+_, _*_, _-_, _≤_, _<_};
 ghost use mathlib.Core.List.{_++_, map};
 ghost use mathlib.Core.Option.{none};
 ghost use mathlib.Core.Path.{_≡_};
-ghost use lib.Dec.{eqb};
 ghost use lib.ListN.{length, getD, take, drop};
 ghost use Rattle.column.specs.Lists.{part, parts};
 ghost use Rattle.column.specs.Questions.{endsValid};
@@ -14,6 +12,7 @@ ghost use Rattle.column.specs.Runs.{magnitude, lengthOfEnds, over};
 ghost use Rattle.plan.specs.Calls.{segments};
 ghost use Rattle.plan.specs.Workers.{spent, EndAt};
 ghost use Rattle.many.specs.Workers.{InColumn, Placed, Paired, Kept, ColumnPlaced, ColumnStepped, Stepped, Walkable, Plannable, PlanManyFilled};
+ghost use Rattle.column.specs.Lent.{given, after};
 
 // How many segments were written, and how many indexes.
 pub struct Counts {
@@ -24,7 +23,7 @@ pub struct Counts {
 // The length of column c.
 pub fn length_at(offsets: &[usize], ends: &[i64], c: usize) -> i64
     requires { ⌜ c + 1 < length (now offsets) ⌝ }
-    ensures { λ r. ⌜ r ≡ lengthOfEnds (part (getD (now (offsets .entry)) c 0) (getD (now (offsets .entry)) (c + 1) 0) (now (ends .entry))) ⌝ }
+    ensures { λ r. ⌜ r ≡ lengthOfEnds (part (getD (given offsets) c 0) (getD (given offsets) (c + 1) 0) (given ends)) ⌝ }
 {
     let from = offsets[c];
     let to = offsets[c + 1];
@@ -34,7 +33,7 @@ pub fn length_at(offsets: &[usize], ends: &[i64], c: usize) -> i64
 // The end of the run where a column stands, or `SPENT` where the column is spent. The column's runs are those from `from` up to `to`.
 fn end_at(ends: &[i64], from: usize, to: usize, place: usize) -> usize
     requires { ⌜ InColumn (now ends) from to place × (endsValid (part from to (now ends)) ≡ none) ⌝ }
-    ensures { λ r. ⌜ EndAt (map magnitude (drop place (part from to (now (ends .entry))))) r ⌝ }
+    ensures { λ r. ⌜ EndAt (map magnitude (drop place (part from to (given ends)))) r ⌝ }
 {
     let at = from + place;
     if at < to {
@@ -48,7 +47,7 @@ fn end_at(ends: &[i64], from: usize, to: usize, place: usize) -> usize
 // The value of the run where a column stands, or the fill where it is spent.
 fn value_at(values: &[i64], from: usize, to: usize, place: usize, fill: i64) -> i64
     requires { ⌜ InColumn (now values) from to place ⌝ }
-    ensures { λ r. ⌜ r ≡ getD (part from to (now (values .entry))) place fill ⌝ }
+    ensures { λ r. ⌜ r ≡ getD (part from to (given values)) place fill ⌝ }
 {
     let at = from + place;
     if at < to { values[at] } else { fill }
@@ -65,7 +64,8 @@ pub fn read_current(
     shown: &mut [i64],
 )
     requires { ⌜ Placed (now offsets) (now ends) (now places) × Paired (now ends) (now values) (now places) (now current) (now shown) ⌝ }
-    ensures { λ r. ⌜ Kept (now (offsets .entry)) (now (ends .entry)) (now (values .entry)) fill (now (places .entry)) (now (current .exit)) (now (shown .exit)) (length (now (places .entry))) ⌝ }
+    ensures { λ r.
+        ⌜ Kept (given offsets) (given ends) (given values) fill (given places) (after current) (after shown) (length (given places)) ⌝ }
 {
     let mut c: usize = 0;
     while c < places.len() {
@@ -94,8 +94,8 @@ fn step_column(
 ) -> usize
     requires { ⌜ ColumnPlaced (now offsets) (now ends) (now places) c × (c < length (now places)) × (length (now ends) ≡ length (now values))
         × Kept (now offsets) (now ends) (now values) fill (now places) (now current) (now shown) (length (now places)) × (start < spent) ⌝ }
-    ensures { λ r. ⌜ ColumnStepped (now (offsets .entry)) (now (ends .entry)) (now (values .entry)) fill c start
-        (now (places .entry)) (now (places .exit)) (now (current .entry)) (now (current .exit)) (now (shown .exit)) r ⌝ }
+    ensures { λ r. ⌜ ColumnStepped (given offsets)
+        (given ends) (given values) fill c start (given places) (after places) (given current) (after current) (after shown) r ⌝ }
 {
     let end = current[c];
     if end != start {
@@ -126,8 +126,8 @@ pub fn step(
 ) -> usize
     requires { ⌜ Placed (now offsets) (now ends) (now places) × (length (now ends) ≡ length (now values))
         × Kept (now offsets) (now ends) (now values) fill (now places) (now current) (now shown) (length (now places)) × (start < spent) ⌝ }
-    ensures { λ r. ⌜ Stepped (now (offsets .entry)) (now (ends .entry)) start (now (places .entry)) (now (places .exit)) r
-        × Kept (now (offsets .entry)) (now (ends .entry)) (now (values .entry)) fill (now (places .exit)) (now (current .exit)) (now (shown .exit)) (length (now (places .exit))) ⌝ }
+    ensures { λ r. ⌜ Stepped (given offsets) (given ends) start (given places) (after places)
+        r × Kept (given offsets) (given ends) (given values) fill (after places) (after current) (after shown) (length (after places)) ⌝ }
 {
     let mut least = SPENT;
     let mut c: usize = 0;
@@ -152,7 +152,7 @@ pub fn step(
 // The places, written from `at` on; the index behind them.
 fn put_places(places: &[usize], out: &mut [usize], at: usize) -> usize
     requires { ⌜ at + length (now places) ≤ length (now out) ⌝ }
-    ensures { λ r. ⌜ (r ≡ at + length (now (places .entry))) × (now (out .exit) ≡ take at (now (out .entry)) ++ over (now (places .entry)) (drop at (now (out .entry)))) ⌝ }
+    ensures { λ r. ⌜ (r ≡ at + length (given places)) × (after out ≡ take at (given out) ++ over (given places) (drop at (given out))) ⌝ }
 {
     let mut c: usize = 0;
     while c < places.len() {
@@ -175,7 +175,8 @@ fn plan_walk(
     out_idx: &mut [usize],
 ) -> Counts
     requires { ⌜ Walkable (now offsets) (now ends) (now places) × Paired (now ends) (now values) (now places) (now current) (now shown) × (length (now ends) ≤ length (now «out_ends»)) × (length (now ends) * (length (now offsets) - 1) ≤ length (now «out_idx»)) ⌝ }
-    ensures { λ r. ⌜ PlanManyFilled (segments (map (map magnitude) (parts (now (offsets .entry)) (now (ends .entry))))) (now («out_ends» .entry)) (now («out_ends» .exit)) (now («out_idx» .entry)) (now («out_idx» .exit)) r ⌝ }
+    ensures { λ r. ⌜ PlanManyFilled (segments (map (map magnitude) (parts (given offsets) (given ends))))
+        (given «out_ends») (after «out_ends») (given «out_idx») (after «out_idx») r ⌝ }
 {
     let mut n: usize = 0;
     let mut m: usize = 0;
@@ -201,7 +202,8 @@ pub fn plan_many(
     out_idx: &mut [usize],
 ) -> Counts
     requires { ⌜ Plannable (now offsets) (now ends) (now values) (now «out_ends») (now «out_idx») ⌝ }
-    ensures { λ r. ⌜ PlanManyFilled (segments (map (map magnitude) (parts (now (offsets .entry)) (now (ends .entry))))) (now («out_ends» .entry)) (now («out_ends» .exit)) (now («out_idx» .entry)) (now («out_idx» .exit)) r ⌝ }
+    ensures { λ r. ⌜ PlanManyFilled (segments (map (map magnitude) (parts (given offsets) (given ends))))
+        (given «out_ends») (after «out_ends») (given «out_idx») (after «out_idx») r ⌝ }
 {
     let k = offsets.len() - 1;
     let mut places = [0usize; rle::Rle::MAX_COLUMNS];

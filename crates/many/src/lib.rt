@@ -8,9 +8,10 @@ ghost use mathlib.Core.List.{[], _∷_};
 ghost use mathlib.Core.Path.{_≡_};
 ghost use lib.ListN.{length};
 ghost use Rattle.column.specs.Asking.{shownAsked};
-ghost use Rattle.column.specs.Flat.{flat};
+ghost use Rattle.column.specs.Flat.{givenFlat};
 ghost use Rattle.many.specs.Calls.{WritesPlanMany};
 ghost use Rattle.many.specs.Calls as calls;
+ghost use Rattle.column.specs.Lent.{given};
 
 // The answer of `plan_many`: how many segments, and how many indexes, one for each column of each.
 pub enum PlannedMany {
@@ -20,7 +21,7 @@ pub enum PlannedMany {
 
 // How many columns there are: one less than offsets.
 pub fn columns(offsets: &[usize]) -> usize
-    ensures { λ r. ⌜ r ≡ length (now (offsets .entry)) - 1 ⌝ }
+    ensures { λ r. ⌜ r ≡ length (given offsets) - 1 ⌝ }
 {
     let n = offsets.len();
     if n == 0 { 0 } else { n - 1 }
@@ -34,7 +35,8 @@ fn plan_many_asks(
     out_ends: usize,
     out_idx: usize,
 ) -> Asked
-    ensures { λ r. ⌜ («out_idx» < 2 ^ 64 - 1 → shownAsked r ≡ calls.planManyAsked (flat (now (offsets .entry)) (now (ends .entry)) (now (values .entry))) («out_ends» ∷ «out_idx» ∷ [])) ⌝ }
+    ensures { λ r.
+        ⌜ («out_idx» < 2 ^ 64 - 1 → shownAsked r ≡ calls.planManyAsked (givenFlat offsets ends values) («out_ends» ∷ «out_idx» ∷ [])) ⌝ }
 {
     let k = columns(offsets);
     let room = questions::first_no(
@@ -54,9 +56,7 @@ pub fn plan_many(
     out_ends: &mut [i64],
     out_idx: &mut [usize],
 ) -> PlannedMany
-    ensures { λ r. ⌜ WritesPlanMany
-        (calls.planMany (flat (now (offsets .entry)) (now (ends .entry)) (now (values .entry))) (length (now («out_ends» .entry)) ∷ length (now («out_idx» .entry)) ∷ [])) r
-        (now («out_ends» .entry)) (now («out_ends» .exit)) (now («out_idx» .entry)) (now («out_idx» .exit)) ⌝ }
+    ensures { λ r. ⌜ WritesPlanMany (calls.planMany (givenFlat offsets ends values)) «out_ends» «out_idx» r ⌝ }
 {
     let asked = plan_many_asks(offsets, ends, values, out_ends.len(), out_idx.len());
     match asked {

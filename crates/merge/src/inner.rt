@@ -6,13 +6,13 @@ ghost use mathlib.Core.Option.{none};
 ghost use mathlib.Core.Path.{_≡_};
 ghost use lib.ListN.{length};
 ghost use Rattle.column.specs.Questions.{endsValid};
-ghost use Rattle.column.specs.Runs.{runsOf, dense, encode, Filled};
+ghost use Rattle.column.specs.Runs.{runsOf, dense, encode, Fills};
+ghost use Rattle.column.specs.Lent.{given};
 
 // The runs of a sequence, merged.
 pub fn merged(ends: &[i64], values: &[i64], out_ends: &mut [i64], out_values: &mut [i64]) -> usize
     requires { ⌜ (endsValid (now ends) ≡ none) × (length (now ends) ≡ length (now values)) × (length (now ends) ≤ length (now «out_ends»)) × (length (now ends) ≤ length (now «out_values»)) ⌝ }
-    ensures { λ r. ⌜ Filled (encode (dense (runsOf (now (ends .entry)) (now (values .entry)))))
-        (now («out_ends» .entry)) (now («out_ends» .exit)) (now («out_values» .entry)) (now («out_values» .exit)) r ⌝ }
+    ensures { λ r. ⌜ Fills (encode (dense (runsOf (given ends) (given values)))) «out_ends» «out_values» r ⌝ }
 {
     if sequence::length(ends) <= 0 {
         return 0;

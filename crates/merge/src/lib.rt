@@ -2,17 +2,13 @@ pub mod inner;
 
 use column::answer::Asked;
 use column::answer::Counted;
-ghost use mathlib.Core.List.{[], _∷_};
-ghost use lib.ListN.{length};
 ghost use Rattle.column.specs.Paper.{WritesRuns};
-ghost use Rattle.column.specs.Runs.{sequence};
+ghost use Rattle.column.specs.Runs.{givenSequence};
 ghost use Rattle.merge.specs.Calls as calls;
 
 // A sequence with neighbouring runs of one value made one run.
 pub fn merged(ends: &[i64], values: &[i64], out_ends: &mut [i64], out_values: &mut [i64]) -> Counted
-    ensures { λ r. ⌜ WritesRuns
-        (calls.merged (sequence (now (ends .entry)) (now (values .entry))) (length (now («out_ends» .entry)) ∷ length (now («out_values» .entry)) ∷ [])) r
-        (now («out_ends» .entry)) (now («out_ends» .exit)) (now («out_values» .entry)) (now («out_values» .exit)) ⌝ }
+    ensures { λ r. ⌜ WritesRuns (calls.merged (givenSequence ends values)) «out_ends» «out_values» r ⌝ }
 {
     let asked = questions::ask_sequence_into(
         ends,
@@ -32,9 +28,7 @@ pub fn merged(ends: &[i64], values: &[i64], out_ends: &mut [i64], out_values: &m
 
 // The same: the Rust's has its result in place of the sequence.
 pub fn merge(ends: &[i64], values: &[i64], out_ends: &mut [i64], out_values: &mut [i64]) -> Counted
-    ensures { λ r. ⌜ WritesRuns
-        (calls.merged (sequence (now (ends .entry)) (now (values .entry))) (length (now («out_ends» .entry)) ∷ length (now («out_values» .entry)) ∷ [])) r
-        (now («out_ends» .entry)) (now («out_ends» .exit)) (now («out_values» .entry)) (now («out_values» .exit)) ⌝ }
+    ensures { λ r. ⌜ WritesRuns (calls.merged (givenSequence ends values)) «out_ends» «out_values» r ⌝ }
 {
     merged(ends, values, out_ends, out_values)
 }

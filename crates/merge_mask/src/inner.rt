@@ -2,9 +2,10 @@
 ghost use Prim.Native.Nat.{_+_, _-_, _≤_, _<_, _^_};
 ghost use mathlib.Core.Path.{_≡_};
 ghost use lib.ListN.{length};
-ghost use Rattle.column.specs.Runs.{runsOf, Filled};
+ghost use Rattle.column.specs.Runs.{runsOf, Fills};
 ghost use Rattle.merge_mask.specs.Calls.{maskRuns, neighbours};
 ghost use Rattle.merge_mask.specs.Workers.{placeAfter, keptAfter, Writable, WroteRun, Mergeable};
+ghost use Rattle.column.specs.Lent.{given, after};
 
 // The group that is being written: its place, and the run whose value it keeps.
 pub struct GroupWriter {
@@ -43,8 +44,8 @@ fn write_run(
     out_values: &mut [i64],
 ) -> GroupWriter
     requires { ⌜ Writable writer joins (now ends) (now values) run (now «out_ends») (now «out_values») ⌝ }
-    ensures { λ r. ⌜ WroteRun writer joins last (now (ends .entry)) (now (values .entry)) run
-        (now («out_ends» .entry)) (now («out_ends» .exit)) (now («out_values» .entry)) (now («out_values» .exit)) r ⌝ }
+    ensures { λ r. ⌜ WroteRun writer
+        joins last (given ends) (given values) run (given «out_ends») (after «out_ends») (given «out_values») (after «out_values») r ⌝ }
 {
     let at = place_after(writer.at, joins);
     let kept = kept_after(writer.kept, joins, last, run);
@@ -65,8 +66,7 @@ pub fn merge_mask(
     out_values: &mut [i64],
 ) -> usize
     requires { ⌜ Mergeable (now ends) (now values) (now «out_ends») (now «out_values») × (length (now mask) ≡ length (now ends) - 1) ⌝ }
-    ensures { λ r. ⌜ Filled (maskRuns keep (now (mask .entry)) (runsOf (now (ends .entry)) (now (values .entry))))
-        (now («out_ends» .entry)) (now («out_ends» .exit)) (now («out_values» .entry)) (now («out_values» .exit)) r ⌝ }
+    ensures { λ r. ⌜ Fills (maskRuns keep (given mask) (runsOf (given ends) (given values))) «out_ends» «out_values» r ⌝ }
 {
     if ends.len() == 0 {
         return 0;
@@ -92,8 +92,7 @@ pub fn merge_by(
     out_values: &mut [i64],
 ) -> usize
     requires { ⌜ Mergeable (now ends) (now values) (now «out_ends») (now «out_values») × (7 ≤ code) × (code ≤ 8) ⌝ }
-    ensures { λ r. ⌜ Filled (maskRuns 0 (neighbours code (now (values .entry))) (runsOf (now (ends .entry)) (now (values .entry))))
-        (now («out_ends» .entry)) (now («out_ends» .exit)) (now («out_values» .entry)) (now («out_values» .exit)) r ⌝ }
+    ensures { λ r. ⌜ Fills (maskRuns 0 (neighbours code (given values)) (runsOf (given ends) (given values))) «out_ends» «out_values» r ⌝ }
 {
     if ends.len() == 0 {
         return 0;

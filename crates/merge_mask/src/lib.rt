@@ -4,15 +4,15 @@ use column::answer::Asked;
 use column::answer::Counted;
 ghost use mathlib.Core.List.{[], _∷_};
 ghost use mathlib.Core.Path.{_≡_};
-ghost use lib.ListN.{length};
 ghost use Rattle.column.specs.Asking.{shownAsked};
 ghost use Rattle.column.specs.Paper.{WritesRuns};
-ghost use Rattle.column.specs.Runs.{sequence};
+ghost use Rattle.column.specs.Runs.{givenSequence};
 ghost use Rattle.merge_mask.specs.Calls as calls;
+ghost use Rattle.column.specs.Lent.{given};
 
 // What 6 of 2.
 pub fn ask_mask_length(mask: &[u8], ends: &[i64]) -> Asked
-    ensures { λ r. ⌜ shownAsked r ≡ calls.maskAgrees (now (mask .entry)) (now (ends .entry)) ⌝ }
+    ensures { λ r. ⌜ shownAsked r ≡ calls.maskAgrees (given mask) (given ends) ⌝ }
 {
     if ends.len() == 0 {
         questions::ask_lengths(6, mask.len(), 0)
@@ -29,7 +29,7 @@ fn merge_mask_asks(
     out_ends: usize,
     out_values: usize,
 ) -> Asked
-    ensures { λ r. ⌜ shownAsked r ≡ calls.mergeMaskAsked (sequence (now (ends .entry)) (now (values .entry))) (now (mask .entry)) keep («out_ends» ∷ «out_values» ∷ []) ⌝ }
+    ensures { λ r. ⌜ shownAsked r ≡ calls.mergeMaskAsked (givenSequence ends values) (given mask) keep («out_ends» ∷ «out_values» ∷ []) ⌝ }
 {
     let room = questions::ask_both(ends.len(), out_ends, out_values);
     let valid = questions::first_no(questions::ask_ends(ends), room);
@@ -48,9 +48,7 @@ pub fn merge_mask(
     out_ends: &mut [i64],
     out_values: &mut [i64],
 ) -> Counted
-    ensures { λ r. ⌜ WritesRuns
-        (calls.mergeMask (sequence (now (ends .entry)) (now (values .entry))) (now (mask .entry)) keep (length (now («out_ends» .entry)) ∷ length (now («out_values» .entry)) ∷ [])) r
-        (now («out_ends» .entry)) (now («out_ends» .exit)) (now («out_values» .entry)) (now («out_values» .exit)) ⌝ }
+    ensures { λ r. ⌜ WritesRuns (calls.mergeMask (givenSequence ends values) (given mask) keep) «out_ends» «out_values» r ⌝ }
 {
     let asked = merge_mask_asks(ends, values, mask, keep, out_ends.len(), out_values.len());
     match asked {
@@ -69,7 +67,7 @@ fn merge_by_asks(
     out_ends: usize,
     out_values: usize,
 ) -> Asked
-    ensures { λ r. ⌜ shownAsked r ≡ calls.mergeByAsked (sequence (now (ends .entry)) (now (values .entry))) code («out_ends» ∷ «out_values» ∷ []) ⌝ }
+    ensures { λ r. ⌜ shownAsked r ≡ calls.mergeByAsked (givenSequence ends values) code («out_ends» ∷ «out_values» ∷ []) ⌝ }
 {
     questions::first_no(
         questions::ask_code(7, 8, code),
@@ -85,9 +83,7 @@ pub fn merge_by(
     out_ends: &mut [i64],
     out_values: &mut [i64],
 ) -> Counted
-    ensures { λ r. ⌜ WritesRuns
-        (calls.mergeBy (sequence (now (ends .entry)) (now (values .entry))) code (length (now («out_ends» .entry)) ∷ length (now («out_values» .entry)) ∷ [])) r
-        (now («out_ends» .entry)) (now («out_ends» .exit)) (now («out_values» .entry)) (now («out_values» .exit)) ⌝ }
+    ensures { λ r. ⌜ WritesRuns (calls.mergeBy (givenSequence ends values) code) «out_ends» «out_values» r ⌝ }
 {
     let asked = merge_by_asks(ends, values, code, out_ends.len(), out_values.len());
     match asked {

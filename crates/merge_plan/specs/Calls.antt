@@ -9,6 +9,7 @@ use Rattle.column.specs.Paper.{Outcome, shownCounted, counts, written}
 use Rattle.column.specs.Questions.{maskListed, offsetsRise, lastOffset, endsValid, room}
 use Rattle.column.specs.declared.answer.Counted.{Counted}
 use Rattle.merge_mask.specs.Calls.{Group, groups, maskAgrees}
+use Rattle.column.specs.Lent.{Lent, given, after}
 
 -- "n entries; offsets n + 1"; it takes ends alone
 unfoldable pub mergePlanAsked : List ℤ → List ℕ → List ℕ → Question
@@ -29,10 +30,15 @@ abbrev pub groupOffsets : List (Group ℤ) → List ℕ
 groupOffsets gs = 0 ∷ pastEach 0 gs
 
 -- the promise: how many groups, their ends and their offsets, each buffer before and after
-pub record WritesGroups (o : Outcome (List (Group ℤ))) (r : Counted) (e e′ : List ℤ) (x x′ : List ℕ) : Type 0 where
+pub record WrittenGroups (o : Outcome (List (Group ℤ))) (r : Counted) (e e′ : List ℤ) (x x′ : List ℕ) : Type 0 where
   pub answer : shownCounted r ≡ counts length o
   pub ends : e′ ≡ written groupEnds o e
   pub offsets : x′ ≡ written groupOffsets o x
+
+-- of the buffers that a call is lent: question 12 is about their lengths
+abbrev pub WritesGroups : (List ℕ → Outcome (List (Group ℤ))) → Lent ℤ → Lent ℕ → Counted → Type 0
+WritesGroups call e x r =
+    WrittenGroups (call (length (given e) ∷ length (given x) ∷ [])) r (given e) (after e) (given x) (after x)
 
 -- the number of its group for each run, the groups from g on
 unfoldable pub idsFrom : ℕ → ℕ → List ℕ → List ℕ

@@ -9,11 +9,12 @@ ghost use Rattle.column.specs.Runs.{over};
 ghost use Rattle.merge_mask.specs.Calls.{groups};
 ghost use Rattle.merge_plan.specs.Calls.{idsAt};
 ghost use Rattle.merge_plan.specs.Workers.{Stored, Planned, PutIds, FilledIds};
+ghost use Rattle.column.specs.Lent.{given, after};
 
 // The end of a group, and one past its last run.
 fn write_group(out_ends: &mut [i64], out_offsets: &mut [usize], group: usize, end: i64, past: usize)
     requires { ⌜ (group < length (now «out_ends»)) × (group + 1 < length (now «out_offsets»)) ⌝ }
-    ensures { λ _. ⌜ Stored (now («out_ends» .entry)) (now («out_ends» .exit)) (now («out_offsets» .entry)) (now («out_offsets» .exit)) group end past ⌝ }
+    ensures { λ _. ⌜ Stored (given «out_ends») (after «out_ends») (given «out_offsets») (after «out_offsets») group end past ⌝ }
 {
     out_ends[group] = end;
     out_offsets[group + 1] = past;
@@ -27,8 +28,8 @@ pub fn merge_plan(
     out_offsets: &mut [usize],
 ) -> usize
     requires { ⌜ (length (now mask) ≡ length (now ends) - 1) × (length (now ends) ≤ length (now «out_ends»)) × (length (now ends) + 1 ≤ length (now «out_offsets»)) ⌝ }
-    ensures { λ r. ⌜ Planned (groups (now (ends .entry)) (now (mask .entry)))
-        (now («out_ends» .entry)) (now («out_ends» .exit)) (now («out_offsets» .entry)) (now («out_offsets» .exit)) r ⌝ }
+    ensures { λ r.
+        ⌜ Planned (groups (given ends) (given mask)) (given «out_ends») (after «out_ends») (given «out_offsets») (after «out_offsets») r ⌝ }
 {
     out_offsets[0] = 0;
     if ends.len() == 0 {
@@ -54,7 +55,7 @@ const BLOCK: usize = 4;
 // again by the groups that follow.
 fn put_ids(out: &mut [usize], at: usize, limit: usize, id: usize) -> usize
     requires { ⌜ (at < limit) × (limit ≤ length (now out)) ⌝ }
-    ensures { λ r. ⌜ PutIds (now (out .entry)) (now (out .exit)) at limit id r ⌝ }
+    ensures { λ r. ⌜ PutIds (given out) (after out) at limit id r ⌝ }
 {
     if limit - at < BLOCK {
         out[at] = id;
@@ -70,7 +71,7 @@ fn put_ids(out: &mut [usize], at: usize, limit: usize, id: usize) -> usize
 // A short group, with hardly a branch on its length.
 fn fill_short(out: &mut [usize], from: usize, to: usize, limit: usize, id: usize)
     requires { ⌜ (from ≤ to) × (to ≤ limit) × (limit ≤ length (now out)) ⌝ }
-    ensures { λ _. ⌜ FilledIds (now (out .entry)) (now (out .exit)) from to limit id ⌝ }
+    ensures { λ _. ⌜ FilledIds (given out) (after out) from to limit id ⌝ }
 {
     let mut i = from;
     while i < to {
@@ -81,7 +82,7 @@ fn fill_short(out: &mut [usize], from: usize, to: usize, limit: usize, id: usize
 // A long group, by a loop that becomes vector instructions.
 fn fill_long(out: &mut [usize], from: usize, to: usize, limit: usize, id: usize)
     requires { ⌜ (from ≤ to) × (to ≤ limit) × (limit ≤ length (now out)) ⌝ }
-    ensures { λ _. ⌜ FilledIds (now (out .entry)) (now (out .exit)) from to limit id ⌝ }
+    ensures { λ _. ⌜ FilledIds (given out) (after out) from to limit id ⌝ }
 {
     let mut i = from;
     while i < to {
@@ -92,7 +93,7 @@ fn fill_long(out: &mut [usize], from: usize, to: usize, limit: usize, id: usize)
 
 fn fill_group(out: &mut [usize], from: usize, to: usize, limit: usize, id: usize)
     requires { ⌜ (from ≤ to) × (to ≤ limit) × (limit ≤ length (now out)) ⌝ }
-    ensures { λ _. ⌜ FilledIds (now (out .entry)) (now (out .exit)) from to limit id ⌝ }
+    ensures { λ _. ⌜ FilledIds (given out) (after out) from to limit id ⌝ }
 {
     if to - from <= 2 * BLOCK {
         fill_short(out, from, to, limit, id);
@@ -104,7 +105,7 @@ fn fill_group(out: &mut [usize], from: usize, to: usize, limit: usize, id: usize
 // The group of each run, group by group.
 pub fn group_ids(offsets: &[usize], out_ids: &mut [usize]) -> usize
     requires { ⌜ (startAndRise (now offsets) ≡ true) × (lastOffset 0 (now offsets) ≤ length (now «out_ids»)) ⌝ }
-    ensures { λ r. ⌜ (r ≡ length (idsAt (now (offsets .entry)))) × (now («out_ids» .exit) ≡ over (idsAt (now (offsets .entry))) (now («out_ids» .entry))) ⌝ }
+    ensures { λ r. ⌜ (r ≡ length (idsAt (given offsets))) × (after «out_ids» ≡ over (idsAt (given offsets)) (given «out_ids»)) ⌝ }
 {
     let limit = questions::last_offset(offsets);
     let mut from: usize = 0;

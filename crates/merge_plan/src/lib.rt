@@ -4,14 +4,14 @@ use column::answer::Asked;
 use column::answer::Counted;
 ghost use mathlib.Core.List.{[], _∷_};
 ghost use mathlib.Core.Path.{_≡_};
-ghost use lib.ListN.{length};
 ghost use Rattle.column.specs.Asking.{shownAsked};
 ghost use Rattle.column.specs.Paper.{WritesEntries};
 ghost use Rattle.merge_plan.specs.Calls.{WritesGroups};
 ghost use Rattle.merge_plan.specs.Calls as calls;
+ghost use Rattle.column.specs.Lent.{given};
 
 fn merge_plan_asks(ends: &[i64], mask: &[u8], out_ends: usize, out_offsets: usize) -> Asked
-    ensures { λ r. ⌜ shownAsked r ≡ calls.mergePlanAsked (now (ends .entry)) (now (mask .entry)) («out_ends» ∷ «out_offsets» ∷ []) ⌝ }
+    ensures { λ r. ⌜ shownAsked r ≡ calls.mergePlanAsked (given ends) (given mask) («out_ends» ∷ «out_offsets» ∷ []) ⌝ }
 {
     let room = questions::first_no(
         questions::ask_room(0, ends.len(), out_ends),
@@ -29,9 +29,7 @@ pub fn merge_plan(
     out_ends: &mut [i64],
     out_offsets: &mut [usize],
 ) -> Counted
-    ensures { λ r. ⌜ WritesGroups
-        (calls.mergePlan (now (ends .entry)) (now (mask .entry)) (length (now («out_ends» .entry)) ∷ length (now («out_offsets» .entry)) ∷ [])) r
-        (now («out_ends» .entry)) (now («out_ends» .exit)) (now («out_offsets» .entry)) (now («out_offsets» .exit)) ⌝ }
+    ensures { λ r. ⌜ WritesGroups (calls.mergePlan (given ends) (given mask)) «out_ends» «out_offsets» r ⌝ }
 {
     let asked = merge_plan_asks(ends, mask, out_ends.len(), out_offsets.len());
     match asked {
@@ -44,7 +42,7 @@ pub fn merge_plan(
 }
 
 fn group_ids_asks(offsets: &[usize], out_ids: usize) -> Asked
-    ensures { λ r. ⌜ shownAsked r ≡ calls.groupIdsAsked (now (offsets .entry)) («out_ids» ∷ []) ⌝ }
+    ensures { λ r. ⌜ shownAsked r ≡ calls.groupIdsAsked (given offsets) («out_ids» ∷ []) ⌝ }
 {
     questions::first_no(
         questions::ask_offsets_rise(offsets),
@@ -54,9 +52,7 @@ fn group_ids_asks(offsets: &[usize], out_ids: usize) -> Asked
 
 // The group of each run.
 pub fn group_ids(offsets: &[usize], out_ids: &mut [usize]) -> Counted
-    ensures { λ r. ⌜ WritesEntries
-        (calls.groupIds (now (offsets .entry)) (length (now («out_ids» .entry)) ∷ [])) r
-        (now («out_ids» .entry)) (now («out_ids» .exit)) ⌝ }
+    ensures { λ r. ⌜ WritesEntries (calls.groupIds (given offsets)) «out_ids» r ⌝ }
 {
     let asked = group_ids_asks(offsets, out_ids.len());
     match asked {

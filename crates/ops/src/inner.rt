@@ -2,16 +2,16 @@
 use column::inner::Writer;
 use column::sequence;
 use plan::inner::Segments;
-ghost use Prim.Native.Nat.{_+_};
 ghost use mathlib.Core.Path.{_≡_};
 ghost use lib.ListN.{getD};
 ghost use Rattle.num.specs.Numbers.{operation};
 ghost use Rattle.column.specs.declared.answer.Fill.the-variants.{Value};
 ghost use Rattle.column.specs.Combine.{combined};
-ghost use Rattle.column.specs.Runs.{sequence, Filled};
+ghost use Rattle.column.specs.Runs.{sequence, givenSequence, Fills};
 ghost use Rattle.plan.specs.Calls.{segmentRuns};
 ghost use Rattle.ops.specs.Calls.{sides};
 ghost use Rattle.ops.specs.Workers.{Zippable};
+ghost use Rattle.column.specs.Lent.{given};
 
 // What two columns show together at a run of each, the fill standing where there is none.
 fn shown_at(
@@ -23,7 +23,7 @@ fn shown_at(
     j: usize,
     fill_b: i64,
 ) -> i64
-    ensures { λ r. ⌜ r ≡ operation code (getD (now («a_values» .entry)) i «fill_a») (getD (now («b_values» .entry)) j «fill_b») ⌝ }
+    ensures { λ r. ⌜ r ≡ operation code (getD (given «a_values») i «fill_a») (getD (given «b_values») j «fill_b») ⌝ }
 {
     let x = sequence::entry_or(a_values, i, fill_a);
     let y = sequence::entry_or(b_values, j, fill_b);
@@ -42,9 +42,10 @@ pub fn zip_with(
     out_values: &mut [i64],
 ) -> usize
     requires { ⌜ Zippable (sequence (now «a_ends») (now «a_values»)) (sequence (now «b_ends») (now «b_values»)) (now «out_ends») (now «out_values») ⌝ }
-    ensures { λ r. ⌜ Filled
-        (combined (operation code) (sides (sequence (now («a_ends» .entry)) (now («a_values» .entry))) (sequence (now («b_ends» .entry)) (now («b_values» .entry))) (Value «fill_a») (Value «fill_b»)))
-        (now («out_ends» .entry)) (now («out_ends» .exit)) (now («out_values» .entry)) (now («out_values» .exit)) r ⌝ }
+    ensures { λ r. ⌜ Fills
+        (combined (operation code)
+        (sides (givenSequence «a_ends» «a_values») (givenSequence «b_ends» «b_values») (Value «fill_a») (Value «fill_b»)))
+        «out_ends» «out_values» r ⌝ }
 {
     let total = a_ends.len() + b_ends.len();
     if total == 0 {
@@ -83,9 +84,10 @@ pub fn zip_with_raw(
     out_values: &mut [i64],
 ) -> usize
     requires { ⌜ Zippable (sequence (now «a_ends») (now «a_values»)) (sequence (now «b_ends») (now «b_values»)) (now «out_ends») (now «out_values») ⌝ }
-    ensures { λ r. ⌜ Filled
-        (segmentRuns (operation code) (sides (sequence (now («a_ends» .entry)) (now («a_values» .entry))) (sequence (now («b_ends» .entry)) (now («b_values» .entry))) (Value «fill_a») (Value «fill_b»)))
-        (now («out_ends» .entry)) (now («out_ends» .exit)) (now («out_values» .entry)) (now («out_values» .exit)) r ⌝ }
+    ensures { λ r. ⌜ Fills
+        (segmentRuns (operation code)
+        (sides (givenSequence «a_ends» «a_values») (givenSequence «b_ends» «b_values») (Value «fill_a») (Value «fill_b»)))
+        «out_ends» «out_values» r ⌝ }
 {
     let mut n: usize = 0;
     let mut here = Segments::start(a_ends, b_ends);

@@ -6,10 +6,9 @@ use column::answer::Fill;
 use column::sequence;
 ghost use mathlib.Core.List.{[], _∷_};
 ghost use mathlib.Core.Path.{_≡_};
-ghost use lib.ListN.{length};
 ghost use Rattle.column.specs.Asking.{shownAsked};
 ghost use Rattle.column.specs.Paper.{WritesRuns};
-ghost use Rattle.column.specs.Runs.{sequence};
+ghost use Rattle.column.specs.Runs.{givenSequence};
 ghost use Rattle.ops.specs.Calls as calls;
 
 fn zip_asks(
@@ -23,8 +22,8 @@ fn zip_asks(
     out_ends: usize,
     out_values: usize,
 ) -> Asked
-    ensures { λ r. ⌜ shownAsked r ≡ calls.zipAsked (sequence (now («a_ends» .entry)) (now («a_values» .entry))) (sequence (now («b_ends» .entry)) (now («b_values» .entry)))
-        «fill_a» «fill_b» code («out_ends» ∷ «out_values» ∷ []) ⌝ }
+    ensures { λ r. ⌜ shownAsked r ≡ calls.zipAsked
+        (givenSequence «a_ends» «a_values») (givenSequence «b_ends» «b_values») «fill_a» «fill_b» code («out_ends» ∷ «out_values» ∷ []) ⌝ }
 {
     let room = questions::ask_both(a_ends.len() + b_ends.len(), out_ends, out_values);
     let left = sequence::length(a_ends);
@@ -56,9 +55,8 @@ pub fn zip_with(
     out_values: &mut [i64],
 ) -> Counted
     ensures { λ r. ⌜ WritesRuns
-        (calls.zipWith (sequence (now («a_ends» .entry)) (now («a_values» .entry))) (sequence (now («b_ends» .entry)) (now («b_values» .entry)))
-        «fill_a» «fill_b» code (length (now («out_ends» .entry)) ∷ length (now («out_values» .entry)) ∷ [])) r
-        (now («out_ends» .entry)) (now («out_ends» .exit)) (now («out_values» .entry)) (now («out_values» .exit)) ⌝ }
+        (calls.zipWith (givenSequence «a_ends» «a_values») (givenSequence «b_ends» «b_values») «fill_a» «fill_b» code)
+        «out_ends» «out_values» r ⌝ }
 {
     let asked = zip_asks(
         a_ends,
@@ -103,9 +101,8 @@ pub fn zip_with_raw(
     out_values: &mut [i64],
 ) -> Counted
     ensures { λ r. ⌜ WritesRuns
-        (calls.zipWithRaw (sequence (now («a_ends» .entry)) (now («a_values» .entry))) (sequence (now («b_ends» .entry)) (now («b_values» .entry)))
-        «fill_a» «fill_b» code (length (now («out_ends» .entry)) ∷ length (now («out_values» .entry)) ∷ [])) r
-        (now («out_ends» .entry)) (now («out_ends» .exit)) (now («out_values» .entry)) (now («out_values» .exit)) ⌝ }
+        (calls.zipWithRaw (givenSequence «a_ends» «a_values») (givenSequence «b_ends» «b_values») «fill_a» «fill_b» code)
+        «out_ends» «out_values» r ⌝ }
 {
     let asked = zip_asks(
         a_ends,

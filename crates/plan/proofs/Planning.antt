@@ -12,7 +12,7 @@ use Rattle.column.specs.declared.error.Refusal.{Refusal}
 use Rattle.column.specs.Asking.{Question, _otherwise_}
 use Rattle.column.specs.Paper.{answers, paper}
 use Rattle.column.proofs.Buffer.{Written, write-start, write-next}
-use Rattle.plan.specs.Calls.{Segment, segmentsOf, WritesPlan}
+use Rattle.plan.specs.Calls.{Segment, segmentsOf, WrittenPlan}
 use Rattle.plan.specs.declared.inner.Segments.{Segments}
 use Rattle.plan.specs.Workers.{placesAt, Starts, Walks, PlanFilled}
 use Rattle.plan.proofs.Listing.{segmentAt}
@@ -60,9 +60,9 @@ module _ {a b e₀ : List ℤ} {x₀ y₀ : List ℕ} {e : List ℤ} {x y : List
 -- ---- what is promised
 
 pub plan-written : {q : Question} (ss : List Segment) {e e′ : List ℤ} {x x′ y y′ : List ℕ} {n : ℕ} → q ≡ none → PlanFilled ss e e′ x x′ y y′ n
-    → WritesPlan (q otherwise ss) (Counted.Count n) e e′ x x′ y y′
+    → WrittenPlan (q otherwise ss) (Counted.Count n) e e′ x x′ y y′
 plan-written ss h f = rw h (record { answer = ap answers (f .count); ends = f .ends; left = f .left; right = f .right })
 
 pub plan-refused : {q : Question} (ss : List Segment) {r : Refusal} {e : List ℤ} {x y : List ℕ} → q ≡ some (paper r)
-    → WritesPlan (q otherwise ss) (Counted.Refused r) e e x x y y
+    → WrittenPlan (q otherwise ss) (Counted.Refused r) e e x x y y
 plan-refused ss h = rw h (record { answer = refl; ends = refl; left = refl; right = refl })

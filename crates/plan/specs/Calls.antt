@@ -14,6 +14,7 @@ use Rattle.column.specs.Lists.{total}
 use Rattle.column.specs.Paper.{Outcome, shownCounted, counts, written}
 use Rattle.column.specs.Questions.{endsValid, room}
 use Rattle.column.specs.Runs.{Run, Runs, magnitude, valuesOf}
+use Rattle.column.specs.Lent.{Lent, given, after}
 
 -- where a column stands: the index of its current run, and the ends from it on
 pub record Place : Type 0 where
@@ -90,11 +91,16 @@ abbrev pub indexesOf : ℕ → List Segment → List ℕ
 indexesOf c ss = map (λ (s : Segment). getD (s .indexes) c 0) ss
 
 -- the promise: ends, indexes of the first column, indexes of the second, each buffer before and after
-pub record WritesPlan (o : Outcome (List Segment)) (r : Counted) (e e′ : List ℤ) (a a′ b b′ : List ℕ) : Type 0 where
+pub record WrittenPlan (o : Outcome (List Segment)) (r : Counted) (e e′ : List ℤ) (a a′ b b′ : List ℕ) : Type 0 where
   pub answer : shownCounted r ≡ counts length o
   pub ends : e′ ≡ written segmentEnds o e
   pub left : a′ ≡ written (indexesOf 0) o a
   pub right : b′ ≡ written (indexesOf 1) o b
+
+-- of the buffers that a call is lent: question 12 is about their lengths
+abbrev pub WritesPlan : (List ℕ → Outcome (List Segment)) → Lent ℤ → Lent ℕ → Lent ℕ → Counted → Type 0
+WritesPlan call e a b r =
+    WrittenPlan (call (length (given e) ∷ length (given a) ∷ length (given b) ∷ [])) r (given e) (after e) (given a) (after a) (given b) (after b)
 
 -- ---- a run for each segment
 

@@ -10,6 +10,7 @@ ghost use Rattle.column.specs.Questions.{endsValid};
 ghost use Rattle.column.specs.Runs.{magnitude};
 ghost use Rattle.plan.specs.Workers.{spent, EndAt, steppedCursor, Starts, Walkable, Walks, PlanFilled};
 ghost use Rattle.plan.specs.Calls.{segmentsOf};
+ghost use Rattle.column.specs.Lent.{given, after};
 
 // No end is as large: it stands where a column is spent.
 pub const SPENT: usize = usize::MAX;
@@ -35,7 +36,7 @@ pub struct Segment {
 // Where the run at an index ends.
 fn end_at(ends: &[i64], index: usize) -> usize
     requires { ⌜ endsValid (now ends) ≡ none ⌝ }
-    ensures { λ r. ⌜ EndAt (map magnitude (drop index (now (ends .entry)))) r ⌝ }
+    ensures { λ r. ⌜ EndAt (map magnitude (drop index (given ends))) r ⌝ }
 {
     if index < ends.len() {
         let end = ends[index];
@@ -73,7 +74,7 @@ fn stepped(here: Cursor, other: usize, behind: usize) -> Cursor
 impl Segments {
     pub fn start(a: &[i64], b: &[i64]) -> Segments
         requires { ⌜ (endsValid (now a) ≡ none) × (endsValid (now b) ≡ none) ⌝ }
-        ensures { λ r. ⌜ Starts (now (a .entry)) (now (b .entry)) r ⌝ }
+        ensures { λ r. ⌜ Starts (given a) (given b) r ⌝ }
     {
         Segments {
             a: Cursor {
@@ -98,7 +99,7 @@ impl Segments {
     // wait for them.
     pub fn next(self, a: &[i64], b: &[i64]) -> Segment
         requires { ⌜ Walkable (now a) (now b) self ⌝ }
-        ensures { λ r. ⌜ Walks (now (a .entry)) (now (b .entry)) self (r .end) (r .next) ⌝ }
+        ensures { λ r. ⌜ Walks (given a) (given b) self (r .end) (r .next) ⌝ }
     {
         let here_a = self.a;
         let here_b = self.b;
@@ -124,8 +125,8 @@ pub fn plan(
 ) -> usize
     requires { ⌜ (endsValid (now a) ≡ none) × (endsValid (now b) ≡ none)
         × (length (now a) + length (now b) ≤ length (now «out_ends»)) × (length (now a) + length (now b) ≤ length (now «out_idx_a»)) × (length (now a) + length (now b) ≤ length (now «out_idx_b»)) ⌝ }
-    ensures { λ r. ⌜ PlanFilled (segmentsOf (now (a .entry)) (now (b .entry)))
-        (now («out_ends» .entry)) (now («out_ends» .exit)) (now («out_idx_a» .entry)) (now («out_idx_a» .exit)) (now («out_idx_b» .entry)) (now («out_idx_b» .exit)) r ⌝ }
+    ensures { λ r. ⌜ PlanFilled (segmentsOf (given a) (given b))
+        (given «out_ends») (after «out_ends») (given «out_idx_a») (after «out_idx_a») (given «out_idx_b») (after «out_idx_b») r ⌝ }
 {
     let mut n: usize = 0;
     let mut here = Segments::start(a, b);

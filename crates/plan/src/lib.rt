@@ -2,16 +2,15 @@ pub mod inner;
 
 use column::answer::Asked;
 use column::answer::Counted;
-ghost use Prim.Native.Nat.{_+_};
 ghost use mathlib.Core.List.{[], _∷_};
 ghost use mathlib.Core.Path.{_≡_};
-ghost use lib.ListN.{length};
 ghost use Rattle.column.specs.Asking.{shownAsked};
 ghost use Rattle.plan.specs.Calls.{WritesPlan};
 ghost use Rattle.plan.specs.Calls as calls;
+ghost use Rattle.column.specs.Lent.{given};
 
 fn plan_asks(a: &[i64], b: &[i64], out_ends: usize, out_idx_a: usize, out_idx_b: usize) -> Asked
-    ensures { λ r. ⌜ shownAsked r ≡ calls.planAsked (now (a .entry)) (now (b .entry)) («out_ends» ∷ «out_idx_a» ∷ «out_idx_b» ∷ []) ⌝ }
+    ensures { λ r. ⌜ shownAsked r ≡ calls.planAsked (given a) (given b) («out_ends» ∷ «out_idx_a» ∷ «out_idx_b» ∷ []) ⌝ }
 {
     let needed = a.len() + b.len();
     let last = questions::first_no(
@@ -32,9 +31,7 @@ pub fn plan(
     out_idx_a: &mut [usize],
     out_idx_b: &mut [usize],
 ) -> Counted
-    ensures { λ r. ⌜ WritesPlan
-        (calls.plan (now (a .entry)) (now (b .entry)) (length (now («out_ends» .entry)) ∷ length (now («out_idx_a» .entry)) ∷ length (now («out_idx_b» .entry)) ∷ [])) r
-        (now («out_ends» .entry)) (now («out_ends» .exit)) (now («out_idx_a» .entry)) (now («out_idx_a» .exit)) (now («out_idx_b» .entry)) (now («out_idx_b» .exit)) ⌝ }
+    ensures { λ r. ⌜ WritesPlan (calls.plan (given a) (given b)) «out_ends» «out_idx_a» «out_idx_b» r ⌝ }
 {
     let asked = plan_asks(a, b, out_ends.len(), out_idx_a.len(), out_idx_b.len());
     match asked {

@@ -13,11 +13,12 @@ ghost use mathlib.Core.Path.{_≡_};
 ghost use lib.ListN.{drop};
 ghost use lib.Signed.{ltZ};
 ghost use Rattle.column.specs.Asking.{shownAsked, refusal, firstNo, inKey};
-ghost use Rattle.column.specs.Flat.{flat, flatAsked};
+ghost use Rattle.column.specs.Flat.{flatAsked, givenFlat};
 ghost use Rattle.column.specs.Paper.{numberOf, shownBy};
 ghost use Rattle.column.specs.Questions.{listed, maskListed, agree, paired, usedWithin, startAndRise, lastOffset, offsetsRise, offsetsValid, endsFrom, endsValid, sequencesValid, atMost, notNegative, fits, runByRun, intervals, side, isMissing, filled, longEnough, roomAt, room, both, sequenceAsked};
-ghost use Rattle.column.specs.Runs.{sequence, magnitude};
+ghost use Rattle.column.specs.Runs.{magnitude, givenSequence};
 ghost use Rattle.questions.specs.Workers.{endsFromQuarters};
+ghost use Rattle.column.specs.Lent.{given};
 
 // The first length that does not fit i64.
 const LIMIT: usize = 0x8000_0000_0000_0000;
@@ -55,7 +56,7 @@ pub fn ask_code(low: u8, high: u8, code: u8) -> Asked
 }
 
 pub fn ask_mask(mask: &[u8]) -> Asked
-    ensures { λ r. ⌜ shownAsked r ≡ maskListed (now (mask .entry)) ⌝ }
+    ensures { λ r. ⌜ shownAsked r ≡ maskListed (given mask) ⌝ }
 {
     let i = mask::first_unlisted(mask);
     if i < mask.len() {
@@ -94,7 +95,7 @@ pub fn ask_used(used: usize, ends: usize, values: usize) -> Asked
 
 // 3
 fn start_and_rise(offsets: &[usize]) -> bool
-    ensures { λ r. ⌜ r ≡ startAndRise (now (offsets .entry)) ⌝ }
+    ensures { λ r. ⌜ r ≡ startAndRise (given offsets) ⌝ }
 {
     if offsets.len() == 0 {
         return false;
@@ -117,14 +118,14 @@ fn start_and_rise(offsets: &[usize]) -> bool
 
 // The last offset, or 0.
 pub fn last_offset(offsets: &[usize]) -> usize
-    ensures { λ r. ⌜ r ≡ lastOffset 0 (now (offsets .entry)) ⌝ }
+    ensures { λ r. ⌜ r ≡ lastOffset 0 (given offsets) ⌝ }
 {
     let n = offsets.len();
     if n == 0 { 0 } else { offsets[n - 1] }
 }
 
 pub fn ask_offsets_rise(offsets: &[usize]) -> Asked
-    ensures { λ r. ⌜ shownAsked r ≡ offsetsRise (now (offsets .entry)) ⌝ }
+    ensures { λ r. ⌜ shownAsked r ≡ offsetsRise (given offsets) ⌝ }
 {
     if start_and_rise(offsets) {
         Asked::Yes
@@ -134,7 +135,7 @@ pub fn ask_offsets_rise(offsets: &[usize]) -> Asked
 }
 
 pub fn ask_offsets(offsets: &[usize], ends: usize) -> Asked
-    ensures { λ r. ⌜ shownAsked r ≡ offsetsValid (now (offsets .entry)) ends ⌝ }
+    ensures { λ r. ⌜ shownAsked r ≡ offsetsValid (given offsets) ends ⌝ }
 {
     if !start_and_rise(offsets) {
         return no(Error::InvalidOffsets);
@@ -148,7 +149,7 @@ pub fn ask_offsets(offsets: &[usize], ends: usize) -> Asked
 
 // 4, end by end from an index on; `first` is the end before it.
 fn ask_ends_from(ends: &[i64], from: usize, first: i64) -> Asked
-    ensures { λ r. ⌜ shownAsked r ≡ endsFrom from first (drop from (now (ends .entry))) ⌝ }
+    ensures { λ r. ⌜ shownAsked r ≡ endsFrom from first (drop from (given ends)) ⌝ }
 {
     let mut before = first;
     let mut i = from;
@@ -166,7 +167,7 @@ fn ask_ends_from(ends: &[i64], from: usize, first: i64) -> Asked
 // Whether each end in four quarters is above the one before. The quarters are read side by side: far memory brings four of them in little
 // more time than one.
 fn quarters_rise(ends: &[i64]) -> bool
-    ensures { λ r. ⌜ (r ≡ true → endsValid (now (ends .entry)) ≡ endsFromQuarters (now (ends .entry))) ⌝ }
+    ensures { λ r. ⌜ (r ≡ true → endsValid (given ends) ≡ endsFromQuarters (given ends)) ⌝ }
 {
     let quarter = ends.len() / 4;
     let mut first: i64 = 0;
@@ -202,7 +203,7 @@ fn quarters_rise(ends: &[i64]) -> bool
 
 // 4
 pub fn ask_ends(ends: &[i64]) -> Asked
-    ensures { λ r. ⌜ shownAsked r ≡ endsValid (now (ends .entry)) ⌝ }
+    ensures { λ r. ⌜ shownAsked r ≡ endsValid (given ends) ⌝ }
 {
     if quarters_rise(ends) {
         let seen = ends.len() / 4 * 4;
@@ -214,7 +215,7 @@ pub fn ask_ends(ends: &[i64]) -> Asked
 
 // What 3 of 2, and 4, of one sequence.
 pub fn ask_sequence(ends: &[i64], values: &[i64]) -> Asked
-    ensures { λ r. ⌜ shownAsked r ≡ firstNo (paired (sequence (now (ends .entry)) (now (values .entry))) ∷ endsValid (now (ends .entry)) ∷ []) ⌝ }
+    ensures { λ r. ⌜ shownAsked r ≡ firstNo (paired (givenSequence ends values) ∷ endsValid (given ends) ∷ []) ⌝ }
 {
     first_no(ask_lengths(3, ends.len(), values.len()), ask_ends(ends))
 }
@@ -237,7 +238,7 @@ pub fn in_key(asked: Asked, position: usize) -> Asked
 
 // 4, of sequences laid flat.
 pub fn ask_sequences(offsets: &[usize], ends: &[i64]) -> Asked
-    ensures { λ r. ⌜ shownAsked r ≡ sequencesValid (now (offsets .entry)) (now (ends .entry)) ⌝ }
+    ensures { λ r. ⌜ shownAsked r ≡ sequencesValid (given offsets) (given ends) ⌝ }
 {
     let mut k = 0;
     while k + 1 < offsets.len() {
@@ -255,7 +256,7 @@ pub fn ask_sequences(offsets: &[usize], ends: &[i64]) -> Asked
 
 // What 3 of 2, 3 and 4, of sequences laid flat.
 pub fn ask_flat(offsets: &[usize], ends: &[i64], values: &[i64]) -> Asked
-    ensures { λ r. ⌜ shownAsked r ≡ firstNo (flatAsked (flat (now (offsets .entry)) (now (ends .entry)) (now (values .entry)))) ⌝ }
+    ensures { λ r. ⌜ shownAsked r ≡ firstNo (flatAsked (givenFlat offsets ends values)) ⌝ }
 {
     let valid = first_no(
         ask_offsets(offsets, ends.len()),
@@ -306,7 +307,7 @@ pub fn ask_fits(length: usize) -> Asked
 
 // 6 and 7, run by run.
 pub fn ask_runs(runs: &[i64]) -> Asked
-    ensures { λ r. ⌜ shownAsked r ≡ runByRun 0 0 (now (runs .entry)) ⌝ }
+    ensures { λ r. ⌜ shownAsked r ≡ runByRun 0 0 (given runs) ⌝ }
 {
     let mut total: usize = 0;
     let mut i = 0;
@@ -327,7 +328,7 @@ pub fn ask_runs(runs: &[i64]) -> Asked
 
 // 9
 pub fn ask_intervals(starts: &[i64], ends: &[i64]) -> Asked
-    ensures { λ r. ⌜ shownAsked r ≡ intervals (now (starts .entry)) (now (ends .entry)) ⌝ }
+    ensures { λ r. ⌜ shownAsked r ≡ intervals (given starts) (given ends) ⌝ }
 {
     let mut i = 0;
     while i < starts.len() {
@@ -423,7 +424,7 @@ pub fn ask_sequence_into(
     out_ends: usize,
     out_values: usize,
 ) -> Asked
-    ensures { λ r. ⌜ shownAsked r ≡ sequenceAsked (sequence (now (ends .entry)) (now (values .entry))) needed («out_ends» ∷ «out_values» ∷ []) ⌝ }
+    ensures { λ r. ⌜ shownAsked r ≡ sequenceAsked (givenSequence ends values) needed («out_ends» ∷ «out_values» ∷ []) ⌝ }
 {
     first_no(
         ask_sequence(ends, values),

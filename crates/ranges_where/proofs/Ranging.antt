@@ -28,7 +28,7 @@ use Rattle.column.proofs.Ends.{runs-rise}
 use Rattle.column.proofs.FirstNo.{all-yes}
 use Rattle.column.proofs.Lists.{any-append}
 use Rattle.column.proofs.Told.{listed-told, sequence-told}
-use Rattle.ranges_where.specs.Calls.{Range, rangesFrom, rangesOf, rangeStarts, rangeEnds, rangesWhereAsked, WritesRanges}
+use Rattle.ranges_where.specs.Calls.{Range, rangesFrom, rangesOf, rangeStarts, rangeEnds, rangesWhereAsked, WrittenRanges}
 use Rattle.ranges_where.specs.Workers.{FirstPassing, openAfter, FilledRanges}
 use Rattle.ranges_where.specs.declared.inner.Open.{Open}
 use Rattle.column.proofs.Cover.{last-end}
@@ -407,8 +407,8 @@ ranges-yes es vs code s e h =
     let k = sequence-told es vs (length es) (length s) (length e) (y .1 .0) in
     (c .0, c .1, k .0, k .1, k .2, k .3)
 
-pub ranges-written : {q : Question} (rs : List Range) {s s′ e e′ : List ℤ} {n : ℕ} → q ≡ none → FilledRanges rs s s′ e e′ n → WritesRanges (q otherwise rs) (Counted.Count n) s s′ e e′
+pub ranges-written : {q : Question} (rs : List Range) {s s′ e e′ : List ℤ} {n : ℕ} → q ≡ none → FilledRanges rs s s′ e e′ n → WrittenRanges (q otherwise rs) (Counted.Count n) s s′ e e′
 ranges-written rs h f = rw h (record { answer = ap answers (f .count); starts = f .starts; ends = f .ends })
 
-pub ranges-refused : {q : Question} (rs : List Range) {r : Refusal} {s e : List ℤ} → q ≡ some (paper r) → WritesRanges (q otherwise rs) (Counted.Refused r) s s e e
+pub ranges-refused : {q : Question} (rs : List Range) {r : Refusal} {s e : List ℤ} → q ≡ some (paper r) → WrittenRanges (q otherwise rs) (Counted.Refused r) s s e e
 ranges-refused rs h = rw h (record { answer = refl; starts = refl; ends = refl })

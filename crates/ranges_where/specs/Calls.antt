@@ -11,6 +11,7 @@ use Rattle.column.specs.Paper.{Outcome, shownCounted, counts, written}
 use Rattle.column.specs.Questions.{listed, sequenceAsked}
 use Rattle.column.specs.Runs.{Sequence, Runs, runs, dense, encode}
 use Rattle.column.specs.declared.answer.Counted.{Counted}
+use Rattle.column.specs.Lent.{Lent, given, after}
 
 -- the positions from start up to end
 pub record Range : Type 0 where
@@ -41,7 +42,12 @@ unfoldable pub rangeEnds : List Range → List ℤ
 rangeEnds rs = map (λ (r : Range). pos (r .end)) rs
 
 -- the promise: starts and ends, each buffer before and after
-pub record WritesRanges (o : Outcome (List Range)) (r : Counted) (s s′ e e′ : List ℤ) : Type 0 where
+pub record WrittenRanges (o : Outcome (List Range)) (r : Counted) (s s′ e e′ : List ℤ) : Type 0 where
   pub answer : shownCounted r ≡ counts length o
   pub starts : s′ ≡ written rangeStarts o s
   pub ends : e′ ≡ written rangeEnds o e
+
+-- of the buffers that a call is lent: question 12 is about their lengths
+abbrev pub WritesRanges : (List ℕ → Outcome (List Range)) → Lent ℤ → Lent ℤ → Counted → Type 0
+WritesRanges call s e r =
+    WrittenRanges (call (length (given s) ∷ length (given e) ∷ [])) r (given s) (after s) (given e) (after e)

@@ -9,11 +9,12 @@ ghost use Rattle.column.specs.Questions.{endsValid};
 ghost use Rattle.column.specs.Runs.{runsOf};
 ghost use Rattle.ranges_where.specs.Calls.{rangesOf};
 ghost use Rattle.ranges_where.specs.Workers.{passing, FirstPassing, openAfter, FilledRanges};
+ghost use Rattle.column.specs.Lent.{given, after};
 
 // The lowest index of a value that passes, or how many values there are.
 fn first_passing(values: &[i64], code: u8, number: i64) -> usize
     requires { ⌜ (7 ≤ code) × (code ≤ 8) ⌝ }
-    ensures { λ r. ⌜ FirstPassing (passing code number) (now (values .entry)) r ⌝ }
+    ensures { λ r. ⌜ FirstPassing (passing code number) (given values) r ⌝ }
 {
     let mut i: usize = 0;
     while i < values.len() {
@@ -79,8 +80,8 @@ pub fn ranges_where(
     out_ends: &mut [i64],
 ) -> usize
     requires { ⌜ (7 ≤ code) × (code ≤ 8) × (endsValid (now ends) ≡ none) × (length (now ends) ≡ length (now values)) × (length (now ends) ≤ length (now «out_starts»)) × (length (now ends) ≤ length (now «out_ends»)) ⌝ }
-    ensures { λ r. ⌜ FilledRanges (rangesOf code number (runsOf (now (ends .entry)) (now (values .entry))))
-        (now («out_starts» .entry)) (now («out_starts» .exit)) (now («out_ends» .entry)) (now («out_ends» .exit)) r ⌝ }
+    ensures { λ r. ⌜ FilledRanges (rangesOf code number (runsOf (given ends) (given values)))
+        (given «out_starts») (after «out_starts») (given «out_ends») (after «out_ends») r ⌝ }
 {
     let first = first_passing(values, code, number);
     if first == ends.len() {

@@ -5,9 +5,8 @@ use column::answer::Counted;
 use column::sequence;
 ghost use mathlib.Core.List.{[], _∷_};
 ghost use mathlib.Core.Path.{_≡_};
-ghost use lib.ListN.{length};
 ghost use Rattle.column.specs.Asking.{shownAsked};
-ghost use Rattle.column.specs.Runs.{sequence};
+ghost use Rattle.column.specs.Runs.{givenSequence};
 ghost use Rattle.ranges_where.specs.Calls.{WritesRanges};
 ghost use Rattle.ranges_where.specs.Calls as calls;
 
@@ -18,7 +17,7 @@ fn ranges_where_asks(
     out_starts: usize,
     out_ends: usize,
 ) -> Asked
-    ensures { λ r. ⌜ shownAsked r ≡ calls.rangesWhereAsked (sequence (now (ends .entry)) (now (values .entry))) code («out_starts» ∷ «out_ends» ∷ []) ⌝ }
+    ensures { λ r. ⌜ shownAsked r ≡ calls.rangesWhereAsked (givenSequence ends values) code («out_starts» ∷ «out_ends» ∷ []) ⌝ }
 {
     questions::first_no(
         questions::ask_code(7, 8, code),
@@ -35,9 +34,7 @@ pub fn ranges_where(
     out_starts: &mut [i64],
     out_ends: &mut [i64],
 ) -> Counted
-    ensures { λ r. ⌜ WritesRanges
-        (calls.rangesWhere (sequence (now (ends .entry)) (now (values .entry))) code number (length (now («out_starts» .entry)) ∷ length (now («out_ends» .entry)) ∷ [])) r
-        (now («out_starts» .entry)) (now («out_starts» .exit)) (now («out_ends» .entry)) (now («out_ends» .exit)) ⌝ }
+    ensures { λ r. ⌜ WritesRanges (calls.rangesWhere (givenSequence ends values) code number) «out_starts» «out_ends» r ⌝ }
 {
     let asked = ranges_where_asks(ends, values, code, out_starts.len(), out_ends.len());
     match asked {

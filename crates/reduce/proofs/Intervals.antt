@@ -26,7 +26,7 @@ use Rattle.slice.specs.Workers.{touchedBy}
 use Rattle.slice.specs.Calls.{sliceRuns}
 use Rattle.reduce.specs.declared.Reduction.{Reduction}
 use Rattle.reduce.specs.declared.inner.WindowReduction.{WindowReduction}
-use Rattle.reduce.specs.Calls.{reduction, FiniteReduction, kindOf, bitsOf, allKinds, allBits, WritesReductions}
+use Rattle.reduce.specs.Calls.{reduction, FiniteReduction, kindOf, bitsOf, allKinds, allBits, WrittenReductions}
 use Rattle.reduce.specs.Workers.{Window, ReducesWindow, FilledReductions}
 use Rattle.reduce.proofs.Windows.{window-of, window-rises, window-slice}
 
@@ -79,8 +79,8 @@ filling-end {rs = rs} {i = i} s h =
 
 -- ---- what a worker wrote, after a "yes" to every question, is what a call promises; and so is what was there, after a "no"
 
-pub reductions-written : {q : Question} (rs : List Reduction) {k k′ b b′ : List ℕ} {n : ℕ} → q ≡ none → FilledReductions rs k k′ b b′ n → WritesReductions (q otherwise rs) (Counted.Count n) k k′ b b′
+pub reductions-written : {q : Question} (rs : List Reduction) {k k′ b b′ : List ℕ} {n : ℕ} → q ≡ none → FilledReductions rs k k′ b b′ n → WrittenReductions (q otherwise rs) (Counted.Count n) k k′ b b′
 reductions-written rs h f = rw h (record { answer = ap answers (f .count); kinds = f .kinds; bits = f .bits })
 
-pub reductions-refused : {q : Question} (rs : List Reduction) {r : Refusal} {k b : List ℕ} → q ≡ some (paper r) → WritesReductions (q otherwise rs) (Counted.Refused r) k k b b
+pub reductions-refused : {q : Question} (rs : List Reduction) {r : Refusal} {k b : List ℕ} → q ≡ some (paper r) → WrittenReductions (q otherwise rs) (Counted.Refused r) k k b b
 reductions-refused rs h = rw h (record { answer = refl; kinds = refl; bits = refl })

@@ -20,6 +20,7 @@ use Rattle.reduce.specs.declared.Summed.{Summed}
 use Rattle.reduce.specs.declared.Reduced.{Reduced}
 use Rattle.reduce.specs.declared.Reduction.{Reduction}
 use Rattle.reduce.specs.declared.Reduction.the-variants.{Whole, Fraction, Nothing}
+use Rattle.column.specs.Lent.{Lent, given, after}
 
 -- a step for each run from position p on, with its length and its value, in "run order"
 unfoldable pub foldRuns : {A : Type 0} → (A → ℕ → ℤ → A) → A → ℕ → Runs → A
@@ -127,7 +128,12 @@ unfoldable pub allBits : List Reduction → List ℕ
 allBits rs = map bitsOf rs
 
 -- the promise of a call that writes reductions into two buffers, each before and after
-pub record WritesReductions (o : Outcome (List Reduction)) (r : Counted) (k k′ b b′ : List ℕ) : Type 0 where
+pub record WrittenReductions (o : Outcome (List Reduction)) (r : Counted) (k k′ b b′ : List ℕ) : Type 0 where
   pub answer : shownCounted r ≡ counts length o
   pub kinds : k′ ≡ written allKinds o k
   pub bits : b′ ≡ written allBits o b
+
+-- of the buffers that a call is lent: question 12 is about their lengths
+abbrev pub WritesReductions : (List ℕ → Outcome (List Reduction)) → Lent ℕ → Lent ℕ → Counted → Type 0
+WritesReductions call k b r =
+    WrittenReductions (call (length (given k) ∷ length (given b) ∷ [])) r (given k) (after k) (given b) (after b)

@@ -11,10 +11,11 @@ ghost use lib.IntN.{pos, natAbs};
 ghost use lib.ListN.{length};
 ghost use lib.Signed.{ltZ};
 ghost use Rattle.column.specs.Questions.{endsValid};
-ghost use Rattle.column.specs.Runs.{magnitude, sequence, runsOf};
+ghost use Rattle.column.specs.Runs.{magnitude, runsOf};
 ghost use Rattle.slice.specs.Calls.{sliceRuns};
 ghost use Rattle.reduce.specs.Calls.{addProduct, addSquare, reduction, FiniteReduction, kindOf, bitsOf};
 ghost use Rattle.reduce.specs.Workers.{addWrapped, WalkedSum, StoppedSum, SumOf, ProductsOf, ExactProducts, AllProducts, AroundMean, WalkedSquares, Squarable, SquaresOf, ExactRun, Window, divisorOf, VarianceBy, ReducesWindow};
+ghost use Rattle.column.specs.Lent.{given};
 
 // How far a sum came: how many runs, the end of the last of them, and their total.
 pub struct WholeSum {
@@ -61,7 +62,7 @@ fn both_rise(before: i64, first: i64, second: i64) -> bool
 // Two runs at each turn, as long as both ends rise.
 fn sum_pairs(ends: &[i64], values: &[i64], start: i64) -> WholeSum
     requires { ⌜ (length (now ends) ≡ length (now values)) × (start ≡ pos (magnitude start)) ⌝ }
-    ensures { λ r. ⌜ WalkedSum (magnitude start) (now (ends .entry)) (now (values .entry)) (r .runs) (r .end) (r .total) ⌝ }
+    ensures { λ r. ⌜ WalkedSum (magnitude start) (given ends) (given values) (r .runs) (r .end) (r .total) ⌝ }
 {
     let mut total: i64 = 0;
     let mut before = start;
@@ -91,7 +92,7 @@ fn sum_pairs(ends: &[i64], values: &[i64], start: i64) -> WholeSum
 // The sum of the runs, up to the first whose end does not rise.
 fn sum_runs(ends: &[i64], values: &[i64], start: i64) -> WholeSum
     requires { ⌜ (length (now ends) ≡ length (now values)) × (start ≡ pos (magnitude start)) ⌝ }
-    ensures { λ r. ⌜ StoppedSum (magnitude start) (now (ends .entry)) (now (values .entry)) (r .runs) (r .end) (r .total) ⌝ }
+    ensures { λ r. ⌜ StoppedSum (magnitude start) (given ends) (given values) (r .runs) (r .end) (r .total) ⌝ }
 {
     let pairs = sum_pairs(ends, values, start);
     let mut total = pairs.total;
@@ -120,7 +121,7 @@ fn sum_runs(ends: &[i64], values: &[i64], start: i64) -> WholeSum
 // The sum of the runs of a window; the last ends where the window does.
 pub fn sum_window(ends: &[i64], values: &[i64], window: TouchedRuns) -> WholeSum
     requires { ⌜ Window window (now ends) (now values) ⌝ }
-    ensures { λ r. ⌜ SumOf window (now (ends .entry)) (now (values .entry)) (r .runs) (r .total) ⌝ }
+    ensures { λ r. ⌜ SumOf window (given ends) (given values) (r .runs) (r .total) ⌝ }
 {
     let count = window.count;
     let start = window.start;
@@ -179,7 +180,7 @@ fn add_exact_product(total: f64, run: i64, value: i64) -> f64
 // The products as long as nothing is rounded in converting; most columns are at their end then.
 fn exact_products(ends: &[i64], values: &[i64], start: i64) -> FloatSum
     requires { ⌜ (length (now ends) ≡ length (now values)) × (start ≡ pos (magnitude start)) ⌝ }
-    ensures { λ r. ⌜ ExactProducts (magnitude start) (now (ends .entry)) (now (values .entry)) (r .runs) (r .end) (r .total) ⌝ }
+    ensures { λ r. ⌜ ExactProducts (magnitude start) (given ends) (given values) (r .runs) (r .end) (r .total) ⌝ }
 {
     let mut total = 0.0;
     let mut before = start;
@@ -208,7 +209,7 @@ fn exact_products(ends: &[i64], values: &[i64], start: i64) -> FloatSum
 // The products of the runs, up to the first whose end does not rise.
 fn products(ends: &[i64], values: &[i64], start: i64) -> ProductSum
     requires { ⌜ (length (now ends) ≡ length (now values)) × (start ≡ pos (magnitude start)) ⌝ }
-    ensures { λ r. ⌜ AllProducts (magnitude start) (now (ends .entry)) (now (values .entry)) (r .runs) (r .end) (r .total) (r .exact) ⌝ }
+    ensures { λ r. ⌜ AllProducts (magnitude start) (given ends) (given values) (r .runs) (r .end) (r .total) (r .exact) ⌝ }
 {
     let exact = exact_products(ends, values, start);
     let mut total = exact.total;
@@ -239,7 +240,7 @@ fn products(ends: &[i64], values: &[i64], start: i64) -> ProductSum
 // The products of the runs of a window.
 fn product_window(ends: &[i64], values: &[i64], window: TouchedRuns) -> ProductSum
     requires { ⌜ Window window (now ends) (now values) ⌝ }
-    ensures { λ r. ⌜ ProductsOf window (now (ends .entry)) (now (values .entry)) (r .runs) (r .total) (r .exact) ⌝ }
+    ensures { λ r. ⌜ ProductsOf window (given ends) (given values) (r .runs) (r .total) (r .exact) ⌝ }
 {
     let count = window.count;
     let start = window.start;
@@ -291,7 +292,7 @@ fn add_exact_square(mean: f64, total: f64, run: i64, value: i64) -> f64
 // The squares of the first runs, which are known to be converted with nothing rounded.
 fn exact_squares(ends: &[i64], values: &[i64], start: i64, mean: f64, exact: usize) -> FloatSum
     requires { ⌜ (start ≡ pos (magnitude start)) × AroundMean (magnitude start) (now ends) (now values) mean exact ⌝ }
-    ensures { λ r. ⌜ WalkedSquares mean (magnitude start) (now (ends .entry)) (now (values .entry)) (r .runs) (r .end) (r .total) ⌝ }
+    ensures { λ r. ⌜ WalkedSquares mean (magnitude start) (given ends) (given values) (r .runs) (r .end) (r .total) ⌝ }
 {
     let mut total = 0.0;
     let mut before = start;
@@ -312,7 +313,7 @@ fn exact_squares(ends: &[i64], values: &[i64], start: i64, mean: f64, exact: usi
 // The squares of the runs.
 fn squares(ends: &[i64], values: &[i64], start: i64, mean: f64, exact: usize) -> FloatSum
     requires { ⌜ (start ≡ pos (magnitude start)) × AroundMean (magnitude start) (now ends) (now values) mean exact ⌝ }
-    ensures { λ r. ⌜ WalkedSquares mean (magnitude start) (now (ends .entry)) (now (values .entry)) (length (now (ends .entry))) (r .end) (r .total) ⌝ }
+    ensures { λ r. ⌜ WalkedSquares mean (magnitude start) (given ends) (given values) (length (given ends)) (r .end) (r .total) ⌝ }
 {
     let first = exact_squares(ends, values, start, mean, exact);
     let mut total = first.total;
@@ -334,7 +335,7 @@ fn squares(ends: &[i64], values: &[i64], start: i64, mean: f64, exact: usize) ->
 // The squares of the runs of a window.
 fn square_window(ends: &[i64], values: &[i64], window: TouchedRuns, mean: f64, exact: usize) -> f64
     requires { ⌜ Squarable window (now ends) (now values) mean exact ⌝ }
-    ensures { λ r. ⌜ SquaresOf mean window (now (ends .entry)) (now (values .entry)) r ⌝ }
+    ensures { λ r. ⌜ SquaresOf mean window (given ends) (given values) r ⌝ }
 {
     let count = window.count;
     let first = window.first;
@@ -367,7 +368,7 @@ fn variance(
     divisor: i64,
 ) -> Reduction
     requires { ⌜ Squarable window (now ends) (now values) mean exact × (divisor ≡ pos (magnitude divisor)) ⌝ }
-    ensures { λ r. ⌜ VarianceBy divisor window (now (ends .entry)) (now (values .entry)) mean r ⌝ }
+    ensures { λ r. ⌜ VarianceBy divisor window (given ends) (given values) mean r ⌝ }
 {
     if divisor <= 0 {
         return Reduction::Nothing;
@@ -388,7 +389,7 @@ pub fn reduce_window(
     ddof: i64,
 ) -> WindowReduction
     requires { ⌜ Window window (now ends) (now values) ⌝ }
-    ensures { λ r. ⌜ ReducesWindow code ddof window (now (ends .entry)) (now (values .entry)) r ⌝ }
+    ensures { λ r. ⌜ ReducesWindow code ddof window (given ends) (given values) r ⌝ }
 {
     if code == 0 {
         let sum = sum_window(ends, values, window);
@@ -439,7 +440,7 @@ pub fn reduce_slice(
     ddof: i64,
 ) -> Reduction
     requires { ⌜ (endsValid (now ends) ≡ none) × (length (now ends) ≡ length (now values)) ⌝ }
-    ensures { λ r. ⌜ (r ≡ reduction code ddof (sliceRuns start stop (runsOf (now (ends .entry)) (now (values .entry))))) × FiniteReduction r ⌝ }
+    ensures { λ r. ⌜ (r ≡ reduction code ddof (sliceRuns start stop (runsOf (given ends) (given values)))) × FiniteReduction r ⌝ }
 {
     let window = search::touched(ends, start, stop);
     let reduced = reduce_window(ends, values, window, code, ddof);

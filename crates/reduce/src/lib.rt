@@ -9,12 +9,12 @@ use column::error::Refusal;
 use column::sequence;
 use slice::search::TouchedRuns;
 ghost use mathlib.Core.Path.{_≡_};
-ghost use lib.ListN.{length};
 ghost use Rattle.column.specs.Asking.{shownAsked, _otherwise_};
-ghost use Rattle.column.specs.Runs.{sequence};
+ghost use Rattle.column.specs.Runs.{givenSequence};
 ghost use Rattle.reduce.specs.Calls.{shownSummed, shownReduced, Reduces};
 ghost use Rattle.reduce.specs.Calls as calls;
 ghost use Rattle.reduce.specs.Workers.{endsPass, wholeOf};
+ghost use Rattle.column.specs.Lent.{given};
 
 // The answer of `sum`.
 pub enum Summed {
@@ -57,7 +57,7 @@ fn ask_rising(rising: usize, count: usize) -> Asked
 
 // A whole sequence as a window.
 fn whole(ends: &[i64]) -> TouchedRuns
-    ensures { λ r. ⌜ r ≡ wholeOf (now (ends .entry)) ⌝ }
+    ensures { λ r. ⌜ r ≡ wholeOf (given ends) ⌝ }
 {
     TouchedRuns {
         first: 0,
@@ -79,7 +79,7 @@ fn sum_answer(sum: WholeSum, count: usize) -> Summed
 
 // The sum over all positions. One pass asks about the ends and sums.
 pub fn sum(ends: &[i64], values: &[i64]) -> Summed
-    ensures { λ r. ⌜ shownSummed r ≡ calls.sum (sequence (now (ends .entry)) (now (values .entry))) ⌝ }
+    ensures { λ r. ⌜ shownSummed r ≡ calls.sum (givenSequence ends values) ⌝ }
 {
     let asked = questions::ask_lengths(3, ends.len(), values.len());
     match asked {
@@ -107,7 +107,7 @@ fn reduction_answer(window: WindowReduction, count: usize) -> Reduced
 
 // The sum, mean or variance over all positions, by code. The pass that sums for it asks about the ends.
 pub fn reduce(ends: &[i64], values: &[i64], code: u8, ddof: i64) -> Reduced
-    ensures { λ r. ⌜ Reduces (calls.reduce (sequence (now (ends .entry)) (now (values .entry))) code ddof) r ⌝ }
+    ensures { λ r. ⌜ Reduces (calls.reduce (givenSequence ends values) code ddof) r ⌝ }
 {
     let asked = questions::first_no(
         questions::ask_code(0, 2, code),

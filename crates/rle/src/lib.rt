@@ -9,7 +9,7 @@ ghost use mathlib.Core.Path.{_≡_};
 ghost use Rattle.column.specs.Asking.{shownAsked};
 ghost use Rattle.column.specs.Paper.{WritesRuns};
 ghost use Rattle.column.specs.Questions.{room, both};
-ghost use Rattle.column.specs.Runs.{sequence};
+ghost use Rattle.column.specs.Runs.{givenSequence};
 ghost use Rattle.rle.specs.Calls as calls;
 
 // The used count of a sequence whose ends and values stand in lent buffers.
@@ -30,8 +30,7 @@ impl Rle {
 
     // The sequence with one more run behind it, not merged; a run of 0 changes nothing.
     pub fn push_run(self, ends: &mut [i64], values: &mut [i64], run: i64, value: i64) -> Counted
-        ensures { λ r. ⌜ WritesRuns (calls.pushRun (sequence (now (ends .entry)) (now (values .entry))) (self .runs) run value) r
-            (now (ends .entry)) (now (ends .exit)) (now (values .entry)) (now (values .exit)) ⌝ }
+        ensures { λ r. ⌜ WritesRuns (λ _. calls.pushRun (givenSequence ends values) (self .runs) run value) ends values r ⌝ }
     {
         let used = self.runs;
         let asked = push_run_asks(ends, values, used, run);
@@ -46,8 +45,7 @@ impl Rle {
 
     // The sequence up to a length, with a value at each new position; the last run grows if it has that value.
     pub fn extend_to(self, ends: &mut [i64], values: &mut [i64], length: i64, value: i64) -> Counted
-        ensures { λ r. ⌜ WritesRuns (calls.extendTo (sequence (now (ends .entry)) (now (values .entry))) (self .runs) length value) r
-            (now (ends .entry)) (now (ends .exit)) (now (values .entry)) (now (values .exit)) ⌝ }
+        ensures { λ r. ⌜ WritesRuns (λ _. calls.extendTo (givenSequence ends values) (self .runs) length value) ends values r ⌝ }
     {
         let used = self.runs;
         let asked = extend_to_asks(ends, values, used, length);
@@ -63,7 +61,7 @@ impl Rle {
 
 // The used entries are read as far as there are any: what is asked behind a "no" does not count.
 fn push_run_asks(ends: &[i64], values: &[i64], used: usize, run: i64) -> Asked
-    ensures { λ r. ⌜ shownAsked r ≡ calls.pushRunAsked (sequence (now (ends .entry)) (now (values .entry))) used run ⌝ }
+    ensures { λ r. ⌜ shownAsked r ≡ calls.pushRunAsked (givenSequence ends values) used run ⌝ }
 {
     let present = sequence::part(ends, 0, used);
     let room = room_for_one(ends.len(), values.len(), used);
@@ -74,7 +72,7 @@ fn push_run_asks(ends: &[i64], values: &[i64], used: usize, run: i64) -> Asked
 }
 
 fn extend_to_asks(ends: &[i64], values: &[i64], used: usize, length: i64) -> Asked
-    ensures { λ r. ⌜ shownAsked r ≡ calls.extendToAsked (sequence (now (ends .entry)) (now (values .entry))) used length ⌝ }
+    ensures { λ r. ⌜ shownAsked r ≡ calls.extendToAsked (givenSequence ends values) used length ⌝ }
 {
     let present = sequence::part(ends, 0, used);
     let room = room_for_one(ends.len(), values.len(), used);

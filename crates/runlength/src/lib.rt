@@ -14,20 +14,19 @@ use ffi::RlSummed;
 use ffi::RlViewed;
 use rle::Rle;
 ghost use Prim.Native.Nat.{_*_};
-ghost use mathlib.Core.List.{[], _∷_};
 ghost use mathlib.Core.Path.{_≡_};
 ghost use lib.ListN.{length};
-ghost use Rattle.batch.specs.Batch.{batch};
+ghost use Rattle.batch.specs.Batch.{givenBatch, WritesBatch};
 ghost use Rattle.batch.specs.Calls as batches;
 ghost use Rattle.batch_slice_reduce.specs.Calls as batch-reduce;
 ghost use Rattle.batch_collapse.specs.Calls as collapse;
-ghost use Rattle.column.specs.Flat.{flat};
-ghost use Rattle.column.specs.Runs.{sequence};
+ghost use Rattle.column.specs.Flat.{givenFlat, WritesFlat};
+ghost use Rattle.column.specs.Runs.{givenSequence};
 ghost use Rattle.batch_concat.specs.Calls as concat;
 ghost use Rattle.dense.specs.Calls as dense;
 ghost use Rattle.batch_map_rles.specs.Calls as each;
 ghost use Rattle.equals.specs.Calls as equals;
-ghost use Rattle.ffi.specs.Reading.{readFill, LaidCheck, LaidEquality, LaidFound, LaidViewed, LaidSum, LaidReduced, LaidPart, LaidRuns, LaidEntries, LaidRanges, LaidGroups, LaidReductions, LaidPlan, LaidPlanMany, LaidFlat, LaidGot, LaidBatch, LaidCollapse};
+ghost use Rattle.ffi.specs.Reading.{readFill, LaidCheck, LaidEquality, LaidFound, LaidViewed, LaidSum, LaidReduced, LaidPart, LaidGot, LaidCounted, LaidPlannedMany, LaidBatched};
 ghost use Rattle.merge_plan.specs.Calls as groups;
 ghost use Rattle.getitems.specs.Calls as intervals;
 ghost use Rattle.batch_getitems.specs.Calls as items;
@@ -46,6 +45,15 @@ ghost use Rattle.shift.specs.Calls as shift;
 ghost use Rattle.slice.specs.Calls as slice;
 ghost use Rattle.transform.specs.Calls as transform;
 ghost use Rattle.zip_many.specs.Calls as zip-many;
+ghost use Rattle.column.specs.Lent.{given};
+ghost use Rattle.column.specs.Paper.{WritesRuns, WritesEntries};
+ghost use Rattle.plan.specs.Calls.{WritesPlan};
+ghost use Rattle.many.specs.Calls.{WritesPlanMany};
+ghost use Rattle.ranges_where.specs.Calls.{WritesRanges};
+ghost use Rattle.merge_plan.specs.Calls.{WritesGroups};
+ghost use Rattle.reduce.specs.Calls.{WritesReductions};
+ghost use Rattle.batch.specs.Calls.{WritesGot};
+ghost use Rattle.batch_collapse.specs.Calls.{WritesCollapse};
 
 #[no_mangle]
 pub extern "C" fn rl_empty() -> RlRle
@@ -63,16 +71,14 @@ pub extern "C" fn rl_from_runs(
     out_ends: &mut [i64],
     out_values: &mut [i64],
 ) -> RlCounted
-    ensures { λ r. ⌜ LaidRuns
-        (constructors.fromRuns (now (runs .entry)) (now (values .entry)) (length (now («out_ends» .entry)) ∷ length (now («out_values» .entry)) ∷ [])) r
-        (now («out_ends» .entry)) (now («out_ends» .exit)) (now («out_values» .entry)) (now («out_values» .exit)) ⌝ }
+    ensures { λ r. ⌜ LaidCounted (WritesRuns (constructors.fromRuns (given runs) (given values)) «out_ends» «out_values») r ⌝ }
 {
     ffi::counted(from_runs::from_runs(runs, values, out_ends, out_values))
 }
 
 #[no_mangle]
 pub extern "C" fn rl_from_ends(ends: &[i64], values: &[i64]) -> RlRefusal
-    ensures { λ r. ⌜ LaidCheck (constructors.fromEnds (sequence (now (ends .entry)) (now (values .entry)))) r ⌝ }
+    ensures { λ r. ⌜ LaidCheck (constructors.fromEnds (givenSequence ends values)) r ⌝ }
 {
     ffi::checked(from_runs::from_ends(ends, values))
 }
@@ -84,9 +90,7 @@ pub extern "C" fn rl_repeat(
     out_ends: &mut [i64],
     out_values: &mut [i64],
 ) -> RlCounted
-    ensures { λ r. ⌜ LaidRuns
-        (constructors.repeat value length (lib.ListN.length (now («out_ends» .entry)) ∷ lib.ListN.length (now («out_values» .entry)) ∷ [])) r
-        (now («out_ends» .entry)) (now («out_ends» .exit)) (now («out_values» .entry)) (now («out_values» .exit)) ⌝ }
+    ensures { λ r. ⌜ LaidCounted (WritesRuns (constructors.repeat value length) «out_ends» «out_values») r ⌝ }
 {
     ffi::counted(from_runs::repeat(value, length, out_ends, out_values))
 }
@@ -99,8 +103,7 @@ pub extern "C" fn rl_push_run(
     run: i64,
     value: i64,
 ) -> RlCounted
-    ensures { λ r. ⌜ LaidRuns (calls.pushRun (sequence (now (ends .entry)) (now (values .entry))) used run value) r
-        (now (ends .entry)) (now (ends .exit)) (now (values .entry)) (now (values .exit)) ⌝ }
+    ensures { λ r. ⌜ LaidCounted (WritesRuns (λ _. calls.pushRun (givenSequence ends values) used run value) ends values) r ⌝ }
 {
     ffi::counted(Rle { runs: used }.push_run(ends, values, run, value))
 }
@@ -113,8 +116,7 @@ pub extern "C" fn rl_extend_to(
     length: i64,
     value: i64,
 ) -> RlCounted
-    ensures { λ r. ⌜ LaidRuns (calls.extendTo (sequence (now (ends .entry)) (now (values .entry))) used length value) r
-        (now (ends .entry)) (now (ends .exit)) (now (values .entry)) (now (values .exit)) ⌝ }
+    ensures { λ r. ⌜ LaidCounted (WritesRuns (λ _. calls.extendTo (givenSequence ends values) used length value) ends values) r ⌝ }
 {
     ffi::counted(Rle { runs: used }.extend_to(ends, values, length, value))
 }
@@ -125,18 +127,14 @@ pub extern "C" fn rl_from_dense(
     out_ends: &mut [i64],
     out_values: &mut [i64],
 ) -> RlCounted
-    ensures { λ r. ⌜ LaidRuns
-        (dense.fromDense (now (values .entry)) (length (now («out_ends» .entry)) ∷ length (now («out_values» .entry)) ∷ [])) r
-        (now («out_ends» .entry)) (now («out_ends» .exit)) (now («out_values» .entry)) (now («out_values» .exit)) ⌝ }
+    ensures { λ r. ⌜ LaidCounted (WritesRuns (dense.fromDense (given values)) «out_ends» «out_values») r ⌝ }
 {
     ffi::counted(dense::from_dense(values, out_ends, out_values))
 }
 
 #[no_mangle]
 pub extern "C" fn rl_to_dense(ends: &[i64], values: &[i64], out: &mut [i64]) -> RlCounted
-    ensures { λ r. ⌜ LaidEntries
-        (dense.toDense (sequence (now (ends .entry)) (now (values .entry))) (length (now (out .entry)) ∷ [])) r
-        (now (out .entry)) (now (out .exit)) ⌝ }
+    ensures { λ r. ⌜ LaidCounted (WritesEntries (dense.toDense (givenSequence ends values)) out) r ⌝ }
 {
     ffi::counted(dense::to_dense(ends, values, out))
 }
@@ -148,7 +146,7 @@ pub extern "C" fn rl_equals(
     b_ends: &[i64],
     b_values: &[i64],
 ) -> RlEquality
-    ensures { λ r. ⌜ LaidEquality (equals.equals (sequence (now («a_ends» .entry)) (now («a_values» .entry))) (sequence (now («b_ends» .entry)) (now («b_values» .entry)))) r ⌝ }
+    ensures { λ r. ⌜ LaidEquality (equals.equals (givenSequence «a_ends» «a_values») (givenSequence «b_ends» «b_values»)) r ⌝ }
 {
     ffi::equality(equals::equals(a_ends, a_values, b_ends, b_values))
 }
@@ -161,9 +159,7 @@ pub extern "C" fn rl_plan(
     out_idx_a: &mut [usize],
     out_idx_b: &mut [usize],
 ) -> RlCounted
-    ensures { λ r. ⌜ LaidPlan
-        (plan.plan (now (a .entry)) (now (b .entry)) (length (now («out_ends» .entry)) ∷ length (now («out_idx_a» .entry)) ∷ length (now («out_idx_b» .entry)) ∷ [])) r
-        (now («out_ends» .entry)) (now («out_ends» .exit)) (now («out_idx_a» .entry)) (now («out_idx_a» .exit)) (now («out_idx_b» .entry)) (now («out_idx_b» .exit)) ⌝ }
+    ensures { λ r. ⌜ LaidCounted (WritesPlan (plan.plan (given a) (given b)) «out_ends» «out_idx_a» «out_idx_b») r ⌝ }
 {
     ffi::counted(plan::plan(a, b, out_ends, out_idx_a, out_idx_b))
 }
@@ -180,10 +176,9 @@ pub extern "C" fn rl_zip_with(
     out_ends: &mut [i64],
     out_values: &mut [i64],
 ) -> RlCounted
-    ensures { λ r. ⌜ LaidRuns
-        (ops.zipWith (sequence (now («a_ends» .entry)) (now («a_values» .entry))) (sequence (now («b_ends» .entry)) (now («b_values» .entry)))
-        (readFill «fill_a») (readFill «fill_b») code (length (now («out_ends» .entry)) ∷ length (now («out_values» .entry)) ∷ [])) r
-        (now («out_ends» .entry)) (now («out_ends» .exit)) (now («out_values» .entry)) (now («out_values» .exit)) ⌝ }
+    ensures { λ r. ⌜ LaidCounted
+        (WritesRuns (ops.zipWith (givenSequence «a_ends» «a_values»)
+        (givenSequence «b_ends» «b_values») (readFill «fill_a») (readFill «fill_b») code) «out_ends» «out_values») r ⌝ }
 {
     ffi::counted(ops::zip_with(
         a_ends,
@@ -210,10 +205,9 @@ pub extern "C" fn rl_zip_with_raw(
     out_ends: &mut [i64],
     out_values: &mut [i64],
 ) -> RlCounted
-    ensures { λ r. ⌜ LaidRuns
-        (ops.zipWithRaw (sequence (now («a_ends» .entry)) (now («a_values» .entry))) (sequence (now («b_ends» .entry)) (now («b_values» .entry)))
-        (readFill «fill_a») (readFill «fill_b») code (length (now («out_ends» .entry)) ∷ length (now («out_values» .entry)) ∷ [])) r
-        (now («out_ends» .entry)) (now («out_ends» .exit)) (now («out_values» .entry)) (now («out_values» .exit)) ⌝ }
+    ensures { λ r. ⌜ LaidCounted
+        (WritesRuns (ops.zipWithRaw (givenSequence «a_ends» «a_values»)
+        (givenSequence «b_ends» «b_values») (readFill «fill_a») (readFill «fill_b») code) «out_ends» «out_values») r ⌝ }
 {
     ffi::counted(ops::zip_with_raw(
         a_ends,
@@ -236,9 +230,7 @@ pub extern "C" fn rl_plan_many(
     out_ends: &mut [i64],
     out_idx: &mut [usize],
 ) -> RlPlannedMany
-    ensures { λ r. ⌜ LaidPlanMany
-        (many.planMany (flat (now (offsets .entry)) (now (ends .entry)) (now (values .entry))) (length (now («out_ends» .entry)) ∷ length (now («out_idx» .entry)) ∷ [])) r
-        (now («out_ends» .entry)) (now («out_ends» .exit)) (now («out_idx» .entry)) (now («out_idx» .exit)) ⌝ }
+    ensures { λ r. ⌜ LaidPlannedMany (WritesPlanMany (many.planMany (givenFlat offsets ends values)) «out_ends» «out_idx») r ⌝ }
 {
     ffi::planned_many(many::plan_many(offsets, ends, values, out_ends, out_idx))
 }
@@ -253,9 +245,8 @@ pub extern "C" fn rl_zip_many(
     out_ends: &mut [i64],
     out_values: &mut [i64],
 ) -> RlCounted
-    ensures { λ r. ⌜ LaidRuns
-        (zip-many.zipMany (flat (now (offsets .entry)) (now (ends .entry)) (now (values .entry))) (readFill fill) code (length (now («out_ends» .entry)) ∷ length (now («out_values» .entry)) ∷ [])) r
-        (now («out_ends» .entry)) (now («out_ends» .exit)) (now («out_values» .entry)) (now («out_values» .exit)) ⌝ }
+    ensures { λ r.
+        ⌜ LaidCounted (WritesRuns (zip-many.zipMany (givenFlat offsets ends values) (readFill fill) code) «out_ends» «out_values») r ⌝ }
 {
     ffi::counted(zip_many::zip_many(
         offsets,
@@ -270,7 +261,7 @@ pub extern "C" fn rl_zip_many(
 
 #[no_mangle]
 pub extern "C" fn rl_run_index(ends: &[i64], pos: i64) -> RlFound
-    ensures { λ r. ⌜ LaidFound (slice.runIndex (now (ends .entry)) pos) r ⌝ }
+    ensures { λ r. ⌜ LaidFound (slice.runIndex (given ends) pos) r ⌝ }
 {
     ffi::found(slice::run_index(ends, pos))
 }
@@ -284,23 +275,21 @@ pub extern "C" fn rl_slice(
     out_ends: &mut [i64],
     out_values: &mut [i64],
 ) -> RlCounted
-    ensures { λ r. ⌜ LaidRuns
-        (slice.slice (sequence (now (ends .entry)) (now (values .entry))) start end (length (now («out_ends» .entry)) ∷ length (now («out_values» .entry)) ∷ [])) r
-        (now («out_ends» .entry)) (now («out_ends» .exit)) (now («out_values» .entry)) (now («out_values» .exit)) ⌝ }
+    ensures { λ r. ⌜ LaidCounted (WritesRuns (slice.slice (givenSequence ends values) start end) «out_ends» «out_values») r ⌝ }
 {
     ffi::counted(slice::slice(ends, values, start, end, out_ends, out_values))
 }
 
 #[no_mangle]
 pub extern "C" fn rl_slice_view(ends: &[i64], values: &[i64], start: i64, end: i64) -> RlViewed
-    ensures { λ r. ⌜ LaidViewed (slice.sliceView (sequence (now (ends .entry)) (now (values .entry))) start end) r ⌝ }
+    ensures { λ r. ⌜ LaidViewed (slice.sliceView (givenSequence ends values) start end) r ⌝ }
 {
     ffi::viewed(slice::slice_view(ends, values, start, end))
 }
 
 #[no_mangle]
 pub extern "C" fn rl_slice_view_values(ends: &[i64], values: &[i64], start: i64, end: i64) -> RlPart
-    ensures { λ r. ⌜ LaidPart r (slice.slicePart (sequence (now (ends .entry)) (now (values .entry))) start end) (now (values .entry)) ⌝ }
+    ensures { λ r. ⌜ LaidPart r (slice.slicePart (givenSequence ends values) start end) (given values) ⌝ }
 {
     ffi::part(slice::slice_view_part(ends, values, start, end))
 }
@@ -315,9 +304,9 @@ pub extern "C" fn rl_getitems(
     out_ends: &mut [i64],
     out_values: &mut [i64],
 ) -> RlBatched
-    ensures { λ r. ⌜ LaidFlat
-        (intervals.getitems (sequence (now (ends .entry)) (now (values .entry))) (now (starts .entry)) (now (stops .entry)) (length (now («out_offsets» .entry)) ∷ length (now («out_ends» .entry)) ∷ length (now («out_values» .entry)) ∷ [])) r
-        (now («out_offsets» .entry)) (now («out_offsets» .exit)) (now («out_ends» .entry)) (now («out_ends» .exit)) (now («out_values» .entry)) (now («out_values» .exit)) ⌝ }
+    ensures { λ r. ⌜ LaidBatched
+        (WritesFlat (intervals.getitems (givenSequence ends values) (given starts) (given stops)) «out_offsets» «out_ends» «out_values»)
+        r ⌝ }
 {
     ffi::batched(getitems::getitems(
         ends,
@@ -338,9 +327,7 @@ pub extern "C" fn rl_concat(
     out_ends: &mut [i64],
     out_values: &mut [i64],
 ) -> RlCounted
-    ensures { λ r. ⌜ LaidRuns
-        (transform.concat (flat (now (offsets .entry)) (now (ends .entry)) (now (values .entry))) (length (now («out_ends» .entry)) ∷ length (now («out_values» .entry)) ∷ [])) r
-        (now («out_ends» .entry)) (now («out_ends» .exit)) (now («out_values» .entry)) (now («out_values» .exit)) ⌝ }
+    ensures { λ r. ⌜ LaidCounted (WritesRuns (transform.concat (givenFlat offsets ends values)) «out_ends» «out_values») r ⌝ }
 {
     ffi::counted(transform::concat(offsets, ends, values, out_ends, out_values))
 }
@@ -354,9 +341,7 @@ pub extern "C" fn rl_shift(
     out_ends: &mut [i64],
     out_values: &mut [i64],
 ) -> RlCounted
-    ensures { λ r. ⌜ LaidRuns
-        (shift.shift (sequence (now (ends .entry)) (now (values .entry))) distance fill (length (now («out_ends» .entry)) ∷ length (now («out_values» .entry)) ∷ [])) r
-        (now («out_ends» .entry)) (now («out_ends» .exit)) (now («out_values» .entry)) (now («out_values» .exit)) ⌝ }
+    ensures { λ r. ⌜ LaidCounted (WritesRuns (shift.shift (givenSequence ends values) distance fill) «out_ends» «out_values») r ⌝ }
 {
     ffi::counted(shift::shift(ends, values, distance, fill, out_ends, out_values))
 }
@@ -368,9 +353,7 @@ pub extern "C" fn rl_reversed(
     out_ends: &mut [i64],
     out_values: &mut [i64],
 ) -> RlCounted
-    ensures { λ r. ⌜ LaidRuns
-        (transform.reversed (sequence (now (ends .entry)) (now (values .entry))) (length (now («out_ends» .entry)) ∷ length (now («out_values» .entry)) ∷ [])) r
-        (now («out_ends» .entry)) (now («out_ends» .exit)) (now («out_values» .entry)) (now («out_values» .exit)) ⌝ }
+    ensures { λ r. ⌜ LaidCounted (WritesRuns (transform.reversed (givenSequence ends values)) «out_ends» «out_values») r ⌝ }
 {
     ffi::counted(transform::reversed(ends, values, out_ends, out_values))
 }
@@ -384,9 +367,7 @@ pub extern "C" fn rl_ranges_where(
     out_starts: &mut [i64],
     out_ends: &mut [i64],
 ) -> RlCounted
-    ensures { λ r. ⌜ LaidRanges
-        (ranges.rangesWhere (sequence (now (ends .entry)) (now (values .entry))) code number (length (now («out_starts» .entry)) ∷ length (now («out_ends» .entry)) ∷ [])) r
-        (now («out_starts» .entry)) (now («out_starts» .exit)) (now («out_ends» .entry)) (now («out_ends» .exit)) ⌝ }
+    ensures { λ r. ⌜ LaidCounted (WritesRanges (ranges.rangesWhere (givenSequence ends values) code number) «out_starts» «out_ends») r ⌝ }
 {
     ffi::counted(ranges_where::ranges_where(ends, values, code, number, out_starts, out_ends))
 }
@@ -398,9 +379,7 @@ pub extern "C" fn rl_merge(
     out_ends: &mut [i64],
     out_values: &mut [i64],
 ) -> RlCounted
-    ensures { λ r. ⌜ LaidRuns
-        (merged.merged (sequence (now (ends .entry)) (now (values .entry))) (length (now («out_ends» .entry)) ∷ length (now («out_values» .entry)) ∷ [])) r
-        (now («out_ends» .entry)) (now («out_ends» .exit)) (now («out_values» .entry)) (now («out_values» .exit)) ⌝ }
+    ensures { λ r. ⌜ LaidCounted (WritesRuns (merged.merged (givenSequence ends values)) «out_ends» «out_values») r ⌝ }
 {
     ffi::counted(merge::merge(ends, values, out_ends, out_values))
 }
@@ -412,9 +391,7 @@ pub extern "C" fn rl_merged(
     out_ends: &mut [i64],
     out_values: &mut [i64],
 ) -> RlCounted
-    ensures { λ r. ⌜ LaidRuns
-        (merged.merged (sequence (now (ends .entry)) (now (values .entry))) (length (now («out_ends» .entry)) ∷ length (now («out_values» .entry)) ∷ [])) r
-        (now («out_ends» .entry)) (now («out_ends» .exit)) (now («out_values» .entry)) (now («out_values» .exit)) ⌝ }
+    ensures { λ r. ⌜ LaidCounted (WritesRuns (merged.merged (givenSequence ends values)) «out_ends» «out_values») r ⌝ }
 {
     ffi::counted(merge::merged(ends, values, out_ends, out_values))
 }
@@ -428,9 +405,7 @@ pub extern "C" fn rl_merge_mask(
     out_ends: &mut [i64],
     out_values: &mut [i64],
 ) -> RlCounted
-    ensures { λ r. ⌜ LaidRuns
-        (merge.mergeMask (sequence (now (ends .entry)) (now (values .entry))) (now (mask .entry)) keep (length (now («out_ends» .entry)) ∷ length (now («out_values» .entry)) ∷ [])) r
-        (now («out_ends» .entry)) (now («out_ends» .exit)) (now («out_values» .entry)) (now («out_values» .exit)) ⌝ }
+    ensures { λ r. ⌜ LaidCounted (WritesRuns (merge.mergeMask (givenSequence ends values) (given mask) keep) «out_ends» «out_values») r ⌝ }
 {
     ffi::counted(merge_mask::merge_mask(ends, values, mask, keep, out_ends, out_values))
 }
@@ -443,9 +418,7 @@ pub extern "C" fn rl_merge_by(
     out_ends: &mut [i64],
     out_values: &mut [i64],
 ) -> RlCounted
-    ensures { λ r. ⌜ LaidRuns
-        (merge.mergeBy (sequence (now (ends .entry)) (now (values .entry))) code (length (now («out_ends» .entry)) ∷ length (now («out_values» .entry)) ∷ [])) r
-        (now («out_ends» .entry)) (now («out_ends» .exit)) (now («out_values» .entry)) (now («out_values» .exit)) ⌝ }
+    ensures { λ r. ⌜ LaidCounted (WritesRuns (merge.mergeBy (givenSequence ends values) code) «out_ends» «out_values») r ⌝ }
 {
     ffi::counted(merge_mask::merge_by(ends, values, code, out_ends, out_values))
 }
@@ -457,32 +430,28 @@ pub extern "C" fn rl_merge_plan(
     out_ends: &mut [i64],
     out_offsets: &mut [usize],
 ) -> RlCounted
-    ensures { λ r. ⌜ LaidGroups
-        (groups.mergePlan (now (ends .entry)) (now (mask .entry)) (length (now («out_ends» .entry)) ∷ length (now («out_offsets» .entry)) ∷ [])) r
-        (now («out_ends» .entry)) (now («out_ends» .exit)) (now («out_offsets» .entry)) (now («out_offsets» .exit)) ⌝ }
+    ensures { λ r. ⌜ LaidCounted (WritesGroups (groups.mergePlan (given ends) (given mask)) «out_ends» «out_offsets») r ⌝ }
 {
     ffi::counted(merge_plan::merge_plan(ends, mask, out_ends, out_offsets))
 }
 
 #[no_mangle]
 pub extern "C" fn rl_group_ids(offsets: &[usize], out_ids: &mut [usize]) -> RlCounted
-    ensures { λ r. ⌜ LaidEntries
-        (groups.groupIds (now (offsets .entry)) (length (now («out_ids» .entry)) ∷ [])) r
-        (now («out_ids» .entry)) (now («out_ids» .exit)) ⌝ }
+    ensures { λ r. ⌜ LaidCounted (WritesEntries (groups.groupIds (given offsets)) «out_ids») r ⌝ }
 {
     ffi::counted(merge_plan::group_ids(offsets, out_ids))
 }
 
 #[no_mangle]
 pub extern "C" fn rl_sum(ends: &[i64], values: &[i64]) -> RlSummed
-    ensures { λ r. ⌜ LaidSum (reduce.sum (sequence (now (ends .entry)) (now (values .entry)))) r ⌝ }
+    ensures { λ r. ⌜ LaidSum (reduce.sum (givenSequence ends values)) r ⌝ }
 {
     ffi::summed(reduce::sum(ends, values))
 }
 
 #[no_mangle]
 pub extern "C" fn rl_reduce(ends: &[i64], values: &[i64], code: u8, ddof: i64) -> RlReduced
-    ensures { λ r. ⌜ LaidReduced (reduce.reduce (sequence (now (ends .entry)) (now (values .entry))) code ddof) r ⌝ }
+    ensures { λ r. ⌜ LaidReduced (reduce.reduce (givenSequence ends values) code ddof) r ⌝ }
 {
     ffi::reduced(reduce::reduce(ends, values, code, ddof))
 }
@@ -498,9 +467,9 @@ pub extern "C" fn rl_slice_reduce(
     out_kinds: &mut [u8],
     out_bits: &mut [u64],
 ) -> RlCounted
-    ensures { λ r. ⌜ LaidReductions
-        (intervals.sliceReduce (sequence (now (ends .entry)) (now (values .entry))) (now (starts .entry)) (now (stops .entry)) code ddof (length (now («out_kinds» .entry)) ∷ length (now («out_bits» .entry)) ∷ [])) r
-        (now («out_kinds» .entry)) (now («out_kinds» .exit)) (now («out_bits» .entry)) (now («out_bits» .exit)) ⌝ }
+    ensures { λ r. ⌜ LaidCounted
+        (WritesReductions (intervals.sliceReduce (givenSequence ends values) (given starts) (given stops) code ddof) «out_kinds» «out_bits»)
+        r ⌝ }
 {
     ffi::counted(getitems::slice_reduce(
         ends,
@@ -521,14 +490,14 @@ pub extern "C" fn rl_batch_from_parts(
     ends: &[i64],
     values: &[i64],
 ) -> RlRefusal
-    ensures { λ r. ⌜ LaidCheck (batches.fromParts (batch (now (keys .entry)) (now (offsets .entry)) (now (ends .entry)) (now (values .entry)))) r ⌝ }
+    ensures { λ r. ⌜ LaidCheck (batches.fromParts (givenBatch keys offsets ends values)) r ⌝ }
 {
     ffi::checked(batch::from_parts(keys, offsets, ends, values))
 }
 
 #[no_mangle]
 pub extern "C" fn rl_batch_position(keys: &[u32], key: u32) -> RlFound
-    ensures { λ r. ⌜ LaidFound (lookup.position (now (keys .entry)) key) r ⌝ }
+    ensures { λ r. ⌜ LaidFound (lookup.position (given keys) key) r ⌝ }
 {
     ffi::found(batch_keys::position(keys, key))
 }
@@ -543,9 +512,7 @@ pub extern "C" fn rl_batch_get(
     out_ends: &mut [i64],
     out_values: &mut [i64],
 ) -> RlGot
-    ensures { λ r. ⌜ LaidGot
-        (batches.get (batch (now (keys .entry)) (now (offsets .entry)) (now (ends .entry)) (now (values .entry))) key (length (now («out_ends» .entry)) ∷ length (now («out_values» .entry)) ∷ [])) r
-        (now («out_ends» .entry)) (now («out_ends» .exit)) (now («out_values» .entry)) (now («out_values» .exit)) ⌝ }
+    ensures { λ r. ⌜ LaidGot (WritesGot (batches.get (givenBatch keys offsets ends values) key) «out_ends» «out_values») r ⌝ }
 {
     ffi::got(batch::get(keys, offsets, ends, values, key, out_ends, out_values))
 }
@@ -563,9 +530,9 @@ pub extern "C" fn rl_batch_getitems(
     out_ends: &mut [i64],
     out_values: &mut [i64],
 ) -> RlBatched
-    ensures { λ r. ⌜ LaidFlat
-        (items.getitems (batch (now (keys .entry)) (now (offsets .entry)) (now (ends .entry)) (now (values .entry))) (now («get_keys» .entry)) (now (starts .entry)) (now (stops .entry)) (length (now («out_offsets» .entry)) ∷ length (now («out_ends» .entry)) ∷ length (now («out_values» .entry)) ∷ [])) r
-        (now («out_offsets» .entry)) (now («out_offsets» .exit)) (now («out_ends» .entry)) (now («out_ends» .exit)) (now («out_values» .entry)) (now («out_values» .exit)) ⌝ }
+    ensures { λ r. ⌜ LaidBatched
+        (WritesFlat (items.getitems (givenBatch keys offsets ends values) (given «get_keys») (given starts) (given stops))
+        «out_offsets» «out_ends» «out_values») r ⌝ }
 {
     ffi::batched(batch_getitems::getitems(
         keys,
@@ -595,9 +562,9 @@ pub extern "C" fn rl_batch_slice_reduce(
     out_kinds: &mut [u8],
     out_bits: &mut [u64],
 ) -> RlCounted
-    ensures { λ r. ⌜ LaidReductions
-        (batch-reduce.sliceReduce (batch (now (keys .entry)) (now (offsets .entry)) (now (ends .entry)) (now (values .entry))) (now («get_keys» .entry)) (now (starts .entry)) (now (stops .entry)) code ddof (length (now («out_kinds» .entry)) ∷ length (now («out_bits» .entry)) ∷ [])) r
-        (now («out_kinds» .entry)) (now («out_kinds» .exit)) (now («out_bits» .entry)) (now («out_bits» .exit)) ⌝ }
+    ensures { λ r. ⌜ LaidCounted
+        (WritesReductions (batch-reduce.sliceReduce
+        (givenBatch keys offsets ends values) (given «get_keys») (given starts) (given stops) code ddof) «out_kinds» «out_bits») r ⌝ }
 {
     ffi::counted(batch_slice_reduce::slice_reduce(
         keys,
@@ -627,9 +594,9 @@ pub extern "C" fn rl_batch_shift(
     out_ends: &mut [i64],
     out_values: &mut [i64],
 ) -> RlBatched
-    ensures { λ r. ⌜ LaidBatch
-        (each.shift (batch (now (keys .entry)) (now (offsets .entry)) (now (ends .entry)) (now (values .entry))) distance fill (length (now («out_keys» .entry)) ∷ length (now («out_offsets» .entry)) ∷ length (now («out_ends» .entry)) ∷ length (now («out_values» .entry)) ∷ [])) r
-        (now («out_keys» .entry)) (now («out_keys» .exit)) (now («out_offsets» .entry)) (now («out_offsets» .exit)) (now («out_ends» .entry)) (now («out_ends» .exit)) (now («out_values» .entry)) (now («out_values» .exit)) ⌝ }
+    ensures { λ r. ⌜ LaidBatched
+        (WritesBatch (each.shift (givenBatch keys offsets ends values) distance fill) «out_keys» «out_offsets» «out_ends» «out_values»)
+        r ⌝ }
 {
     ffi::batched(batch_map_rles::shift(
         keys,
@@ -656,9 +623,8 @@ pub extern "C" fn rl_batch_reversed(
     out_ends: &mut [i64],
     out_values: &mut [i64],
 ) -> RlBatched
-    ensures { λ r. ⌜ LaidBatch
-        (each.reversed (batch (now (keys .entry)) (now (offsets .entry)) (now (ends .entry)) (now (values .entry))) (length (now («out_keys» .entry)) ∷ length (now («out_offsets» .entry)) ∷ length (now («out_ends» .entry)) ∷ length (now («out_values» .entry)) ∷ [])) r
-        (now («out_keys» .entry)) (now («out_keys» .exit)) (now («out_offsets» .entry)) (now («out_offsets» .exit)) (now («out_ends» .entry)) (now («out_ends» .exit)) (now («out_values» .entry)) (now («out_values» .exit)) ⌝ }
+    ensures { λ r. ⌜ LaidBatched
+        (WritesBatch (each.reversed (givenBatch keys offsets ends values)) «out_keys» «out_offsets» «out_ends» «out_values») r ⌝ }
 {
     ffi::batched(batch_map_rles::reversed(
         keys,
@@ -685,9 +651,9 @@ pub extern "C" fn rl_batch_map_rles_slice(
     out_ends: &mut [i64],
     out_values: &mut [i64],
 ) -> RlBatched
-    ensures { λ r. ⌜ LaidBatch
-        (each.mapRlesSlice (batch (now (keys .entry)) (now (offsets .entry)) (now (ends .entry)) (now (values .entry))) start end (length (now («out_keys» .entry)) ∷ length (now («out_offsets» .entry)) ∷ length (now («out_ends» .entry)) ∷ length (now («out_values» .entry)) ∷ [])) r
-        (now («out_keys» .entry)) (now («out_keys» .exit)) (now («out_offsets» .entry)) (now («out_offsets» .exit)) (now («out_ends» .entry)) (now («out_ends» .exit)) (now («out_values» .entry)) (now («out_values» .exit)) ⌝ }
+    ensures { λ r. ⌜ LaidBatched
+        (WritesBatch (each.mapRlesSlice (givenBatch keys offsets ends values) start end) «out_keys» «out_offsets» «out_ends» «out_values»)
+        r ⌝ }
 {
     ffi::batched(batch_map_rles::map_rles_slice(
         keys,
@@ -719,10 +685,9 @@ pub extern "C" fn rl_batch_collapse(
     scratch_ends: &mut [i64],
     scratch_values: &mut [i64],
 ) -> RlBatched
-    ensures { λ r. ⌜ LaidCollapse
-        (collapse.collapse (batch (now (keys .entry)) (now (offsets .entry)) (now (ends .entry)) (now (values .entry))) (now («new_keys» .entry)) (readFill fill) code
-        (length (now («out_keys» .entry)) ∷ length (now («out_offsets» .entry)) ∷ length (now («out_ends» .entry)) ∷ length (now («out_values» .entry)) ∷ length (now («scratch_ends» .entry)) ∷ length (now («scratch_values» .entry)) ∷ [])) (2 * length (now (ends .entry))) r
-        (now («out_keys» .entry)) (now («out_keys» .exit)) (now («out_offsets» .entry)) (now («out_offsets» .exit)) (now («out_ends» .entry)) (now («out_ends» .exit)) (now («out_values» .entry)) (now («out_values» .exit)) (now («scratch_ends» .entry)) (now («scratch_ends» .exit)) (now («scratch_values» .entry)) (now («scratch_values» .exit)) ⌝ }
+    ensures { λ r. ⌜ LaidBatched
+        (WritesCollapse (collapse.collapse (givenBatch keys offsets ends values) (given «new_keys») (readFill fill) code)
+        (2 * length (given ends)) «out_keys» «out_offsets» «out_ends» «out_values» «scratch_ends» «scratch_values») r ⌝ }
 {
     ffi::batched(batch_collapse::collapse(
         keys,
@@ -756,9 +721,9 @@ pub extern "C" fn rl_batch_concat(
     out_ends: &mut [i64],
     out_values: &mut [i64],
 ) -> RlBatched
-    ensures { λ r. ⌜ LaidBatch
-        (concat.concat (batch (now («a_keys» .entry)) (now («a_offsets» .entry)) (now («a_ends» .entry)) (now («a_values» .entry))) (batch (now («b_keys» .entry)) (now («b_offsets» .entry)) (now («b_ends» .entry)) (now («b_values» .entry))) (length (now («out_keys» .entry)) ∷ length (now («out_offsets» .entry)) ∷ length (now («out_ends» .entry)) ∷ length (now («out_values» .entry)) ∷ [])) r
-        (now («out_keys» .entry)) (now («out_keys» .exit)) (now («out_offsets» .entry)) (now («out_offsets» .exit)) (now («out_ends» .entry)) (now («out_ends» .exit)) (now («out_values» .entry)) (now («out_values» .exit)) ⌝ }
+    ensures { λ r. ⌜ LaidBatched
+        (WritesBatch (concat.concat (givenBatch «a_keys» «a_offsets» «a_ends» «a_values»)
+        (givenBatch «b_keys» «b_offsets» «b_ends» «b_values»)) «out_keys» «out_offsets» «out_ends» «out_values») r ⌝ }
 {
     ffi::batched(batch_concat::concat(
         a_keys,
@@ -795,9 +760,10 @@ pub extern "C" fn rl_batch_zip_with(
     out_ends: &mut [i64],
     out_values: &mut [i64],
 ) -> RlBatched
-    ensures { λ r. ⌜ LaidBatch
-        (join.zipWith (batch (now («a_keys» .entry)) (now («a_offsets» .entry)) (now («a_ends» .entry)) (now («a_values» .entry))) (batch (now («b_keys» .entry)) (now («b_offsets» .entry)) (now («b_ends» .entry)) (now («b_values» .entry))) how (readFill «fill_a») (readFill «fill_b») code (length (now («out_keys» .entry)) ∷ length (now («out_offsets» .entry)) ∷ length (now («out_ends» .entry)) ∷ length (now («out_values» .entry)) ∷ [])) r
-        (now («out_keys» .entry)) (now («out_keys» .exit)) (now («out_offsets» .entry)) (now («out_offsets» .exit)) (now («out_ends» .entry)) (now («out_ends» .exit)) (now («out_values» .entry)) (now («out_values» .exit)) ⌝ }
+    ensures { λ r. ⌜ LaidBatched
+        (WritesBatch (join.zipWith (givenBatch «a_keys» «a_offsets» «a_ends» «a_values»)
+        (givenBatch «b_keys» «b_offsets» «b_ends» «b_values») how (readFill «fill_a») (readFill «fill_b») code)
+        «out_keys» «out_offsets» «out_ends» «out_values») r ⌝ }
 {
     ffi::batched(batch_zip_with::zip_with(
         a_keys,

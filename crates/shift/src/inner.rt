@@ -7,9 +7,10 @@ ghost use mathlib.Core.Option.{none};
 ghost use mathlib.Core.Path.{_≡_};
 ghost use lib.ListN.{length};
 ghost use Rattle.column.specs.Questions.{endsValid};
-ghost use Rattle.column.specs.Runs.{runsOf, dense, encode, Filled};
+ghost use Rattle.column.specs.Runs.{runsOf, dense, encode, Fills};
 ghost use Rattle.shift.specs.Calls.{shiftValues};
 ghost use Rattle.shift.specs.Workers.{Shiftable, shiftedUp, shiftedDown};
+ghost use Rattle.column.specs.Lent.{given};
 
 // The fill, and behind it what the runs show, up to the length.
 fn shift_up(
@@ -22,8 +23,7 @@ fn shift_up(
     out_values: &mut [i64],
 ) -> usize
     requires { ⌜ (0 < by) × Shiftable (now ends) (now values) by length (now «out_ends») (now «out_values») ⌝ }
-    ensures { λ r. ⌜ Filled (encode (shiftedUp by fill (dense (runsOf (now (ends .entry)) (now (values .entry))))))
-        (now («out_ends» .entry)) (now («out_ends» .exit)) (now («out_values» .entry)) (now («out_values» .exit)) r ⌝ }
+    ensures { λ r. ⌜ Fills (encode (shiftedUp by fill (dense (runsOf (given ends) (given values))))) «out_ends» «out_values» r ⌝ }
 {
     let filled = column::inner::push_merged(
         Writer { at: 0, last: fill },
@@ -52,8 +52,7 @@ fn shift_down(
     out_values: &mut [i64],
 ) -> usize
     requires { ⌜ Shiftable (now ends) (now values) by length (now «out_ends») (now «out_values») ⌝ }
-    ensures { λ r. ⌜ Filled (encode (shiftedDown by fill (dense (runsOf (now (ends .entry)) (now (values .entry))))))
-        (now («out_ends» .entry)) (now («out_ends» .exit)) (now («out_values» .entry)) (now («out_values» .exit)) r ⌝ }
+    ensures { λ r. ⌜ Fills (encode (shiftedDown by fill (dense (runsOf (given ends) (given values))))) «out_ends» «out_values» r ⌝ }
 {
     let first = search::first_end_above(ends, by as i64);
     let value = values[first];
@@ -85,8 +84,7 @@ pub fn shift(
     out_values: &mut [i64],
 ) -> usize
     requires { ⌜ (endsValid (now ends) ≡ none) × (length (now ends) ≡ length (now values)) × (length (now ends) + 1 ≤ length (now «out_ends»)) × (length (now ends) + 1 ≤ length (now «out_values»)) ⌝ }
-    ensures { λ r. ⌜ Filled (encode (shiftValues distance fill (dense (runsOf (now (ends .entry)) (now (values .entry))))))
-        (now («out_ends» .entry)) (now («out_ends» .exit)) (now («out_values» .entry)) (now («out_values» .exit)) r ⌝ }
+    ensures { λ r. ⌜ Fills (encode (shiftValues distance fill (dense (runsOf (given ends) (given values))))) «out_ends» «out_values» r ⌝ }
 {
     let length = sequence::magnitude(sequence::length(ends));
     if length == 0 {

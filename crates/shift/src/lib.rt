@@ -2,10 +2,8 @@ pub mod inner;
 
 use column::answer::Asked;
 use column::answer::Counted;
-ghost use mathlib.Core.List.{[], _∷_};
-ghost use lib.ListN.{length};
 ghost use Rattle.column.specs.Paper.{WritesRuns};
-ghost use Rattle.column.specs.Runs.{sequence};
+ghost use Rattle.column.specs.Runs.{givenSequence};
 ghost use Rattle.shift.specs.Calls as calls;
 
 // A sequence moved by a distance, towards higher positions where it is positive, and merged; the fill stands where no value was moved to.
@@ -17,9 +15,7 @@ pub fn shift(
     out_ends: &mut [i64],
     out_values: &mut [i64],
 ) -> Counted
-    ensures { λ r. ⌜ WritesRuns
-        (calls.shift (sequence (now (ends .entry)) (now (values .entry))) distance fill (length (now («out_ends» .entry)) ∷ length (now («out_values» .entry)) ∷ [])) r
-        (now («out_ends» .entry)) (now («out_ends» .exit)) (now («out_values» .entry)) (now («out_values» .exit)) ⌝ }
+    ensures { λ r. ⌜ WritesRuns (calls.shift (givenSequence ends values) distance fill) «out_ends» «out_values» r ⌝ }
 {
     let asked = questions::ask_sequence_into(
         ends,

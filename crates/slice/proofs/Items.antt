@@ -13,7 +13,7 @@ use lib.Seq.{take-suc, take-all, length-take-le}
 use Rattle.column.specs.declared.answer.Batched.{Batched}
 use Rattle.column.specs.declared.error.Refusal.{Refusal}
 use Rattle.column.specs.Asking.{Question, _otherwise_}
-use Rattle.column.specs.Flat.{offsetsFrom, flatOffsets, flatEnds, flatValues, WritesFlat}
+use Rattle.column.specs.Flat.{offsetsFrom, flatOffsets, flatEnds, flatValues, WrittenFlat}
 use Rattle.column.specs.Lists.{total}
 use Rattle.column.specs.Paper.{paper}
 use Rattle.column.specs.Runs.{Runs, endsOf, valuesOf, over, Filled}
@@ -138,8 +138,8 @@ module _ {cs : List Runs} {x₀ x : List ℕ} {e₀ e v₀ v : List ℤ} {used i
 
 module _ {q : Question} (cs : List Runs) where
   pub flat-written : {x x′ : List ℕ} {e e′ v v′ : List ℤ} {k n : ℕ} → q ≡ none → k ≡ length cs → FilledFlat cs x x′ e e′ v v′ n
-      → WritesFlat (q otherwise cs) (Batched.Batch (record { keys = k; runs = n })) x x′ e e′ v v′
+      → WrittenFlat (q otherwise cs) (Batched.Batch (record { keys = k; runs = n })) x x′ e e′ v v′
   flat-written h ek f = rw h (record { answer = rw (ek, f .count); offsets = f .offsets; ends = f .ends; values = f .values })
 
-  pub flat-refused : {r : Refusal} {x : List ℕ} {e v : List ℤ} → q ≡ some (paper r) → WritesFlat (q otherwise cs) (Batched.Refused r) x x e e v v
+  pub flat-refused : {r : Refusal} {x : List ℕ} {e v : List ℤ} → q ≡ some (paper r) → WrittenFlat (q otherwise cs) (Batched.Refused r) x x e e v v
   flat-refused h = rw h (record { answer = refl; offsets = refl; ends = refl; values = refl })

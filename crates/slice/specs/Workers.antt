@@ -14,6 +14,7 @@ use Rattle.slice.specs.declared.search.TouchedRuns.{TouchedRuns}
 use mathlib.Core.Bool.{cond}
 use lib.Signed.{leZ}
 use lib.Dec.{ltb}
+use Rattle.column.specs.Lent.{Lent, given, after}
 
 -- the lowest index of an end at or above a position, or how many ends there are
 unfoldable pub firstEndAtLeast : ℤ → List ℤ → ℕ
@@ -61,3 +62,7 @@ pub record FilledFlat (cs : List Runs) (x x′ : List ℕ) (e e′ v v′ : List
   pub offsets : x′ ≡ over (flatOffsets cs) x
   pub ends : e′ ≡ over (flatEnds cs) e
   pub values : v′ ≡ over (flatValues cs) v
+
+-- of the buffers that a call is lent
+abbrev pub FillsFlat : List Runs → Lent ℕ → Lent ℤ → Lent ℤ → ℕ → Type 0
+FillsFlat cs x e v n = FilledFlat cs (given x) (after x) (given e) (after e) (given v) (after v) n

@@ -6,8 +6,9 @@ ghost use mathlib.Core.Path.{_≡_};
 ghost use lib.Dec.{eqb};
 ghost use lib.IntN.{pos};
 ghost use lib.Signed.{ltZ};
-ghost use Rattle.column.specs.Runs.{runsOf, Filled};
+ghost use Rattle.column.specs.Runs.{runsOf, Fills};
 ghost use Rattle.slice.specs.Workers.{Halving, cutRuns, Touches};
+ghost use Rattle.column.specs.Lent.{given};
 
 // The least number of 64 bits whose top bit is set.
 const TOP: u64 = 0x8000_0000_0000_0000;
@@ -34,7 +35,7 @@ fn low_after(low: usize, step: usize, above: usize) -> usize
 // decides how many steps there are.
 pub fn half(ends: &[i64], low: usize, size: usize, position: usize) -> usize
     requires { ⌜ Halving position (now ends) low size × (0 < size) × (position < 2 ^ 63) ⌝ }
-    ensures { λ r. ⌜ Halving position (now (ends .entry)) r (size / 2) ⌝ }
+    ensures { λ r. ⌜ Halving position (given ends) r (size / 2) ⌝ }
 {
     let step = size - size / 2;
     let end = ends[low + step - 1];
@@ -50,7 +51,7 @@ pub fn slice(
     out_values: &mut [i64],
 ) -> usize
     requires { ⌜ Touches touched (now ends) (now values) (now «out_ends») (now «out_values») ⌝ }
-    ensures { λ r. ⌜ Filled (cutRuns touched (runsOf (now (ends .entry)) (now (values .entry)))) (now («out_ends» .entry)) (now («out_ends» .exit)) (now («out_values» .entry)) (now («out_values» .exit)) r ⌝ }
+    ensures { λ r. ⌜ Fills (cutRuns touched (runsOf (given ends) (given values))) «out_ends» «out_values» r ⌝ }
 {
     let first = touched.first;
     let count = touched.count;

@@ -6,16 +6,15 @@ use column::answer::Counted;
 use column::answer::Found;
 use column::error::Refusal;
 use column::sequence;
-ghost use Prim.Native.Nat.{_+_, _<_};
 ghost use mathlib.Core.List.{[], _∷_};
 ghost use mathlib.Core.Path.{_≡_};
-ghost use lib.ListN.{length};
 ghost use Rattle.column.specs.Asking.{shownAsked};
 ghost use Rattle.column.specs.Paper.{shownFound, WritesRuns};
 ghost use Rattle.column.specs.Questions.{room, both};
-ghost use Rattle.column.specs.Runs.{sequence};
+ghost use Rattle.column.specs.Runs.{givenSequence};
 ghost use Rattle.slice.specs.Calls.{shownViewed, PartOf, HandsBack};
 ghost use Rattle.slice.specs.Calls as calls;
+ghost use Rattle.column.specs.Lent.{given};
 
 // A view of a slice: its first run, its start, and its length.
 pub struct View {
@@ -38,7 +37,7 @@ pub struct Part {
 
 // The run that covers a position.
 pub fn run_index(ends: &[i64], position: i64) -> Found
-    ensures { λ r. ⌜ shownFound r ≡ calls.runIndex (now (ends .entry)) position ⌝ }
+    ensures { λ r. ⌜ shownFound r ≡ calls.runIndex (given ends) position ⌝ }
 {
     let asked = questions::ask_ends(ends);
     match asked {
@@ -66,9 +65,7 @@ pub fn slice(
     out_ends: &mut [i64],
     out_values: &mut [i64],
 ) -> Counted
-    ensures { λ r. ⌜ WritesRuns
-        (calls.slice (sequence (now (ends .entry)) (now (values .entry))) start end (length (now («out_ends» .entry)) ∷ length (now («out_values» .entry)) ∷ [])) r
-        (now («out_ends» .entry)) (now («out_ends» .exit)) (now («out_values» .entry)) (now («out_values» .exit)) ⌝ }
+    ensures { λ r. ⌜ WritesRuns (calls.slice (givenSequence ends values) start end) «out_ends» «out_values» r ⌝ }
 {
     let touched = search::touched(ends, start, end);
     let asked = questions::ask_sequence_into(
@@ -89,7 +86,7 @@ pub fn slice(
 
 // A view of a slice, whose values `slice_view_values` hands back.
 pub fn slice_view(ends: &[i64], values: &[i64], start: i64, end: i64) -> Viewed
-    ensures { λ r. ⌜ shownViewed r ≡ calls.sliceView (sequence (now (ends .entry)) (now (values .entry))) start end ⌝ }
+    ensures { λ r. ⌜ shownViewed r ≡ calls.sliceView (givenSequence ends values) start end ⌝ }
 {
     let asked = questions::ask_sequence(ends, values);
     match asked {
@@ -107,7 +104,7 @@ pub fn slice_view(ends: &[i64], values: &[i64], start: i64, end: i64) -> Viewed
 
 // Where the values of a view stand.
 pub fn slice_view_part(ends: &[i64], values: &[i64], start: i64, end: i64) -> Part
-    ensures { λ r. ⌜ PartOf r (calls.slicePart (sequence (now (ends .entry)) (now (values .entry))) start end) (now (values .entry)) ⌝ }
+    ensures { λ r. ⌜ PartOf r (calls.slicePart (givenSequence ends values) start end) (given values) ⌝ }
 {
     let asked = questions::ask_sequence(ends, values);
     match asked {
@@ -129,7 +126,7 @@ pub fn slice_view_values<'e, 'v>(
     start: i64,
     end: i64,
 ) -> &'v [i64]
-    ensures { λ r. ⌜ HandsBack r (calls.slicePart (sequence (now (ends .entry)) (now (values .entry))) start end) (values .entry) ⌝ }
+    ensures { λ r. ⌜ HandsBack r (calls.slicePart (givenSequence ends values) start end) (values .entry) ⌝ }
 {
     let part = slice_view_part(ends, values, start, end);
     let first = part.first;

@@ -8,10 +8,11 @@ ghost use lib.ListN.{length};
 ghost use Rattle.column.specs.Questions.{endsValid};
 ghost use Rattle.slice.specs.Calls.{firstEndAbove};
 ghost use Rattle.slice.specs.Workers.{firstEndAtLeast, touchedBy};
+ghost use Rattle.column.specs.Lent.{given};
 
 // The lowest index of an end above a position, or how many ends there are. Valid ends are above every negative position.
 pub fn first_end_above(ends: &[i64], position: i64) -> usize
-    ensures { λ r. ⌜ (r ≤ length (now (ends .entry))) × (endsValid (now (ends .entry)) ≡ none → r ≡ firstEndAbove position (now (ends .entry))) ⌝ }
+    ensures { λ r. ⌜ (r ≤ length (given ends)) × (endsValid (given ends) ≡ none → r ≡ firstEndAbove position (given ends)) ⌝ }
 {
     if position < 0 {
         return 0;
@@ -28,7 +29,7 @@ pub fn first_end_above(ends: &[i64], position: i64) -> usize
 
 // The lowest index of an end at or above a position, or how many ends there are; valid ends are above 0.
 pub fn first_end_at_least(ends: &[i64], position: i64) -> usize
-    ensures { λ r. ⌜ (r ≤ length (now (ends .entry))) × (endsValid (now (ends .entry)) ≡ none → r ≡ firstEndAtLeast position (now (ends .entry))) ⌝ }
+    ensures { λ r. ⌜ (r ≤ length (given ends)) × (endsValid (given ends) ≡ none → r ≡ firstEndAtLeast position (given ends)) ⌝ }
 {
     if position <= 0 {
         return 0;
@@ -38,7 +39,7 @@ pub fn first_end_at_least(ends: &[i64], position: i64) -> usize
 
 // The same, by an exponential search: the end is looked for among twice as many until they have it, since a slice mostly touches few runs.
 fn exponential_search(ends: &[i64], position: i64) -> usize
-    ensures { λ r. ⌜ (r ≤ length (now (ends .entry))) × (endsValid (now (ends .entry)) ≡ none → r ≡ firstEndAtLeast position (now (ends .entry))) ⌝ }
+    ensures { λ r. ⌜ (r ≤ length (given ends)) × (endsValid (given ends) ≡ none → r ≡ firstEndAtLeast position (given ends)) ⌝ }
 {
     let mut size: usize = 1;
     while size < ends.len() {
@@ -61,7 +62,7 @@ pub struct TouchedRuns {
 
 // The last of them is looked for behind the first.
 pub fn touched(ends: &[i64], start: i64, end: i64) -> TouchedRuns
-    ensures { λ r. ⌜ (endsValid (now (ends .entry)) ≡ none → r ≡ touchedBy start end (now (ends .entry))) ⌝ }
+    ensures { λ r. ⌜ (endsValid (given ends) ≡ none → r ≡ touchedBy start end (given ends)) ⌝ }
 {
     let from = num::larger(start, 0);
     let to = num::smaller(end, sequence::length(ends));

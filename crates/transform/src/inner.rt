@@ -6,11 +6,12 @@ ghost use mathlib.Core.List.{reverse};
 ghost use mathlib.Core.Option.{none};
 ghost use mathlib.Core.Path.{_≡_};
 ghost use lib.ListN.{length};
-ghost use Rattle.column.specs.Flat.{flat, columns};
+ghost use Rattle.column.specs.Flat.{flat, columns, givenFlat};
 ghost use Rattle.column.specs.Questions.{endsValid};
-ghost use Rattle.column.specs.Runs.{runsOf, encode, over, Filled};
+ghost use Rattle.column.specs.Runs.{runsOf, encode, over, Fills};
 ghost use Rattle.transform.specs.Calls.{shown, reverseRuns};
 ghost use Rattle.transform.specs.Workers.{Joinable, turnedEnds};
+ghost use Rattle.column.specs.Lent.{given, after};
 
 // One sequence after another.
 pub fn concat(
@@ -21,8 +22,7 @@ pub fn concat(
     out_values: &mut [i64],
 ) -> usize
     requires { ⌜ Joinable (flat (now offsets) (now ends) (now values)) (now «out_ends») (now «out_values») ⌝ }
-    ensures { λ r. ⌜ Filled (encode (shown (columns (flat (now (offsets .entry)) (now (ends .entry)) (now (values .entry))))))
-        (now («out_ends» .entry)) (now («out_ends» .exit)) (now («out_values» .entry)) (now («out_values» .exit)) r ⌝ }
+    ensures { λ r. ⌜ Fills (encode (shown (columns (givenFlat offsets ends values)))) «out_ends» «out_values» r ⌝ }
 {
     if ends.len() == 0 {
         return 0;
@@ -46,7 +46,7 @@ pub fn concat(
 // The ends of the runs from last to first: how far it is from each run's start to the length.
 fn reverse_ends(ends: &[i64], out_ends: &mut [i64])
     requires { ⌜ (endsValid (now ends) ≡ none) × (0 < length (now ends)) × (length (now ends) ≤ length (now «out_ends»)) ⌝ }
-    ensures { λ _. ⌜ now («out_ends» .exit) ≡ over (turnedEnds (now (ends .entry))) (now («out_ends» .entry)) ⌝ }
+    ensures { λ _. ⌜ after «out_ends» ≡ over (turnedEnds (given ends)) (given «out_ends») ⌝ }
 {
     let n = ends.len();
     let length = ends[n - 1];
@@ -61,7 +61,7 @@ fn reverse_ends(ends: &[i64], out_ends: &mut [i64])
 
 fn reverse_values(values: &[i64], out_values: &mut [i64])
     requires { ⌜ length (now values) ≤ length (now «out_values») ⌝ }
-    ensures { λ _. ⌜ now («out_values» .exit) ≡ over (reverse (now (values .entry))) (now («out_values» .entry)) ⌝ }
+    ensures { λ _. ⌜ after «out_values» ≡ over (reverse (given values)) (given «out_values») ⌝ }
 {
     let n = values.len();
     let mut t: usize = 0;
@@ -75,8 +75,7 @@ fn reverse_values(values: &[i64], out_values: &mut [i64])
 // The runs from last to first. Two loops of two lists each take less time than one of four: memory is what binds them.
 pub fn reversed(ends: &[i64], values: &[i64], out_ends: &mut [i64], out_values: &mut [i64]) -> usize
     requires { ⌜ (endsValid (now ends) ≡ none) × (length (now ends) ≡ length (now values)) × (length (now ends) ≤ length (now «out_ends»)) × (length (now ends) ≤ length (now «out_values»)) ⌝ }
-    ensures { λ r. ⌜ Filled (reverseRuns (runsOf (now (ends .entry)) (now (values .entry))))
-        (now («out_ends» .entry)) (now («out_ends» .exit)) (now («out_values» .entry)) (now («out_values» .exit)) r ⌝ }
+    ensures { λ r. ⌜ Fills (reverseRuns (runsOf (given ends) (given values))) «out_ends» «out_values» r ⌝ }
 {
     if ends.len() == 0 {
         return 0;

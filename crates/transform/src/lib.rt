@@ -5,18 +5,18 @@ use column::answer::Counted;
 use column::sequence;
 ghost use mathlib.Core.List.{[], _∷_, map};
 ghost use mathlib.Core.Path.{_≡_};
-ghost use lib.ListN.{length};
 ghost use Rattle.num.specs.Numbers.{saturated};
 ghost use Rattle.column.specs.Asking.{shownAsked};
-ghost use Rattle.column.specs.Flat.{flat};
+ghost use Rattle.column.specs.Flat.{givenFlat};
 ghost use Rattle.column.specs.Lists.{total, parts};
 ghost use Rattle.column.specs.Paper.{WritesRuns};
-ghost use Rattle.column.specs.Runs.{sequence, magnitude, lengthOfEnds};
+ghost use Rattle.column.specs.Runs.{magnitude, lengthOfEnds, givenSequence};
 ghost use Rattle.transform.specs.Calls as calls;
+ghost use Rattle.column.specs.Lent.{given};
 
 // The lengths of all sequences together; at most usize::MAX is told.
 fn total_length(offsets: &[usize], ends: &[i64]) -> usize
-    ensures { λ r. ⌜ r ≡ saturated (total (map (λ es. magnitude (lengthOfEnds es)) (parts (now (offsets .entry)) (now (ends .entry))))) ⌝ }
+    ensures { λ r. ⌜ r ≡ saturated (total (map (λ es. magnitude (lengthOfEnds es)) (parts (given offsets) (given ends)))) ⌝ }
 {
     let mut total: usize = 0;
     let mut k = 0;
@@ -37,7 +37,7 @@ fn concat_asks(
     out_ends: usize,
     out_values: usize,
 ) -> Asked
-    ensures { λ r. ⌜ shownAsked r ≡ calls.concatAsked (flat (now (offsets .entry)) (now (ends .entry)) (now (values .entry))) («out_ends» ∷ «out_values» ∷ []) ⌝ }
+    ensures { λ r. ⌜ shownAsked r ≡ calls.concatAsked (givenFlat offsets ends values) («out_ends» ∷ «out_values» ∷ []) ⌝ }
 {
     let room = questions::ask_both(ends.len(), out_ends, out_values);
     let fit = questions::first_no(questions::ask_fits(total_length(offsets, ends)), room);
@@ -52,9 +52,7 @@ pub fn concat(
     out_ends: &mut [i64],
     out_values: &mut [i64],
 ) -> Counted
-    ensures { λ r. ⌜ WritesRuns
-        (calls.concat (flat (now (offsets .entry)) (now (ends .entry)) (now (values .entry))) (length (now («out_ends» .entry)) ∷ length (now («out_values» .entry)) ∷ [])) r
-        (now («out_ends» .entry)) (now («out_ends» .exit)) (now («out_values» .entry)) (now («out_values» .exit)) ⌝ }
+    ensures { λ r. ⌜ WritesRuns (calls.concat (givenFlat offsets ends values)) «out_ends» «out_values» r ⌝ }
 {
     let asked = concat_asks(offsets, ends, values, out_ends.len(), out_values.len());
     match asked {
@@ -73,9 +71,7 @@ pub fn reversed(
     out_ends: &mut [i64],
     out_values: &mut [i64],
 ) -> Counted
-    ensures { λ r. ⌜ WritesRuns
-        (calls.reversed (sequence (now (ends .entry)) (now (values .entry))) (length (now («out_ends» .entry)) ∷ length (now («out_values» .entry)) ∷ [])) r
-        (now («out_ends» .entry)) (now («out_ends» .exit)) (now («out_values» .entry)) (now («out_values» .exit)) ⌝ }
+    ensures { λ r. ⌜ WritesRuns (calls.reversed (givenSequence ends values)) «out_ends» «out_values» r ⌝ }
 {
     let asked = questions::ask_sequence_into(
         ends,

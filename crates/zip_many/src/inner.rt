@@ -9,15 +9,16 @@ ghost use lib.ListN.{length};
 ghost use Rattle.num.specs.Numbers.{operation};
 ghost use Rattle.column.specs.declared.answer.Fill.the-variants.{Value};
 ghost use Rattle.column.specs.Combine.{many, folded, combined};
-ghost use Rattle.column.specs.Flat.{flat, columns};
-ghost use Rattle.column.specs.Runs.{Filled};
+ghost use Rattle.column.specs.Flat.{columns, givenFlat};
+ghost use Rattle.column.specs.Runs.{Fills};
 ghost use Rattle.many.specs.Workers.{Paired};
 ghost use Rattle.zip_many.specs.Workers.{Combinable, Zippable};
+ghost use Rattle.column.specs.Lent.{given};
 
 // What the columns show, folded from the first one.
 fn fold_by(code: u8, shown: &[i64]) -> i64
     requires { ⌜ 0 < length (now shown) ⌝ }
-    ensures { λ r. ⌜ r ≡ folded (operation code) (now (shown .entry)) ⌝ }
+    ensures { λ r. ⌜ r ≡ folded (operation code) (given shown) ⌝ }
 {
     let mut value = shown[0];
     let mut c: usize = 1;
@@ -31,7 +32,7 @@ fn fold_by(code: u8, shown: &[i64]) -> i64
 // The same, with a loop for each operation: where the code is written out, the compiler keeps its test out of the loop.
 fn fold(code: u8, shown: &[i64]) -> i64
     requires { ⌜ 0 < length (now shown) ⌝ }
-    ensures { λ r. ⌜ r ≡ folded (operation code) (now (shown .entry)) ⌝ }
+    ensures { λ r. ⌜ r ≡ folded (operation code) (given shown) ⌝ }
 {
     match code {
         0 => fold_by(0, shown),
@@ -61,8 +62,8 @@ fn zip_walk(
     out_values: &mut [i64],
 ) -> usize
     requires { ⌜ Combinable (now offsets) (now ends) (now values) (now places) (now «out_ends») (now «out_values») × Paired (now ends) (now values) (now places) (now current) (now shown) ⌝ }
-    ensures { λ r. ⌜ Filled (combined (operation code) (many (Value fill) (columns (flat (now (offsets .entry)) (now (ends .entry)) (now (values .entry))))))
-        (now («out_ends» .entry)) (now («out_ends» .exit)) (now («out_values» .entry)) (now («out_values» .exit)) r ⌝ }
+    ensures { λ r.
+        ⌜ Fills (combined (operation code) (many (Value fill) (columns (givenFlat offsets ends values)))) «out_ends» «out_values» r ⌝ }
 {
     if ends.len() == 0 {
         return 0;
@@ -89,8 +90,8 @@ pub fn zip_many(
     out_values: &mut [i64],
 ) -> usize
     requires { ⌜ Zippable (now offsets) (now ends) (now values) (now «out_ends») (now «out_values») ⌝ }
-    ensures { λ r. ⌜ Filled (combined (operation code) (many (Value fill) (columns (flat (now (offsets .entry)) (now (ends .entry)) (now (values .entry))))))
-        (now («out_ends» .entry)) (now («out_ends» .exit)) (now («out_values» .entry)) (now («out_values» .exit)) r ⌝ }
+    ensures { λ r.
+        ⌜ Fills (combined (operation code) (many (Value fill) (columns (givenFlat offsets ends values)))) «out_ends» «out_values» r ⌝ }
 {
     let k = offsets.len() - 1;
     let mut places = [0usize; rle::Rle::MAX_COLUMNS];

@@ -6,14 +6,14 @@ use column::answer::Counted;
 use column::answer::Fill;
 ghost use mathlib.Core.List.{[], _∷_, map};
 ghost use mathlib.Core.Path.{_≡_};
-ghost use lib.ListN.{length};
 ghost use Rattle.column.specs.Asking.{shownAsked};
-ghost use Rattle.column.specs.Flat.{flat};
+ghost use Rattle.column.specs.Flat.{givenFlat};
 ghost use Rattle.column.specs.Lists.{parts};
 ghost use Rattle.column.specs.Paper.{WritesRuns};
 ghost use Rattle.column.specs.Runs.{lengthOfEnds};
 ghost use Rattle.zip_many.specs.Calls as calls;
 ghost use Rattle.zip_many.specs.Workers.{LengthsOf};
+ghost use Rattle.column.specs.Lent.{given};
 
 // The least and the greatest length of columns.
 pub struct Lengths {
@@ -22,7 +22,7 @@ pub struct Lengths {
 }
 
 fn least_and_greatest(offsets: &[usize], ends: &[i64]) -> Lengths
-    ensures { λ r. ⌜ LengthsOf (map lengthOfEnds (parts (now (offsets .entry)) (now (ends .entry)))) r ⌝ }
+    ensures { λ r. ⌜ LengthsOf (map lengthOfEnds (parts (given offsets) (given ends))) r ⌝ }
 {
     if offsets.len() < 2 {
         return Lengths {
@@ -52,7 +52,7 @@ fn zip_many_asks(
     out_ends: usize,
     out_values: usize,
 ) -> Asked
-    ensures { λ r. ⌜ shownAsked r ≡ calls.zipManyAsked (flat (now (offsets .entry)) (now (ends .entry)) (now (values .entry))) fill code («out_ends» ∷ «out_values» ∷ []) ⌝ }
+    ensures { λ r. ⌜ shownAsked r ≡ calls.zipManyAsked (givenFlat offsets ends values) fill code («out_ends» ∷ «out_values» ∷ []) ⌝ }
 {
     let room = questions::ask_both(ends.len(), out_ends, out_values);
     let lengths = least_and_greatest(offsets, ends);
@@ -78,9 +78,7 @@ pub fn zip_many(
     out_ends: &mut [i64],
     out_values: &mut [i64],
 ) -> Counted
-    ensures { λ r. ⌜ WritesRuns
-        (calls.zipMany (flat (now (offsets .entry)) (now (ends .entry)) (now (values .entry))) fill code (length (now («out_ends» .entry)) ∷ length (now («out_values» .entry)) ∷ [])) r
-        (now («out_ends» .entry)) (now («out_ends» .exit)) (now («out_values» .entry)) (now («out_values» .exit)) ⌝ }
+    ensures { λ r. ⌜ WritesRuns (calls.zipMany (givenFlat offsets ends values) fill code) «out_ends» «out_values» r ⌝ }
 {
     let asked = zip_many_asks(
         offsets,

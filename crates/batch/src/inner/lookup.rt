@@ -1,10 +1,11 @@
 // The keys of two batches, each looked up in the other batch, one place after another.
 use batch_keys::Order;
 ghost use Prim.Native.Nat.{_+_, _<_, _^_};
-ghost use mathlib.Core.Bool.{true, cond};
+ghost use mathlib.Core.Bool.{true};
 ghost use mathlib.Core.Path.{_≡_};
 ghost use lib.ListN.{length};
 ghost use Rattle.batch.specs.Workers.{KnownKeys, otherAt, KeptOther};
+ghost use Rattle.column.specs.Lent.{given, after};
 
 // What is known of the keys of each batch, and whether they are indexed.
 pub struct Lookup {
@@ -47,7 +48,7 @@ fn ascending(order: Order) -> bool {
 
 // Whether a search for each key would take longer than an index.
 fn index_pays(a_keys: &[u32], b_keys: &[u32], a_order: Order, b_order: Order) -> bool
-    ensures { λ r. ⌜ (r ≡ true → (length (now («a_keys» .entry)) < 2 ^ 32) × (length (now («b_keys» .entry)) < 2 ^ 32)) ⌝ }
+    ensures { λ r. ⌜ (r ≡ true → (length (given «a_keys») < 2 ^ 32) × (length (given «b_keys») < 2 ^ 32)) ⌝ }
 {
     if aligned(a_keys, b_keys) {
         return false;
@@ -61,7 +62,7 @@ fn index_pays(a_keys: &[u32], b_keys: &[u32], a_order: Order, b_order: Order) ->
 }
 
 pub fn lookup_of(a_keys: &[u32], b_keys: &[u32]) -> Lookup
-    ensures { λ r. ⌜ KnownKeys (now («a_keys» .entry)) (now («b_keys» .entry)) r ⌝ }
+    ensures { λ r. ⌜ KnownKeys (given «a_keys») (given «b_keys») r ⌝ }
 {
     let a = batch_keys::order_of(a_keys);
     let b = batch_keys::order_of(b_keys);
@@ -79,7 +80,8 @@ pub fn find_other(
     block: &mut [u32],
 ) -> usize
     requires { ⌜ KnownKeys (now «a_keys») (now «b_keys») lookup × (at < length (now «a_keys») + length (now «b_keys»)) × KeptOther (now «a_keys») (now «b_keys») (lookup .indexed) (now block) at ⌝ }
-    ensures { λ r. ⌜ (r ≡ otherAt (now («a_keys» .entry)) (now («b_keys» .entry)) at) × KeptOther (now («a_keys» .entry)) (now («b_keys» .entry)) (lookup .indexed) (now (block .exit)) (at + 1) ⌝ }
+    ensures { λ r. ⌜ (r ≡ otherAt (given «a_keys») (given «b_keys») at)
+        × KeptOther (given «a_keys») (given «b_keys») (lookup .indexed) (after block) (at + 1) ⌝ }
 {
     let a_order = lookup.a;
     let b_order = lookup.b;

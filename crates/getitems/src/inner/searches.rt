@@ -7,13 +7,14 @@ ghost use lib.IntN.{pos};
 ghost use lib.ListN.{length, getD};
 ghost use Rattle.column.specs.Questions.{endsValid};
 ghost use Rattle.getitems.specs.Workers.{sought, found, Begun, Halvings, Searched, Kept};
+ghost use Rattle.column.specs.Lent.{given, after};
 
 // How many are looked for at once.
 pub const BLOCK: usize = 16;
 
 // What is looked for: the position as clamped to the sequence, or the one before it.
 fn place(ends: &[i64], position: i64, back: usize) -> usize
-    ensures { λ r. ⌜ (r ≡ sought (now (ends .entry)) back position) × (r < 2 ^ 63) ⌝ }
+    ensures { λ r. ⌜ (r ≡ sought (given ends) back position) × (r < 2 ^ 63) ⌝ }
 {
     let length = sequence::magnitude(sequence::length(ends));
     let clamped = num::smaller_count(sequence::magnitude(position), length);
@@ -30,7 +31,7 @@ fn start(
     lows: &mut [usize],
 )
     requires { ⌜ (length (now places) ≡ 16) × (length (now lows) ≡ 16) × (from < 2 ^ 63) ⌝ }
-    ensures { λ _. ⌜ Begun (now (ends .entry)) (now (positions .entry)) from back (now (places .exit)) (now (lows .exit)) ⌝ }
+    ensures { λ _. ⌜ Begun (given ends) (given positions) from back (after places) (after lows) ⌝ }
 {
     let mut k: usize = 0;
     while k < BLOCK {
@@ -44,7 +45,7 @@ fn start(
 // A step of each.
 fn halve(ends: &[i64], size: usize, places: &[usize], lows: &mut [usize])
     requires { ⌜ Halvings (now ends) (now places) (now lows) size × (0 < size) ⌝ }
-    ensures { λ _. ⌜ Halvings (now (ends .entry)) (now (places .entry)) (now (lows .exit)) (size / 2) ⌝ }
+    ensures { λ _. ⌜ Halvings (given ends) (given places) (after lows) (size / 2) ⌝ }
 {
     let mut k: usize = 0;
     while k < BLOCK {
@@ -58,7 +59,7 @@ fn halve(ends: &[i64], size: usize, places: &[usize], lows: &mut [usize])
 // The searches of the block at `from`.
 fn search(ends: &[i64], positions: &[i64], from: usize, back: usize, block: &mut [usize])
     requires { ⌜ (length (now block) ≡ 16) × (from < 2 ^ 63) ⌝ }
-    ensures { λ _. ⌜ Searched (now (ends .entry)) (now (positions .entry)) back from (now (block .exit)) ⌝ }
+    ensures { λ _. ⌜ Searched (given ends) (given positions) back from (after block) ⌝ }
 {
     let mut places = [0usize; BLOCK];
     start(ends, positions, from, back, &mut places, &mut *block);
@@ -78,8 +79,9 @@ pub fn find_next(
     block: &mut [usize],
 ) -> usize
     requires { ⌜ (i < length (now positions)) × Kept (now ends) (now positions) back (now block) i ⌝ }
-    ensures { λ r. ⌜ (r ≤ length (now (ends .entry))) × (endsValid (now (ends .entry)) ≡ none → r ≡ found (now (ends .entry)) back (getD (now (positions .entry)) i (pos 0)))
-        × Kept (now (ends .entry)) (now (positions .entry)) back (now (block .exit)) (i + 1) ⌝ }
+    ensures { λ r. ⌜ (r ≤ length (given ends)) ×
+        (endsValid (given ends) ≡ none → r ≡ found (given ends) back (getD (given positions) i (pos 0)))
+        × Kept (given ends) (given positions) back (after block) (i + 1) ⌝ }
 {
     let slot = i % BLOCK;
     if slot == 0 {
