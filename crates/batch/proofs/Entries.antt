@@ -10,7 +10,7 @@ use native.Mathlib.Omega.{arith}
 use lib.Dec.{eqb, ltb}
 use lib.IntN.{ℤ, pos}
 use lib.ListN.{length, getD, length-map, List·getD-eq-default}
-use Rattle.column.specs.Flat.{flat, sequencesFrom, columns}
+use Rattle.column.specs.Flat.{flat, sequencesOf, columns}
 use Rattle.column.specs.Lists.{any, total, part, partsFrom, parts}
 use Rattle.column.specs.Questions.{endsValid, endsFrom}
 use Rattle.column.specs.Runs.{Runs, runs, runsOf, lengthOf, lengthOfEnds}
@@ -73,8 +73,8 @@ has-any key (k ∷ ks) (c ∷ cs) e = ap (λ (t : Bool). eqb key k || t) (has-an
 
 -- ---- the columns
 
-at-columns-from : (a : ℕ) (os : List ℕ) (es vs : List ℤ) (k : ℕ) → getD (map runs (sequencesFrom a os es vs)) k [] ≡ runsOf (getD (partsFrom a os es) k []) (getD (partsFrom a os vs) k [])
-unfolding sequencesFrom partsFrom runsOf
+at-columns-from : (a : ℕ) (os : List ℕ) (es vs : List ℤ) (k : ℕ) → getD (map runs (sequencesOf (partsFrom a os es) (partsFrom a os vs))) k [] ≡ runsOf (getD (partsFrom a os es) k []) (getD (partsFrom a os vs) k [])
+unfolding sequencesOf partsFrom runsOf
 at-columns-from a [] es vs k = refl
 at-columns-from a (b ∷ os) es vs zero = refl
 at-columns-from a (b ∷ os) es vs (suc k) = at-columns-from b os es vs k

@@ -19,7 +19,7 @@ use Rattle.column.specs.Lists.{total}
 use Rattle.column.specs.Paper.{answers, paper}
 use Rattle.column.specs.Runs.{Filled}
 use Rattle.column.proofs.Buffer.{Written, write-start, write-next}
-use Rattle.slice.proofs.Items.{Laying, laying-start, laying-room, laying-next, laying-end}
+use Rattle.column.proofs.Laying.{Laying, laying-start, laying-room, laying-next, laying-end}
 use Rattle.batch.specs.Batch.{Entry, columnsOf, WrittenBatch}
 use Rattle.batch.specs.Workers.{FilledBatch}
 

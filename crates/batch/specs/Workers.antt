@@ -25,12 +25,6 @@ pub record ValidBatch (b : Batch) : Type 0 where
   pub offsets : offsetsFlat (b .flat) ≡ none
   pub valid : endsFlat (b .flat) ≡ none
 
--- a valid batch, and intervals of which each has a key: as many keys, starts and stops
-pub record Intervals (b : Batch) (keys : List ℕ) (starts stops : List ℤ) : Type 0 where
-  pub batch : ValidBatch b
-  pub keyed : length keys ≡ length starts
-  pub paired : length starts ≡ length stops
-
 -- entries laid flat, written into the front of four buffers, each before and after, and how many runs they have
 pub record FilledBatch (es : List Entry) (k k′ x x′ : List ℕ) (e e′ v v′ : List ℤ) (n : ℕ) : Type 0 where
   pub count : n ≡ total (map length (columnsOf es))

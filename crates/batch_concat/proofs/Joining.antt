@@ -7,7 +7,7 @@ use native.Mathlib.Omega.{arith}
 use lib.IntN.{ℤ, pos}
 use lib.ListN.{length, getD, length-append, List·getD-append}
 use Rattle.column.specs.declared.inner.Writer.{Writer}
-use Rattle.column.specs.Runs.{Runs, magnitude, runsOf, lengthOfEnds, lengthOf, denseFrom, dense, encode, encodeFrom, Filled}
+use Rattle.column.specs.Runs.{Runs, toNat, runsOf, lengthOfEnds, lengthOf, denseFrom, dense, encode, encodeFrom, Filled}
 use Rattle.column.specs.Workers.{Merging, pushAll, moved, Behind, Appendable, Appended}
 use Rattle.column.proofs.Appending.{push-few, push-shown, length-moved}
 use Rattle.column.proofs.Dense.{length-dense}
@@ -73,11 +73,11 @@ module _ {ea va eb vb e₀ v₀ : List ℤ} (j : Joinable ea va eb vb e₀ v₀)
   many-b : length (runsOf eb vb) ≡ length eb
   many-b = length-runs eb vb (j .paired-b)
 
-  size-a : magnitude (lengthOfEnds ea) ≡ lengthOf (runsOf ea va)
-  size-a = ap magnitude (length-of-ends ea va (j .valid-a) (j .paired-a))
+  size-a : toNat (lengthOfEnds ea) ≡ lengthOf (runsOf ea va)
+  size-a = ap toNat (length-of-ends ea va (j .valid-a) (j .paired-a))
 
-  size-b : magnitude (lengthOfEnds eb) ≡ lengthOf (runsOf eb vb)
-  size-b = ap magnitude (length-of-ends eb vb (j .valid-b) (j .paired-b))
+  size-b : toNat (lengthOfEnds eb) ≡ lengthOf (runsOf eb vb)
+  size-b = ap toNat (length-of-ends eb vb (j .valid-b) (j .paired-b))
 
   -- nothing is written
   pub two-none : length ea + length eb ≡ 0 → Filled (encode (shown (runsOf ea va ∷ runsOf eb vb ∷ []))) e₀ e₀ v₀ v₀ 0
@@ -117,9 +117,9 @@ module _ {ea va eb vb e₀ v₀ : List ℤ} (j : Joinable ea va eb vb e₀ v₀)
     after-first p = rw (push-first (runsOf ea va) (runsOf eb vb) valid-a valid-b) at (p [] (firstOf va vb) e₀ v₀ behind-first)
 
   -- the second
-  module _ {e v : List ℤ} {w : Writer} (m : Merging (encode (dense (runsOf ea va))) (firstOf va vb) e₀ v₀ e v w) {x : ℤ} {n : ℕ} (en : n ≡ magnitude x) (ex : x ≡ lengthOfEnds ea) where
+  module _ {e v : List ℤ} {w : Writer} (m : Merging (encode (dense (runsOf ea va))) (firstOf va vb) e₀ v₀ e v w) {x : ℤ} {n : ℕ} (en : n ≡ toNat x) (ex : x ≡ lengthOfEnds ea) where
     offset : n ≡ lengthOf (runsOf ea va)
-    offset = en ∙ ap magnitude ex ∙ size-a
+    offset = en ∙ ap toNat ex ∙ size-a
 
     behind-second : Behind (encode (dense (runsOf ea va))) (firstOf va vb) e₀ v₀ e v w eb vb
     behind-second =

@@ -167,7 +167,7 @@ fn concat_two(
     let first = first_value(a_values, b_values);
     let start = Writer { at: 0, last: first };
     let behind = column::inner::append_merged(start, a_ends, a_values, 0, 0, out_ends, out_values);
-    let length = sequence::magnitude(sequence::length(a_ends));
+    let length = sequence::to_nat(sequence::length(a_ends));
     let end = column::inner::append_merged(
         behind,
         b_ends,

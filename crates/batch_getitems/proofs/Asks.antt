@@ -14,12 +14,11 @@ use Rattle.column.specs.Questions.{agree, intervals, roomAt, room, both}
 use Rattle.column.specs.Runs.{Runs}
 use Rattle.column.proofs.FirstNo.{alone, all-yes, asked-next, asked-last}
 use Rattle.column.proofs.Told.{agree-told, room-told}
-use Rattle.column.proofs.YesNo.{room-each}
-use Rattle.slice.proofs.Asks.{flat-room-saturated}
+use Rattle.column.proofs.YesNo.{room-each, flat-room-saturated}
 use Rattle.batch.specs.Batch.{batch, entries, batchValid}
 use Rattle.batch.proofs.Asks.{valid-told}
-use Rattle.batch.specs.Slices.{itemRuns}
-use Rattle.batch.specs.Workers.{Intervals}
+use Rattle.batch_intervals.specs.Calls.{itemRuns}
+use Rattle.batch_intervals.specs.Workers.{Intervals}
 use Rattle.batch_getitems.specs.Calls.{getitemsAsked}
 use Rattle.batch_getitems.specs.Workers.{Gettable}
 

@@ -17,14 +17,15 @@ use Rattle.column.specs.Runs.{Runs, runsOf, Filled}
 use Rattle.column.proofs.Rest.{rest-length}
 use Rattle.batch_index.specs.Calls.{lowest}
 use Rattle.slice.specs.declared.search.TouchedRuns.{TouchedRuns}
-use Rattle.slice.specs.Workers.{touchedBy, cutRuns, Touches, FilledFlat}
+use Rattle.slice.specs.Workers.{touchedBy, cutRuns, Touches}
+use Rattle.column.specs.Workers.{FilledFlat}
 use Rattle.slice.proofs.Asks.{slice-filled}
-use Rattle.slice.proofs.Items.{Laying, laying-start, laying-room, laying-next, laying-end}
+use Rattle.column.proofs.Laying.{Laying, laying-start, laying-room, laying-next, laying-end}
 use Rattle.slice.proofs.Touching.{touches, touched-count}
 use Rattle.batch.specs.Batch.{batch, entries}
-use Rattle.batch.specs.Slices.{itemRuns}
-use Rattle.batch.specs.Workers.{Intervals}
-use Rattle.batch.proofs.Slices.{items-many, item-asked, item-is}
+use Rattle.batch_intervals.specs.Calls.{itemRuns}
+use Rattle.batch_intervals.specs.Workers.{Intervals}
+use Rattle.batch_intervals.proofs.Slices.{items-many, item-asked, item-is}
 use Rattle.batch_getitems.specs.Workers.{Gettable}
 
 module _ {ks os : List ℕ} {es vs : List ℤ} {gs : List ℕ} {ss ts : List ℤ} (q : Intervals (batch ks os es vs) gs ss ts) where

@@ -9,7 +9,7 @@ use Rattle.column.specs.Paper.{Outcome}
 use Rattle.column.specs.Questions.{agree, intervals, room, both}
 use Rattle.column.specs.Runs.{Runs}
 use Rattle.batch.specs.Batch.{Batch, entries, batchValid}
-use Rattle.batch.specs.Slices.{itemRuns}
+use Rattle.batch_intervals.specs.Calls.{itemRuns}
 
 -- "puts "starts, ends", then 9, then "keys, starts", all three at the place of 9"
 unfoldable pub getitemsAsked : Batch → List ℕ → List ℤ → List ℤ → Question

@@ -5,8 +5,8 @@ use lib.IntN.{ℤ}
 use lib.ListN.{length}
 use Rattle.column.specs.Lists.{total}
 use Rattle.batch.specs.Batch.{Batch, entries}
-use Rattle.batch.specs.Workers.{Intervals}
-use Rattle.batch.specs.Slices.{itemRuns}
+use Rattle.batch_intervals.specs.Workers.{Intervals}
+use Rattle.batch_intervals.specs.Calls.{itemRuns}
 
 -- intervals, and room for their slices
 pub record Gettable (b : Batch) (keys : List ℕ) (starts stops : List ℤ) (x : List ℕ) (e v : List ℤ) : Type 0 where

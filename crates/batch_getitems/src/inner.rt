@@ -9,10 +9,10 @@ ghost use lib.ListN.{length};
 ghost use Rattle.num.specs.Numbers.{saturated};
 ghost use Rattle.column.specs.Lists.{total};
 ghost use Rattle.batch_keys.specs.Workers.{Known, Blocks};
-ghost use Rattle.slice.specs.Workers.{FillsFlat};
+ghost use Rattle.column.specs.Workers.{FillsFlat};
 ghost use Rattle.batch.specs.Batch.{batch, entries, givenBatch};
-ghost use Rattle.batch.specs.Slices.{itemRuns};
-ghost use Rattle.batch.specs.Workers.{Intervals};
+ghost use Rattle.batch_intervals.specs.Calls.{itemRuns};
+ghost use Rattle.batch_intervals.specs.Workers.{Intervals};
 ghost use Rattle.batch_getitems.specs.Workers.{Gettable};
 ghost use Rattle.column.specs.Lent.{given};
 

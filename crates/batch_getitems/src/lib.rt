@@ -54,7 +54,7 @@ pub fn getitems(
     }
     let order = batch_keys::quick_order(keys);
     let needed = inner::count_items(keys, offsets, ends, values, order, get_keys, starts, stops);
-    let room = slice::ask_flat_room(
+    let room = questions::ask_flat_room(
         starts.len() + 1,
         needed,
         out_offsets.len(),

@@ -24,7 +24,7 @@ use Rattle.column.proofs.Sequences.{runs-flat, length-ends, length-values}
 use Rattle.slice.specs.declared.search.TouchedRuns.{TouchedRuns}
 use Rattle.slice.specs.Workers.{touchedBy, Touches}
 use Rattle.slice.specs.Calls.{sliceRuns}
-use Rattle.slice.proofs.Items.{length-all}
+use Rattle.column.proofs.Laying.{length-all}
 use Rattle.slice.proofs.Touching.{touched-inside, touches, touched-count}
 use Rattle.shift.proofs.Shifting.{shift-few}
 use Rattle.transform.specs.Calls.{reverseRuns}

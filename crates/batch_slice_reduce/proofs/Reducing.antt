@@ -12,9 +12,9 @@ use Rattle.slice.specs.Calls.{sliceRuns}
 use Rattle.reduce.specs.declared.Reduction.{Reduction}
 use Rattle.reduce.specs.Calls.{reduction}
 use Rattle.batch.specs.Batch.{batch, entries}
-use Rattle.batch.specs.Slices.{itemRuns}
-use Rattle.batch.specs.Workers.{Intervals}
-use Rattle.batch.proofs.Slices.{items-many, item-is}
+use Rattle.batch_intervals.specs.Calls.{itemRuns}
+use Rattle.batch_intervals.specs.Workers.{Intervals}
+use Rattle.batch_intervals.proofs.Slices.{items-many, item-is}
 
 module _ {ks os : List ℕ} {es vs : List ℤ} {gs : List ℕ} {ss ts : List ℤ} (q : Intervals (batch ks os es vs) gs ss ts) where
   abbrev items : List Runs

@@ -9,7 +9,7 @@ use Rattle.column.specs.Questions.{listed, agree, intervals, room, both}
 use Rattle.reduce.specs.declared.Reduction.{Reduction}
 use Rattle.reduce.specs.Calls.{reduction}
 use Rattle.batch.specs.Batch.{Batch, entries, lengthsAsked, contentAsked}
-use Rattle.batch.specs.Slices.{itemRuns}
+use Rattle.batch_intervals.specs.Calls.{itemRuns}
 
 -- "keys, starts" and "starts, ends" in their own places
 unfoldable pub sliceReduceAsked : Batch → List ℕ → List ℤ → List ℤ → ℕ → List ℕ → Question

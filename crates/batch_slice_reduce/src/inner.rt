@@ -8,7 +8,7 @@ ghost use Rattle.batch_keys.specs.Workers.{Known, Blocks};
 ghost use Rattle.reduce.specs.Calls.{reduction};
 ghost use Rattle.reduce.specs.Workers.{FilledReductions};
 ghost use Rattle.batch.specs.Batch.{batch, entries, givenBatch};
-ghost use Rattle.batch.specs.Slices.{itemRuns};
+ghost use Rattle.batch_intervals.specs.Calls.{itemRuns};
 ghost use Rattle.batch_slice_reduce.specs.Workers.{Reducible};
 ghost use Rattle.column.specs.Lent.{given, after};
 

@@ -9,7 +9,7 @@ use lib.IntN.{ℤ, pos}
 use lib.ListN.{length, getD, take, length-map, length-take}
 use lib.Seq.{take-all, length-take-le}
 use Rattle.column.specs.declared.inner.Writer.{Writer}
-use Rattle.column.specs.Runs.{Run, Runs, magnitude, runsOf, lastFrom, denseFrom, encode, pushMerged}
+use Rattle.column.specs.Runs.{Run, Runs, toNat, runsOf, lastFrom, denseFrom, encode, pushMerged}
 use Rattle.column.specs.Workers.{nextPlace, PushedMerged, Merging, pushAll, moved, RisingEnds, Behind, Movable, Appended}
 use Rattle.column.proofs.Encode.{place-le, length-push, push-all-from}
 use Rattle.column.proofs.Ends.{length-runs}
@@ -36,33 +36,33 @@ push-few done (r ∷ rs) =
 
 push-suc : (s o : ℕ) (done : Runs) (es vs : List ℤ) (r : ℕ) → r < length es → length es ≡ length vs
     → pushAll done (moved s o (runsOf (take (suc r) es) (take (suc r) vs)))
-    ≡ pushMerged (pushAll done (moved s o (runsOf (take r es) (take r vs)))) (magnitude (getD es r (pos 0)) - s + o) (getD vs r (pos 0))
+    ≡ pushMerged (pushAll done (moved s o (runsOf (take r es) (take r vs)))) (toNat (getD es r (pos 0)) - s + o) (getD vs r (pos 0))
 unfolding pushAll moved runsOf
 push-suc s o done [] vs r h l = let z : ⊥ = omega arith in absurd z
 push-suc s o done (e ∷ es) [] r h l = let z : ⊥ = omega arith in absurd z
 push-suc s o done (e ∷ es) (v ∷ vs) zero h l = refl
-push-suc s o done (e ∷ es) (v ∷ vs) (suc r) h l = push-suc s o (pushMerged done (magnitude e - s + o) v) es vs r (omega arith) (omega arith)
+push-suc s o done (e ∷ es) (v ∷ vs) (suc r) h l = push-suc s o (pushMerged done (toNat e - s + o) v) es vs r (omega arith) (omega arith)
 
 -- the runs of flat lists, up to one more entry
 push-next : (s o : ℕ) (done : Runs) (es vs : List ℤ) (r : ℕ) → r < length es → length es ≡ length vs
     → pushAll done (moved s o (runsOf (take (r + 1) es) (take (r + 1) vs)))
-    ≡ pushMerged (pushAll done (moved s o (runsOf (take r es) (take r vs)))) (magnitude (getD es r (pos 0)) - s + o) (getD vs r (pos 0))
+    ≡ pushMerged (pushAll done (moved s o (runsOf (take r es) (take r vs)))) (toNat (getD es r (pos 0)) - s + o) (getD vs r (pos 0))
 push-next s o done es vs r h l = rw (add-one r) (push-suc s o done es vs r h l)
 
 -- ---- an end among rising ones
 
-last-le : (p : ℕ) (es : List ℤ) → RisingEnds p es → p ≤ magnitude (lastFrom (pos p) es)
+last-le : (p : ℕ) (es : List ℤ) → RisingEnds p es → p ≤ toNat (lastFrom (pos p) es)
 last-le p [] h = omega arith
-last-le p (e ∷ es) h = omega (arith, h .1, last-le (magnitude e) es (h .2), ap (λ (z : ℤ). magnitude (lastFrom z es)) (h .0))
+last-le p (e ∷ es) h = omega (arith, h .1, last-le (toNat e) es (h .2), ap (λ (z : ℤ). toNat (lastFrom z es)) (h .0))
 
 -- it is a natural number above p, and no larger than the last
 pub rising-at : (p : ℕ) (es : List ℤ) (r : ℕ) → RisingEnds p es → r < length es
-    → (getD es r (pos 0) ≡ pos (magnitude (getD es r (pos 0)))) × (p < magnitude (getD es r (pos 0))) × (magnitude (getD es r (pos 0)) ≤ magnitude (lastFrom (pos p) es))
+    → (getD es r (pos 0) ≡ pos (toNat (getD es r (pos 0)))) × (p < toNat (getD es r (pos 0))) × (toNat (getD es r (pos 0)) ≤ toNat (lastFrom (pos p) es))
 rising-at p [] r h l = let z : ⊥ = omega arith in absurd z
-rising-at p (e ∷ es) zero h l = (h .0, h .1, omega (arith, last-le (magnitude e) es (h .2), ap (λ (z : ℤ). magnitude (lastFrom z es)) (h .0)))
+rising-at p (e ∷ es) zero h l = (h .0, h .1, omega (arith, last-le (toNat e) es (h .2), ap (λ (z : ℤ). toNat (lastFrom z es)) (h .0)))
 rising-at p (e ∷ es) (suc r) h l =
-    let k = rising-at (magnitude e) es r (h .2) (omega arith) in
-    (k .0, omega (arith, h .1, k .1), omega (arith, k .2, ap (λ (z : ℤ). magnitude (lastFrom z es)) (h .0)))
+    let k = rising-at (toNat e) es r (h .2) (omega arith) in
+    (k .0, omega (arith, h .1, k .1), omega (arith, k .2, ap (λ (z : ℤ). toNat (lastFrom z es)) (h .0)))
 
 -- ---- the loop: the first r runs are pushed, whatever was written before
 
@@ -79,7 +79,7 @@ module _ (s o : ℕ) (es vs e₁ v₁ : List ℤ) (w₁ : Writer) where
   module _ (m : Movable s o es vs) {e v : List ℤ} {w : Writer} {r : ℕ} (a : Appending e v w r) where
     -- the end of the run that comes next, and where it is moved to
     pub append-at : r < length es
-        → (getD es r (pos 0) ≡ pos (magnitude (getD es r (pos 0)))) × (s ≤ magnitude (getD es r (pos 0))) × (magnitude (getD es r (pos 0)) - s + o < 2 ^ 63)
+        → (getD es r (pos 0) ≡ pos (toNat (getD es r (pos 0)))) × (s ≤ toNat (getD es r (pos 0))) × (toNat (getD es r (pos 0)) - s + o < 2 ^ 63)
     append-at h = let k = rising-at s es r (m .rising) h in (k .0, omega (arith, k .1), omega (arith, k .2, m .fitting))
 
     -- the first r of them
@@ -108,11 +108,11 @@ module _ (s o : ℕ) (es vs e₁ v₁ : List ℤ) (w₁ : Writer) where
             let n = count-firsts done in
             (omega (arith, g .at-last, b .room-ends), omega (arith, g .long-ends, b .merging .long-ends, b .room-ends), omega (arith, g .long-values, b .merging .long-values, b .room-values))
 
-      pub append-next : {z : ℤ} {e′ v′ : List ℤ} {next : Writer} → PushedMerged w z x e e′ v v′ next → z ≡ pos (magnitude (getD es r (pos 0)) - s + o) → Appending e′ v′ next (r + 1)
+      pub append-next : {z : ℤ} {e′ v′ : List ℤ} {next : Writer} → PushedMerged w z x e e′ v v′ next → z ≡ pos (toNat (getD es r (pos 0)) - s + o) → Appending e′ v′ next (r + 1)
       append-next d ez = record {
         within = omega arith;
         pushed = λ done first e₀ v₀ b. let n = count-firsts done in
-            merge-more (a .pushed done first e₀ v₀ b) x (next-start b) (magnitude (getD es r (pos 0)) - s + o) d ez
+            merge-more (a .pushed done first e₀ v₀ b) x (next-start b) (toNat (getD es r (pos 0)) - s + o) d ez
             (push-next s o done es vs r h (m .paired) ∙ rw ex) (omega (arith, b .merging .long-ends, b .room-ends)) (omega (arith, b .merging .long-values, b .room-values));
       }
 

@@ -12,7 +12,7 @@ use borrow.Author.Tests.{ltb-true, lt-ltb}
 use Rattle.num.proofs.Tests.{by-test}
 use Rattle.column.specs.Asking.{Question, refusal, _unless_}
 use Rattle.column.specs.Questions.{endsFrom, endsValid}
-use Rattle.column.specs.Runs.{Runs, magnitude, runsOf, endsOf, valuesOf, lastEnd, lengthOf, lastFrom, lengthOfEnds}
+use Rattle.column.specs.Runs.{Runs, toNat, runsOf, endsOf, valuesOf, lastEnd, lengthOf, lastFrom, lengthOfEnds}
 use Rattle.column.specs.Workers.{RisingEnds}
 use Rattle.column.proofs.FirstNo.{first-yes, rest-yes}
 use Rattle.column.proofs.Rising.{Rising, Valid}
@@ -35,15 +35,15 @@ rising es h = from-check 0 0 es h
 pub rising-yes : (i p : ℕ) (es : List ℤ) → RisingEnds p es → endsFrom i (pos p) es ≡ none
 unfolding endsFrom
 rising-yes i p [] r = refl
-rising-yes i p (e ∷ es) r = rw (r .0, lt-ltb p (magnitude e) (r .1), rising-yes (suc i) (magnitude e) es (r .2))
+rising-yes i p (e ∷ es) r = rw (r .0, lt-ltb p (toNat e) (r .1), rising-yes (suc i) (toNat e) es (r .2))
 
-natural-from : (p : ℕ) (es : List ℤ) (i : ℕ) → RisingEnds p es → i < length es → getD es i (pos 0) ≡ pos (magnitude (getD es i (pos 0)))
+natural-from : (p : ℕ) (es : List ℤ) (i : ℕ) → RisingEnds p es → i < length es → getD es i (pos 0) ≡ pos (toNat (getD es i (pos 0)))
 natural-from p [] i r h = let z : ⊥ = omega arith in absurd z
 natural-from p (e ∷ es) zero r h = r .0
-natural-from p (e ∷ es) (suc i) r h = natural-from (magnitude e) es i (r .2) (omega arith)
+natural-from p (e ∷ es) (suc i) r h = natural-from (toNat e) es i (r .2) (omega arith)
 
 -- each of them is a natural number
-pub natural-end : (es : List ℤ) (i : ℕ) → endsValid es ≡ none → i < length es → getD es i (pos 0) ≡ pos (magnitude (getD es i (pos 0)))
+pub natural-end : (es : List ℤ) (i : ℕ) → endsValid es ≡ none → i < length es → getD es i (pos 0) ≡ pos (toNat (getD es i (pos 0)))
 natural-end es i h l = natural-from 0 es i (rising es h) l
 
 -- the ends of runs that rise are valid
@@ -62,7 +62,7 @@ pub ends-runs : (p : ℕ) (es vs : List ℤ) → RisingEnds p es → length es �
 unfolding runsOf endsOf
 ends-runs p [] vs r l = refl
 ends-runs p (e ∷ es) [] r l = let z : ⊥ = omega arith in absurd z
-ends-runs p (e ∷ es) (v ∷ vs) r l = ap₂ (λ (x : ℤ) (xs : List ℤ). x ∷ xs) (sym (r .0)) (ends-runs (magnitude e) es vs (r .2) (omega arith))
+ends-runs p (e ∷ es) (v ∷ vs) r l = ap₂ (λ (x : ℤ) (xs : List ℤ). x ∷ xs) (sym (r .0)) (ends-runs (toNat e) es vs (r .2) (omega arith))
 
 pub values-runs : (es vs : List ℤ) → length es ≡ length vs → valuesOf (runsOf es vs) ≡ vs
 unfolding runsOf valuesOf
@@ -81,7 +81,7 @@ pub runs-rise : (p : ℕ) (es vs : List ℤ) → RisingEnds p es → Rising p (r
 unfolding runsOf
 runs-rise p [] vs r = tt
 runs-rise p (e ∷ es) [] r = tt
-runs-rise p (e ∷ es) (v ∷ vs) r = (r .1, runs-rise (magnitude e) es vs (r .2))
+runs-rise p (e ∷ es) (v ∷ vs) r = (r .1, runs-rise (toNat e) es vs (r .2))
 
 -- ---- the length, by the ends and by the runs
 
@@ -89,7 +89,7 @@ length-from : (p : ℕ) (es vs : List ℤ) → RisingEnds p es → length es ≡
 unfolding runsOf
 length-from p [] vs r l = refl
 length-from p (e ∷ es) [] r l = let z : ⊥ = omega arith in absurd z
-length-from p (e ∷ es) (v ∷ vs) r l = ap (λ (q : ℤ). lastFrom q es) (r .0) ∙ length-from (magnitude e) es vs (r .2) (omega arith)
+length-from p (e ∷ es) (v ∷ vs) r l = ap (λ (q : ℤ). lastFrom q es) (r .0) ∙ length-from (toNat e) es vs (r .2) (omega arith)
 
 pub length-of-ends : (es vs : List ℤ) → endsValid es ≡ none → length es ≡ length vs → lengthOfEnds es ≡ pos (lengthOf (runsOf es vs))
 unfolding lengthOf lengthOfEnds

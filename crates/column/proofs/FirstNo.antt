@@ -53,6 +53,18 @@ asked-next (some r) qs e p h = e ∙ rw p
 pub asked-last : {r a b : Question} (p : Question) {q : Question} → r ≡ firstNo (a ∷ b ∷ []) → a ≡ p → (p ≡ none → b ≡ q) → r ≡ firstNo (p ∷ q ∷ [])
 asked-last p {q} e h k = asked-next p (q ∷ []) e h (λ y. k y ∙ sym (alone q))
 
+-- ---- the questions of a call, as the code puts them one after another: what is asked later counts only after a "yes"
+
+pub record Asks (r : Question) (qs : List Question) : Type 0 where
+  pub told : r ≡ firstNo qs
+
+pub asks-first : {a q : Question} → a ≡ q → Asks a (q ∷ [])
+asks-first {q = q} p = record { told = p ∙ sym (alone q) }
+
+pub asks-then : {r a b q : Question} {qs : List Question} → Asks a qs → r ≡ firstNo (a ∷ b ∷ []) → (firstNo qs ≡ none → b ≡ q)
+    → Asks r (qs ++ (q ∷ []))
+asks-then {q = q} {qs = qs} s e h = record { told = asked-last (firstNo qs) e (s .told) h ∙ sym (first-several qs (q ∷ [])) }
+
 -- ---- a question put to each entry, at the entry that comes next
 
 module _ {A : Type 0} (q : ℕ → A → Question) (i : ℕ) (xs : List A) (d : A) where

@@ -11,27 +11,17 @@ use lib.Dec.{eqb, leb}
 use lib.IntN.{ℤ, pos}
 use lib.ListN.{length, getD}
 use borrow.Author.Tests.{leb-true, eqb-true}
-use Rattle.column.specs.Asking.{Question, firstNo, eachFrom, inKey}
-use Rattle.column.specs.Flat.{flat, sequencesFrom, columns, flatAsked}
+use Rattle.column.specs.Asking.{Question, eachFrom, inKey}
+use Rattle.column.specs.Flat.{flat, sequencesOf, columns}
 use Rattle.column.specs.Lists.{total, part, partsFrom, parts}
-use Rattle.column.specs.Questions.{agree, paired, endsValid, sequenceAt, sequencesValid, offsetsValid, rise, lastOffset}
+use Rattle.column.specs.Questions.{endsValid, sequenceAt, sequencesValid, offsetsValid, rise, lastOffset}
 use Rattle.column.specs.Runs.{Runs, runsOf, runs, lengthOf, lengthOfEnds}
 use Rattle.column.proofs.All.{All}
 use Rattle.column.proofs.Ends.{length-of-ends, rising, runs-rise}
-use Rattle.column.proofs.FirstNo.{first-yes, rest-yes, asked-next, asked-last}
+use Rattle.column.proofs.FirstNo.{first-yes, rest-yes}
 use Rattle.column.proofs.Parts.{length-part, part-paired}
 use Rattle.column.proofs.Rising.{Valid}
 use Rattle.column.proofs.Told.{both-true, offsets-told}
-
--- ---- the questions, as the code joins them
-
-pub flat-asked : (os : List ℕ) (es vs : List ℤ) {r a b c d : Question} → r ≡ firstNo (a ∷ b ∷ []) → a ≡ agree 3 (length es) (length vs) → b ≡ firstNo (c ∷ d ∷ [])
-    → c ≡ offsetsValid os (length es) → d ≡ sequencesValid os es → r ≡ firstNo (flatAsked (flat os es vs))
-unfolding paired
-flat-asked os es vs hr ha hb hc hd =
-    let o = offsetsValid os (length es) in
-    let s = sequencesValid os es in
-    asked-next (agree 3 (length es) (length vs)) (o ∷ s ∷ []) hr ha (λ p. asked-last o hb hc (λ y. hd))
 
 -- ---- offsets, from a on
 
@@ -107,24 +97,24 @@ sequences-told os es e = all-from 0 (parts os es) e
 
 -- what f makes of a column's runs and g of its ends, for every column
 module _ {B : Type 0} (f : Runs → B) (g : List ℤ → B) (same : (es vs : List ℤ) → endsValid es ≡ none → length es ≡ length vs → f (runsOf es vs) ≡ g es) where
-  columns-from : (a : ℕ) (os : List ℕ) (es vs : List ℤ) → length es ≡ length vs → AllValid (partsFrom a os es) → map f (map runs (sequencesFrom a os es vs)) ≡ map g (partsFrom a os es)
-  unfolding sequencesFrom partsFrom
+  columns-from : (a : ℕ) (os : List ℕ) (es vs : List ℤ) → length es ≡ length vs → AllValid (partsFrom a os es) → map f (map runs (sequencesOf (partsFrom a os es) (partsFrom a os vs))) ≡ map g (partsFrom a os es)
+  unfolding sequencesOf partsFrom
   columns-from a [] es vs l v = refl
   columns-from a (b ∷ os) es vs l v =
       ap₂ (λ (x : B) (xs : List B). x ∷ xs) (same (part a b es) (part a b vs) (v .0) (part-paired a b es vs l)) (columns-from b os es vs l (v .1))
 
   pub columns-by-ends : (os : List ℕ) (es vs : List ℤ) → length es ≡ length vs → AllValid (parts os es) → map f (columns (flat os es vs)) ≡ map g (parts os es)
-  unfolding columns
+  unfolding columns sequencesOf
   columns-by-ends [] es vs l v = refl
   columns-by-ends (a ∷ os) es vs l v = columns-from a os es vs l v
 
-valid-from : (a : ℕ) (os : List ℕ) (es vs : List ℤ) → AllValid (partsFrom a os es) → All Valid (map runs (sequencesFrom a os es vs))
-unfolding sequencesFrom partsFrom
+valid-from : (a : ℕ) (os : List ℕ) (es vs : List ℤ) → AllValid (partsFrom a os es) → All Valid (map runs (sequencesOf (partsFrom a os es) (partsFrom a os vs)))
+unfolding sequencesOf partsFrom
 valid-from a [] es vs v = tt
 valid-from a (b ∷ os) es vs v = (runs-rise 0 (part a b es) (part a b vs) (rising (part a b es) (v .0)), valid-from b os es vs (v .1))
 
 pub columns-valid : (os : List ℕ) (es vs : List ℤ) → AllValid (parts os es) → All Valid (columns (flat os es vs))
-unfolding columns
+unfolding columns sequencesOf
 columns-valid [] es vs v = tt
 columns-valid (a ∷ os) es vs v = valid-from a os es vs v
 

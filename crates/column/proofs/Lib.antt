@@ -9,6 +9,7 @@ pub mod Encoded
 pub mod Ends
 pub mod FirstNo
 pub mod Flattened
+pub mod Laying
 pub mod Lists
 pub mod Masks
 pub mod Merging

@@ -13,7 +13,7 @@ use mir.Syntax.{w64}
 use mir.Val.{toZ, ofZ, Fits, SFits}
 use Rattle.num.specs.Numbers.{smallerOf, largerOf}
 use Rattle.num.proofs.Bits.{end-nat, end-cast}
-use Rattle.column.specs.Runs.{magnitude}
+use Rattle.column.specs.Runs.{toNat}
 
 -- ---- the two tests of an order: each is the other one's "no"
 
@@ -33,27 +33,27 @@ le-lt a b t = sym (not-not (ltZ b a)) ∙ ap not (sym (le-not b a) ∙ t)
     not-not true = refl
     not-not false = refl
 
--- a number that is not negative is its magnitude
-pub natural : (z : ℤ) → ltZ z (pos 0) ≡ false → z ≡ pos (magnitude z)
+-- a number that is not negative is its toNat
+pub natural : (z : ℤ) → ltZ z (pos 0) ≡ false → z ≡ pos (toNat z)
 natural (pos n) t = refl
 natural (negsuc n) t = absurd (let w : _≡_ {A = ℕ} 0 1 = cc in omega arith)
 
-pub no-natural : (z : ℤ) → ltZ z (pos 0) ≡ true → magnitude z ≡ 0
+pub no-natural : (z : ℤ) → ltZ z (pos 0) ≡ true → toNat z ≡ 0
 no-natural (pos n) t = let h = ltb-true n 0 t in omega arith
 no-natural (negsuc n) t = refl
 
 -- ---- a signed local that is not negative, cast to a natural number
 
 module _ (z : ℤ) (f : SFits w64 z) (t : ltZ z (pos 0) ≡ false) where
-  pub magnitude-cast : T (nonNeg (toZ w64 (ofZ w64 z))) × Fits w64 (natAbs (toZ w64 (ofZ w64 z)))
-  magnitude-cast = end-cast (natural z t) (f .sfits)
+  pub to-nat-cast : T (nonNeg (toZ w64 (ofZ w64 z))) × Fits w64 (natAbs (toZ w64 (ofZ w64 z)))
+  to-nat-cast = end-cast (natural z t) (f .sfits)
 
-  pub magnitude-nat : natAbs (toZ w64 (ofZ w64 z)) ≡ magnitude z
-  magnitude-nat = end-nat (natural z t) (f .sfits)
+  pub to-nat-abs : natAbs (toZ w64 (ofZ w64 z)) ≡ toNat z
+  to-nat-abs = end-nat (natural z t) (f .sfits)
 
-pub magnitude-below : (z : ℤ) → SFits w64 z → magnitude z < 2 ^ 63
-magnitude-below (pos n) f = f .sfits
-magnitude-below (negsuc n) f = omega arith
+pub to-nat-below : (z : ℤ) → SFits w64 z → toNat z < 2 ^ 63
+to-nat-below (pos n) f = f .sfits
+to-nat-below (negsuc n) f = omega arith
 
 -- ---- the smaller and the larger of two natural numbers
 

@@ -14,7 +14,7 @@ use lib.Signed.{leZ, ltZ}
 use borrow.Author.Tests.{eqb-true, leb-true, ltb-true}
 use Rattle.column.specs.Asking.{Question, refusal, _unless_, firstNo}
 use Rattle.column.specs.Questions.{listed, agree, paired, usedWithin, startAndRise, lastOffset, offsetsValid, endsValid, atMost, notNegative, fits, runByRun, longEnough, roomAt, room, both, sequenceAsked}
-use Rattle.column.specs.Runs.{sequence, magnitude}
+use Rattle.column.specs.Runs.{sequence, toNat}
 use Rattle.column.proofs.FirstNo.{AllYes, all-yes, first-several, asked-last}
 use Rattle.column.proofs.Naturals.{le-lt}
 use Rattle.column.proofs.YesNo.{room-both}
@@ -101,18 +101,18 @@ module _ (p i : ℕ) (rs : List ℤ) (h : i < length rs) (yes : runByRun i p (dr
   run = getD rs i (pos 0)
 
   rest : Question
-  rest = runByRun (suc i) (p + magnitude run) (drop (suc i) rs)
+  rest = runByRun (suc i) (p + toNat run) (drop (suc i) rs)
 
-  next : AllYes (notNegative i run ∷ fits (p + magnitude run) ∷ rest ∷ [])
+  next : AllYes (notNegative i run ∷ fits (p + toNat run) ∷ rest ∷ [])
   unfolding runByRun rest
-  next = all-yes (notNegative i run ∷ fits (p + magnitude run) ∷ rest ∷ []) (rw (drop-cons rs i (pos 0)) at yes)
+  next = all-yes (notNegative i run ∷ fits (p + toNat run) ∷ rest ∷ []) (rw (drop-cons rs i (pos 0)) at yes)
 
   pub run-natural : ltZ run (pos 0) ≡ false
   run-natural = negative-told i run (next .0)
 
-  pub run-fits : p + magnitude run < 2 ^ 63
-  run-fits = fits-told (p + magnitude run) (next .1 .0)
+  pub run-fits : p + toNat run < 2 ^ 63
+  run-fits = fits-told (p + toNat run) (next .1 .0)
 
-  pub runs-yes : runByRun (i + 1) (p + magnitude run) (drop (i + 1) rs) ≡ none
+  pub runs-yes : runByRun (i + 1) (p + toNat run) (drop (i + 1) rs) ≡ none
   unfolding rest
   runs-yes = rw (add-one i) (next .1 .1 .0)

@@ -4,7 +4,7 @@ use Prim.Native.Nat.{ℕ, suc, _+_, _-_, _≤_, _<_, _^_}
 use mathlib.Core.Bool.{true, false, _&&_}
 use mathlib.Core.Option.{none}
 use mathlib.Core.List.{List, [], _∷_}
-use mathlib.Core.Path.{_≡_, refl, _∙_}
+use mathlib.Core.Path.{_≡_, refl, _∙_, sym}
 use native.Mathlib.Numerals.{add-one}
 use native.Mathlib.Omega.{arith}
 use lib.IntN.{ℤ, pos}
@@ -19,7 +19,7 @@ use Rattle.column.specs.declared.answer.Fill.{Fill}
 use Rattle.column.specs.Lists.{any}
 use Rattle.column.specs.Asking.{Question, refusal, firstNo}
 use Rattle.column.specs.Questions.{listed, startAndRise, lastOffset, offsetsRise, offsetsValid, distinctAt, intervalAt, side, isMissing, filled, endsFrom, notNegative, fits, runByRun, longEnough, roomAt, roomFrom, room, both}
-use Rattle.column.specs.Runs.{magnitude}
+use Rattle.column.specs.Runs.{toNat}
 use Rattle.column.proofs.FirstNo.{alone, first-rest}
 use Rattle.column.proofs.Naturals.{lt-le, le-lt}
 
@@ -100,13 +100,13 @@ module _ (p i : ℕ) (rs : List ℤ) (h : i < length rs) where
   unfolding runByRun
   runs-negative t = rw (drop-cons rs i (pos 0), negative-refused i run t)
 
-  pub runs-overflow : ltZ run (pos 0) ≡ false → 2 ^ 63 ≤ p + magnitude run → runByRun i p (drop i rs) ≡ refusal 7 []
+  pub runs-overflow : ltZ run (pos 0) ≡ false → 2 ^ 63 ≤ p + toNat run → runByRun i p (drop i rs) ≡ refusal 7 []
   unfolding runByRun
-  runs-overflow t k = rw (drop-cons rs i (pos 0), negative-yes i run t, fits-refused (p + magnitude run) k)
+  runs-overflow t k = rw (drop-cons rs i (pos 0), negative-yes i run t, fits-refused (p + toNat run) k)
 
-  pub runs-next : ltZ run (pos 0) ≡ false → p + magnitude run < 2 ^ 63 → runByRun i p (drop i rs) ≡ runByRun (i + 1) (p + magnitude run) (drop (i + 1) rs)
+  pub runs-next : ltZ run (pos 0) ≡ false → p + toNat run < 2 ^ 63 → runByRun i p (drop i rs) ≡ runByRun (i + 1) (p + toNat run) (drop (i + 1) rs)
   unfolding runByRun
-  runs-next t k = rw (add-one, drop-cons rs i (pos 0), negative-yes i run t, fits-yes (p + magnitude run) k) (alone (runByRun (suc i) (p + magnitude run) (drop (suc i) rs)))
+  runs-next t k = rw (add-one, drop-cons rs i (pos 0), negative-yes i run t, fits-yes (p + toNat run) k) (alone (runByRun (suc i) (p + toNat run) (drop (suc i) rs)))
 
 pub runs-end : (p i : ℕ) (rs : List ℤ) → length rs ≤ i → runByRun i p (drop i rs) ≡ none
 unfolding runByRun
@@ -196,3 +196,8 @@ room-saturated which needed given h =
     by-test (leb needed given)
     (λ t. let k = leb-true needed given t in rw (t, le-leb (saturated needed) given (omega arith)))
     (λ t. let k = leb-false needed given t in rw (t, lt-leb (saturated needed) given (omega arith), s))
+
+pub flat-room-saturated : (o n x e v : ℕ) → e < 2 ^ 63 → v < 2 ^ 63 → room (o ∷ both (saturated n)) (x ∷ e ∷ v ∷ []) ≡ room (o ∷ both n) (x ∷ e ∷ v ∷ [])
+flat-room-saturated o n x e v h k =
+    room-each (o ∷ both (saturated n)) (x ∷ e ∷ v ∷ [])
+    ∙ rw (room-saturated 1 n e (omega arith), room-saturated 2 n v (omega arith)) (sym (room-each (o ∷ both n) (x ∷ e ∷ v ∷ [])))

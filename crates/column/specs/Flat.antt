@@ -5,7 +5,7 @@ use mathlib.Core.Path.{_≡_}
 use lib.IntN.{ℤ}
 use lib.ListN.{length}
 use Rattle.column.specs.Asking.{Question}
-use Rattle.column.specs.Lists.{total, part}
+use Rattle.column.specs.Lists.{total, parts}
 use Rattle.column.specs.Paper.{Outcome, shownBatched, counts, written}
 use Rattle.column.specs.Questions.{paired, offsetsValid, sequencesValid}
 use Rattle.column.specs.Runs.{Sequence, sequence, Runs, runs, endsOf, valuesOf}
@@ -28,17 +28,15 @@ givenFlat os es vs = flat (given os) (given es) (given vs)
 abbrev pub count : Flat → ℕ
 count f = length (f .offsets) - 1
 
--- "key k owns entries offsets[k] up to offsets[k+1]": the sequences, from an offset on
-unfoldable pub sequencesFrom : ℕ → List ℕ → List ℤ → List ℤ → List Sequence
-sequencesFrom a [] es vs = []
-sequencesFrom a (b ∷ os) es vs = sequence (part a b es) (part a b vs) ∷ sequencesFrom b os es vs
+-- a sequence for each list of ends, with the list of values that stands at its place
+unfoldable pub sequencesOf : List (List ℤ) → List (List ℤ) → List Sequence
+sequencesOf [] vss = []
+sequencesOf (es ∷ ess) [] = []
+sequencesOf (es ∷ ess) (vs ∷ vss) = sequence es vs ∷ sequencesOf ess vss
 
-abbrev pub sequencesAt : List ℕ → List ℤ → List ℤ → List Sequence
-sequencesAt [] es vs = []
-sequencesAt (a ∷ os) es vs = sequencesFrom a os es vs
-
+-- "key k owns entries offsets[k] up to offsets[k+1]"
 abbrev pub sequences : Flat → List Sequence
-sequences f = sequencesAt (f .offsets) (f .ends) (f .values)
+sequences f = sequencesOf (parts (f .offsets) (f .ends)) (parts (f .offsets) (f .values))
 
 -- their runs
 unfoldable pub columns : Flat → List Runs

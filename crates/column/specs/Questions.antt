@@ -1,5 +1,5 @@
 -- The questions of document 01, in its order.
-use Prim.Native.Nat.{ℕ, suc, _+_, _^_, min}
+use Prim.Native.Nat.{ℕ, suc, _+_, _^_, min, _-_}
 use mathlib.Core.Bool.{Bool, true, false, not, _&&_}
 use mathlib.Core.Option.{none}
 use mathlib.Core.List.{List, [], _∷_}
@@ -11,7 +11,7 @@ use Rattle.num.specs.Numbers.{saturated, largerOf}
 use Rattle.column.specs.declared.answer.Fill.{Fill}
 use Rattle.column.specs.declared.answer.Fill.the-variants.{Value, Missing}
 use Rattle.column.specs.Lists.{any, parts}
-use Rattle.column.specs.Runs.{Sequence, magnitude}
+use Rattle.column.specs.Runs.{Sequence, toNat}
 use Rattle.column.specs.Asking.{Question, refusal, _unless_, firstNo, each, inKey}
 
 -- ---- 1 UnknownCode
@@ -33,6 +33,10 @@ agree what left right = refusal 2 (pos what ∷ pos left ∷ pos right ∷ []) u
 -- what 3: ends, values
 unfoldable pub paired : Sequence → Question
 paired s = agree 3 (length (s .ends)) (length (s .values))
+
+-- what 6: mask, runs − 1 ("0 for no runs")
+unfoldable pub maskAgrees : List ℕ → List ℤ → Question
+maskAgrees mask ends = agree 6 (length mask) (length ends - 1)
 
 -- what 5: used count, shorter buffer ("no only if the count is larger")
 unfoldable pub usedWithin : ℕ → ℕ → ℕ → Question
@@ -101,7 +105,7 @@ fits n = refusal 7 [] unless ltb n (2 ^ 63)
 -- "In `from_runs` 6 and 7 are asked run by run": from run i on, the length so far being p
 unfoldable pub runByRun : ℕ → ℕ → List ℤ → Question
 runByRun i p [] = none
-runByRun i p (run ∷ rs) = firstNo (notNegative i run ∷ fits (p + magnitude run) ∷ runByRun (suc i) (p + magnitude run) rs ∷ [])
+runByRun i p (run ∷ rs) = firstNo (notNegative i run ∷ fits (p + toNat run) ∷ runByRun (suc i) (p + toNat run) rs ∷ [])
 
 -- ---- 8 DuplicateKey
 

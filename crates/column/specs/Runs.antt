@@ -27,16 +27,16 @@ pub record Run : Type 0 where
 abbrev pub Runs : Type 0
 Runs = List Run
 
--- a number below 0 counts as 0
-abbrev pub magnitude : ℤ → ℕ
-magnitude (pos n) = n
-magnitude (negsuc n) = 0
+-- a natural number as it is, and 0 for a number below 0
+abbrev pub toNat : ℤ → ℕ
+toNat (pos n) = n
+toNat (negsuc n) = 0
 
 -- the runs that two flat lists say
 unfoldable pub runsOf : List ℤ → List ℤ → Runs
 runsOf [] vs = []
 runsOf (e ∷ es) [] = []
-runsOf (e ∷ es) (v ∷ vs) = record { end = magnitude e; value = v } ∷ runsOf es vs
+runsOf (e ∷ es) (v ∷ vs) = record { end = toNat e; value = v } ∷ runsOf es vs
 
 abbrev pub runs : Sequence → Runs
 runs s = runsOf (s .ends) (s .values)

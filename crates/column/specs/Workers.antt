@@ -1,14 +1,17 @@
 -- What workers of several crates leave and require.
 use Prim.Native.Nat.{ℕ, _+_, _-_, _≤_, _<_, _^_, suc}
-use mathlib.Core.Bool.{cond}
+use mathlib.Core.Bool.{Bool, cond}
 use mathlib.Core.List.{List, [], _∷_, map}
 use mathlib.Core.Path.{_≡_}
 use lib.IntN.{ℤ, pos}
 use lib.ListN.{length, set, getD}
 use Rattle.num.specs.Numbers.{eqZ}
-use Rattle.column.specs.Runs.{Run, Runs, magnitude, runsOf, lastFrom, endsOf, valuesOf, pushMerged, over}
+use Rattle.column.specs.Runs.{Run, Runs, toNat, runsOf, lastFrom, endsOf, valuesOf, pushMerged, over}
 use Rattle.column.specs.declared.inner.Writer.{Writer}
 use lib.Dec.{eqb, leb}
+use Rattle.column.specs.Lent.{Lent, given, after}
+use Rattle.column.specs.Flat.{flatOffsets, flatEnds, flatValues}
+use Rattle.column.specs.Lists.{total}
 
 -- ---- mask bytes, "0 or 1"
 
@@ -24,12 +27,13 @@ maskOnes (m ∷ mask) = cond (eqb m 1) (suc (maskOnes mask)) (maskOnes mask)
 
 -- ---- the merging writer: one run after another, each merged with the last where it has its value.
 
--- where a run of value v goes: over the last run, at that place, if that has the value v, else after it
-abbrev pub placeAfter : ℕ → ℤ → ℤ → ℕ
-placeAfter at last v = cond (eqZ last v) at (at + 1)
+-- where a run goes: over the last run, at that place, if it joins it, else after it
+abbrev pub placeAfter : Bool → ℕ → ℕ
+placeAfter joins at = cond joins at (at + 1)
 
+-- it joins a last run of its own value
 abbrev pub nextPlace : Writer → ℤ → ℕ
-nextPlace w v = placeAfter (w .at) (w .last) v
+nextPlace w v = placeAfter (eqZ (w .last) v) (w .at)
 
 -- a run was written there, into two buffers, each before and after
 pub record PushedMerged (w : Writer) (end value : ℤ) (e e′ v v′ : List ℤ) (next : Writer) : Type 0 where
@@ -66,7 +70,7 @@ moved start offset rs = map (λ (r : Run). record { end = r .end - start + offse
 -- the ends are natural numbers and rise, from above p on
 abbrev pub RisingEnds : ℕ → List ℤ → Type 0
 RisingEnds p [] = Unit {0}
-RisingEnds p (e ∷ es) = (e ≡ pos (magnitude e)) × (p < magnitude e) × RisingEnds (magnitude e) es
+RisingEnds p (e ∷ es) = (e ≡ pos (toNat e)) × (p < toNat e) × RisingEnds (toNat e) es
 
 -- runs are written, and there is room behind them for those of the ends and values
 pub record Behind (done : Runs) (first : ℤ) (e₀ v₀ e v : List ℤ) (w : Writer) (es vs : List ℤ) : Type 0 where
@@ -78,7 +82,7 @@ pub record Behind (done : Runs) (first : ℤ) (e₀ v₀ e v : List ℤ) (w : Wr
 -- ends from `start` on that stay i64 at `offset`, with a value each
 pub record Movable (start offset : ℕ) (es vs : List ℤ) : Type 0 where
   pub rising : RisingEnds start es
-  pub fitting : magnitude (lastFrom (pos start) es) - start + offset < 2 ^ 63
+  pub fitting : toNat (lastFrom (pos start) es) - start + offset < 2 ^ 63
   pub paired : length es ≡ length vs
 
 pub record Appendable (start offset : ℕ) (es vs e v : List ℤ) (w : Writer) : Type 0 where
@@ -94,3 +98,16 @@ abbrev pub Appended : ℕ → ℕ → List ℤ → List ℤ → List ℤ → Lis
 Appended start offset es vs e e′ v v′ w next =
     (done : Runs) (first : ℤ) (e₀ v₀ : List ℤ) → Behind done first e₀ v₀ e v w es vs
     → Merging (pushAll done (moved start offset (runsOf es vs))) first e₀ v₀ e′ v′ next
+
+-- ---- sequences laid flat
+
+-- sequences, written into the front of three buffers, each before and after, and how many runs they have
+pub record FilledFlat (cs : List Runs) (x x′ : List ℕ) (e e′ v v′ : List ℤ) (n : ℕ) : Type 0 where
+  pub count : n ≡ total (map length cs)
+  pub offsets : x′ ≡ over (flatOffsets cs) x
+  pub ends : e′ ≡ over (flatEnds cs) e
+  pub values : v′ ≡ over (flatValues cs) v
+
+-- of the buffers that a call is lent
+abbrev pub FillsFlat : List Runs → Lent ℕ → Lent ℤ → Lent ℤ → ℕ → Type 0
+FillsFlat cs x e v n = FilledFlat cs (given x) (after x) (given e) (after e) (given v) (after v) n

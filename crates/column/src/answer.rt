@@ -1,11 +1,25 @@
 use crate::error::Refusal;
+ghost use mathlib.Core.List.{[], _∷_};
 ghost use mathlib.Core.Path.{_≡_};
+ghost use Rattle.column.specs.Asking.{shownAsked, firstNo};
 ghost use Rattle.column.specs.Combine.{valueOf};
 
 // What a question is answered.
 pub enum Asked {
     Yes,
     No(Refusal),
+}
+
+impl Asked {
+    // The first "no" of what was asked before and of the next question.
+    pub fn and(self, next: Asked) -> Asked
+        ensures { λ r. ⌜ shownAsked r ≡ firstNo (shownAsked self ∷ shownAsked next ∷ []) ⌝ }
+    {
+        match self {
+            Asked::Yes => next,
+            Asked::No(r) => Asked::No(r),
+        }
+    }
 }
 
 // What stands where a column has ended.

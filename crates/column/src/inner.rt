@@ -2,6 +2,7 @@
 ghost use Prim.Native.Nat.{_+_, _<_, _^_};
 ghost use mathlib.Core.Path.{_≡_};
 ghost use lib.ListN.{length};
+ghost use Rattle.num.specs.Numbers.{eqZ};
 ghost use Rattle.column.specs.Workers.{placeAfter, nextPlace, PushedMerged, Appendable, Appended};
 ghost use Rattle.column.specs.Lent.{given, after};
 
@@ -13,7 +14,7 @@ pub struct Writer {
 
 fn place_after(at: usize, last: i64, value: i64) -> usize
     requires { ⌜ at + 1 < 2 ^ 64 ⌝ }
-    ensures { λ r. ⌜ r ≡ placeAfter at last value ⌝ }
+    ensures { λ r. ⌜ r ≡ placeAfter (eqZ last value) at ⌝ }
 {
     if value != last { at + 1 } else { at }
 }

@@ -2,12 +2,12 @@
 ghost use mathlib.Core.Path.{_≡_};
 ghost use lib.ListN.{getD};
 ghost use Rattle.column.specs.Lists.{part};
-ghost use Rattle.column.specs.Runs.{endBefore, magnitude, lengthOfEnds};
+ghost use Rattle.column.specs.Runs.{endBefore, toNat, lengthOfEnds};
 ghost use Rattle.column.specs.Lent.{given};
 
 // A number that is not negative, as a count; a negative one counts as 0.
-pub fn magnitude(x: i64) -> usize
-    ensures { λ r. ⌜ r ≡ magnitude x ⌝ }
+pub fn to_nat(x: i64) -> usize
+    ensures { λ r. ⌜ r ≡ toNat x ⌝ }
 {
     if x < 0 { 0 } else { x as usize }
 }

@@ -19,7 +19,7 @@ use Rattle.column.specs.Flat.{columns, pairedFlat, offsetsFlat, endsFlat}
 use Rattle.column.specs.Lists.{any}
 use Rattle.column.specs.Paper.{Outcome, answers}
 use Rattle.column.specs.Questions.{listed, room}
-use Rattle.column.specs.Runs.{Runs, magnitude, lengthOf}
+use Rattle.column.specs.Runs.{Runs, toNat, lengthOf}
 use Rattle.column.proofs.All.{All}
 use Rattle.column.proofs.FirstNo.{alone, all-yes}
 use Rattle.column.proofs.Flattened.{sequences-told, columns-valid}
@@ -47,7 +47,7 @@ cutPair z x = record { key = x .key; first = piece z (x .first); second = piece 
 
 cut-nothing : (z : Span) → piece z [] ≡ []
 unfolding sliceRuns cut lengthOf
-cut-nothing z = by-test (ltb (magnitude (z .start)) (min (magnitude (z .end)) 0)) (λ t. rw t) (λ t. rw t)
+cut-nothing z = by-test (ltb (toNat (z .start)) (min (toNat (z .end)) 0)) (λ t. rw t) (λ t. rw t)
 
 has-cut : (z : Span) (k : ℕ) (b : List Entry) → has k (map (cutEntry z) b) ≡ has k b
 unfolding has

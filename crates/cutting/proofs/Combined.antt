@@ -15,7 +15,7 @@ use Rattle.num.proofs.Tests.{by-test, eqZ-true}
 use Rattle.column.specs.Combine.{Column, valueOf, valueAt, greatestLength, eachPosition, rowAt, table, combined}
 use Rattle.column.specs.Lists.{any}
 use Rattle.column.specs.Questions.{isMissing}
-use Rattle.column.specs.Runs.{Runs, magnitude, lengthOf}
+use Rattle.column.specs.Runs.{Runs, toNat, lengthOf}
 use Rattle.column.proofs.All.{All}
 use Rattle.column.proofs.Encoded.{dense-encode}
 use Rattle.column.proofs.Positions.{eachPosition-cong, eachPosition-add}
@@ -32,17 +32,17 @@ use Rattle.cutting.proofs.Tests.{any-and, any-map, any-any, any-same, a
 never : true ≡ false → ⊥
 never e = let z : _≡_ {A = ℕ} 0 1 = cc in omega arith
 
-rises : (p q : ℤ) → leZ p q ≡ true → magnitude p ≤ magnitude q
+rises : (p q : ℤ) → leZ p q ≡ true → toNat p ≤ toNat q
 rises (pos p) (pos q) t = leb-true p q t
 rises (pos p) (negsuc q) t = absurd (never (sym t))
 rises (negsuc p) q t = omega arith
 
-i64 : (p : ℤ) → ltZ p (pos (2 ^ 63)) ≡ true → magnitude p < 2 ^ 63
+i64 : (p : ℤ) → ltZ p (pos (2 ^ 63)) ≡ true → toNat p < 2 ^ 63
 i64 (pos p) t = ltb-true p (2 ^ 63) t
 i64 (negsuc p) t = omega arith
 
 -- the last cut point reaches n, and n fits
-reached : (n : ℕ) (p : ℤ) → reaches n p [] ≡ true → (n ≤ magnitude p) × (n < 2 ^ 63)
+reached : (n : ℕ) (p : ℤ) → reaches n p [] ≡ true → (n ≤ toNat p) × (n < 2 ^ 63)
 reached n p t =
     let (a, b) = both-true (leZ (pos n) p) (ltZ p (pos (2 ^ 63))) t in
     (rises (pos n) p a, omega (arith, rises (pos n) p a, i64 p b))
@@ -84,10 +84,10 @@ sliced z c = record { fill = c .fill; runs = piece z (c .runs) }
 
 -- the span's start, and its length
 abbrev from : Span → ℕ
-from z = magnitude (z .start)
+from z = toNat (z .start)
 
 abbrev wide : Span → ℕ
-wide z = magnitude (z .end) - magnitude (z .start)
+wide z = toNat (z .end) - toNat (z .start)
 
 abbrev pub ValidColumn : Column → Type 0
 ValidColumn c = Valid (c .runs)
@@ -130,13 +130,13 @@ module _ (op : ℤ → ℤ → ℤ) (cs : List Column) (v : All ValidColumn cs) 
 
   -- the pieces from a cut point on
   shown-pieces : (p : ℤ) (ps : List ℤ) → reaches (greatestLength cs) p ps ≡ true
-      → shown (map (λ z. combined op (map (sliced z) cs)) (spansFrom p ps)) ≡ eachPosition (rowAt op cs) (magnitude p) (greatestLength cs - magnitude p)
+      → shown (map (λ z. combined op (map (sliced z) cs)) (spansFrom p ps)) ≡ eachPosition (rowAt op cs) (toNat p) (greatestLength cs - toNat p)
   unfolding shown eachPosition combined
-  shown-pieces p [] t = let e : greatestLength cs - magnitude p ≡ 0 = omega (arith, reached (greatestLength cs) p t .0) in rw e
+  shown-pieces p [] t = let e : greatestLength cs - toNat p ≡ 0 = omega (arith, reached (greatestLength cs) p t .0) in rw e
   shown-pieces p (q ∷ ps) t =
       let (h, r) = both-true (leZ p q) (reaches (greatestLength cs) q ps) t in
       rw (dense-encode, table-sliced (record { start = p; end = q }), shown-pieces q ps r)
-      (positions-cut (rowAt op cs) (greatestLength cs) (magnitude p) (magnitude q) (rises p q h))
+      (positions-cut (rowAt op cs) (greatestLength cs) (toNat p) (toNat q) (rises p q h))
 
   -- all pieces, one after the other
   pub shown-all : (points : List ℤ) → cutPoints (greatestLength cs) points ≡ true
@@ -173,11 +173,11 @@ short-step m n p q h =
     rw (t, le-ltb (min (q - p) (m - p)) (min (q - p) (n - p)) (omega arith), le-ltb (m - q) (n - q) (omega arith)))
 
 short-pieces : (n : ℕ) (c : Runs) → Valid c → (p : ℤ) (ps : List ℤ) → reaches n p ps ≡ true
-    → any (λ z. ltb (lengthOf (piece z c)) (min (wide z) (n - from z))) (spansFrom p ps) ≡ ltb (lengthOf c - magnitude p) (n - magnitude p)
-short-pieces n c v p [] t = sym (le-ltb (lengthOf c - magnitude p) (n - magnitude p) (omega (arith, reached n p t .0)))
+    → any (λ z. ltb (lengthOf (piece z c)) (min (wide z) (n - from z))) (spansFrom p ps) ≡ ltb (lengthOf c - toNat p) (n - toNat p)
+short-pieces n c v p [] t = sym (le-ltb (lengthOf c - toNat p) (n - toNat p) (omega (arith, reached n p t .0)))
 short-pieces n c v p (q ∷ ps) t =
     let (h, r) = both-true (leZ p q) (reaches n q ps) t in
-    rw (length-slice p q c v, short-pieces n c v q ps r) (short-step (lengthOf c) n (magnitude p) (magnitude q) (rises p q h))
+    rw (length-slice p q c v, short-pieces n c v q ps r) (short-step (lengthOf c) n (toNat p) (toNat q) (rises p q h))
 
 short-whole : (n : ℕ) (c : Runs) → Valid c → (points : List ℤ) → cutPoints n points ≡ true
     → any (λ z. ltb (lengthOf (piece z c)) (min (wide z) (n - from z))) (spans points) ≡ ltb (lengthOf c) n

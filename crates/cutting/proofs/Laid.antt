@@ -13,7 +13,7 @@ use lib.ListN.{length, take, drop, length-append, length-map}
 use lib.Seq.{drop-append-seam, take-append-seam}
 use borrow.Author.Tests.{eq-eqb, le-leb}
 use Rattle.column.specs.Asking.{eachFrom}
-use Rattle.column.specs.Flat.{sequencesFrom, sequences, columns, pairedFlat, offsetsFlat, endsFlat, offsetsFrom, flatEnds, flatValues}
+use Rattle.column.specs.Flat.{sequencesOf, sequences, columns, pairedFlat, offsetsFlat, endsFlat, offsetsFrom, flatEnds, flatValues}
 use Rattle.column.specs.Lists.{total, partsFrom}
 use Rattle.column.specs.Questions.{agree, paired, rise, lastOffset, sequenceAt, sequencesValid}
 use Rattle.column.specs.Runs.{Sequence, Runs, runs, endsOf, valuesOf}
@@ -22,7 +22,7 @@ use Rattle.column.proofs.Ends.{valid-ends}
 use Rattle.column.proofs.Rising.{Valid}
 use Rattle.column.proofs.Sequences.{length-ends, length-values, runs-flat}
 use Rattle.column.proofs.YesNo.{offsets-yes}
-use Rattle.slice.proofs.Items.{allRuns, length-all, flat-ends, flat-values, length-offsets}
+use Rattle.column.proofs.Laying.{allRuns, length-all, flat-ends, flat-values, length-offsets}
 use Rattle.batch.specs.Batch.{Entry, entriesFrom, entries, keysOf, columnsOf, keyed}
 use Rattle.cutting.specs.Cut.{sequenceOf, flatOf, batchOf}
 
@@ -35,8 +35,8 @@ next-part n a p xs q h k =
     rw (e, ← h, drop-append-seam, take-append-seam)
 
 flat-from : (a : ℕ) (pe pv : List ℤ) (cs : List Runs) → length pe ≡ a → length pv ≡ a
-    → sequencesFrom a (offsetsFrom a cs) (pe ++ flatEnds cs) (pv ++ flatValues cs) ≡ map sequenceOf cs
-unfolding sequencesFrom offsetsFrom flatEnds flatValues
+    → sequencesOf (partsFrom a (offsetsFrom a cs) (pe ++ flatEnds cs)) (partsFrom a (offsetsFrom a cs) (pv ++ flatValues cs)) ≡ map sequenceOf cs
+unfolding sequencesOf partsFrom offsetsFrom flatEnds flatValues
 flat-from a pe pv [] h k = refl
 flat-from a pe pv (c ∷ cs) h k =
     rw (next-part (length c) a pe (endsOf c) (flatEnds cs) h (length-ends c), next-part (length c) a pv (valuesOf c) (flatValues cs) k (length-values c))

@@ -12,8 +12,8 @@ use Rattle.num.specs.Numbers.{operation}
 use Rattle.column.specs.declared.answer.Fill.{Fill}
 use Rattle.column.specs.Asking.{Question, firstNo, _otherwise_}
 use Rattle.column.specs.Combine.{many, greatestLength, allFilled, combined}
-use Rattle.column.specs.Flat.{Flat, count, sequencesFrom, sequencesAt, sequences, columns, pairedFlat, offsetsFlat, endsFlat, flatAsked}
-use Rattle.column.specs.Lists.{part, partsFrom}
+use Rattle.column.specs.Flat.{Flat, count, sequencesOf, sequences, columns, pairedFlat, offsetsFlat, endsFlat, flatAsked}
+use Rattle.column.specs.Lists.{part, partsFrom, parts}
 use Rattle.column.specs.Paper.{Outcome, answers}
 use Rattle.column.specs.Questions.{listed, paired, endsValid, atMost, room, both}
 use Rattle.column.specs.Runs.{Sequence, Runs, runs}
@@ -40,13 +40,13 @@ use Rattle.cutting.proofs.Laid.{agree-yes, columns-flat, paired-flat, l
 abbrev Fine : Sequence → Type 0
 Fine s = (paired s ≡ none) × (endsValid (s .ends) ≡ none)
 
-fine-from : (a : ℕ) (os : List ℕ) (es vs : List ℤ) → length es ≡ length vs → AllValid (partsFrom a os es) → All Fine (sequencesFrom a os es vs)
-unfolding sequencesFrom partsFrom paired
+fine-from : (a : ℕ) (os : List ℕ) (es vs : List ℤ) → length es ≡ length vs → AllValid (partsFrom a os es) → All Fine (sequencesOf (partsFrom a os es) (partsFrom a os vs))
+unfolding sequencesOf partsFrom paired
 fine-from a [] es vs l v = tt
 fine-from a (b ∷ os) es vs l v =
     ((agree-yes 3 (length (part a b es)) (length (part a b vs)) (part-paired a b es vs l), v .0), fine-from b os es vs l (v .1))
 
-fine-at : (os : List ℕ) (es vs : List ℤ) → paired (record { ends = es; values = vs }) ≡ none → endsFlat (record { offsets = os; ends = es; values = vs }) ≡ none → All Fine (sequencesAt os es vs)
+fine-at : (os : List ℕ) (es vs : List ℤ) → paired (record { ends = es; values = vs }) ≡ none → endsFlat (record { offsets = os; ends = es; values = vs }) ≡ none → All Fine (sequencesOf (parts os es) (parts os vs))
 unfolding paired
 fine-at [] es vs p e = tt
 fine-at (a ∷ os) es vs p e = fine-from a os es vs (agree-told 3 (length es) (length vs) p) (sequences-told (a ∷ os) es e)

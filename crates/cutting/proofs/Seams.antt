@@ -13,8 +13,8 @@ use Rattle.column.specs.declared.answer.Fill.the-variants.{Value, Missing}
 use Rattle.column.specs.Combine.{valueAt, greatestLength, allFilled, rowAt, eachPosition, table, combined}
 use Rattle.column.specs.Asking.{eachFrom}
 use Rattle.column.specs.Paper.{Outcome, answers, counts}
-use Rattle.column.specs.Flat.{sequencesFrom, columns, offsetsFrom, flatOffsets, flatEnds, flatValues}
-use Rattle.column.specs.Lists.{partsFrom}
+use Rattle.column.specs.Flat.{sequencesOf, columns, offsetsFrom, flatOffsets, flatEnds, flatValues}
+use Rattle.column.specs.Lists.{partsFrom, parts}
 use Rattle.column.specs.Questions.{listed, maskListed, agree, paired, offsetsValid, endsFrom, endsValid, sequencesValid, fits, filled, roomAt, roomFrom, room, sequenceAsked}
 use Rattle.column.specs.Runs.{Sequence, sequence, Runs, runs, runsOf, endsOf, valuesOf, lengthOf, denseFrom, dense, joined, encodeFrom, encode}
 use Rattle.column.proofs.Rows.{Lines, Row, row, Hold, refused, asRuns, asEntries}
@@ -149,5 +149,5 @@ rows =
     ∷ []
 
 pub seams : Hold rows
-unfolding addWrapping batch.keyed eachAsked batchValid mapRlesSlice entriesFrom entries wrap operation valueAt greatestLength allFilled rowAt eachPosition table combined eachFrom listed maskListed agree paired endsFrom endsValid filled roomAt roomFrom room sequenceAsked runsOf endsOf valuesOf lengthOf denseFrom dense joined encodeFrom encode zipAsked ops.zipWith segmentsFrom segments planAsked plan covering runIndex slice.cut sliceRuns slice.slice shown concatAsked transform.concat offsetsFrom flatEnds flatValues sequencesFrom columns partsFrom offsetsValid sequencesValid fits shiftValues shift groupsFrom groups maskAgrees mergePlanAsked mergePlan groupEnds pastEach foldRuns sumRuns reduce.sum ofInt converted
+unfolding addWrapping batch.keyed eachAsked batchValid mapRlesSlice entriesFrom entries wrap operation valueAt greatestLength allFilled rowAt eachPosition table combined eachFrom listed maskListed agree paired endsFrom endsValid filled roomAt roomFrom room sequenceAsked runsOf endsOf valuesOf lengthOf denseFrom dense joined encodeFrom encode zipAsked ops.zipWith segmentsFrom segments planAsked plan covering runIndex slice.cut sliceRuns slice.slice shown concatAsked transform.concat offsetsFrom flatEnds flatValues sequencesOf partsFrom columns offsetsValid sequencesValid fits shiftValues shift groupsFrom groups maskAgrees mergePlanAsked mergePlan groupEnds pastEach foldRuns sumRuns reduce.sum ofInt converted
 seams = (refl, (refl, (refl, (refl, (refl, (refl, (refl, (refl, (refl, (refl, (refl, (refl, (refl, (refl, (refl, (refl, (refl, (refl, (refl, (refl, (refl, (refl, (refl, (refl, (refl, (refl, tt))))))))))))))))))))))))))

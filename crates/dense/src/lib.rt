@@ -28,7 +28,7 @@ pub fn from_dense(values: &[i64], out_ends: &mut [i64], out_values: &mut [i64]) 
 fn to_dense_asks(ends: &[i64], values: &[i64], out: usize) -> Asked
     ensures { λ r. ⌜ shownAsked r ≡ calls.toDenseAsked (givenSequence ends values) (out ∷ []) ⌝ }
 {
-    let needed = sequence::magnitude(sequence::length(ends));
+    let needed = sequence::to_nat(sequence::length(ends));
     questions::first_no(
         questions::ask_sequence(ends, values),
         questions::ask_room(0, needed, out),

@@ -10,7 +10,7 @@ use Rattle.num.specs.Numbers.{eqZ, flag, operation}
 use Rattle.column.specs.declared.answer.Fill.the-variants.{Missing}
 use Rattle.column.specs.Combine.{Column, two}
 use Rattle.column.specs.Lists.{any}
-use Rattle.column.specs.Runs.{Run, magnitude, sequence, runsOf, lengthOf, lengthOfEnds, dense}
+use Rattle.column.specs.Runs.{Run, toNat, sequence, runsOf, lengthOf, lengthOfEnds, dense}
 use Rattle.column.proofs.Ends.{rising, runs-rise, length-of-ends}
 use Rattle.column.proofs.Lists.{any-append}
 use Rattle.column.proofs.Rising.{Valid}
@@ -70,10 +70,10 @@ module _ (ae av be bv : List ℤ) where
     other-lengths n = sym (same-lengths (runsOf ae av) (runsOf be bv) valid-a valid-b (λ e. n (length-a ∙ ap pos e ∙ sym length-b)))
 
     module _ (h : lengthOfEnds ae ≡ lengthOfEnds be) where
-      by-segments : sameShown ≡ not (differing (segments (map magnitude ae ∷ map magnitude be ∷ [])))
+      by-segments : sameShown ≡ not (differing (segments (map toNat ae ∷ map toNat be ∷ [])))
       unfolding differing segmentRuns
       by-segments =
-          let e : lengthOf (runsOf ae av) ≡ lengthOf (runsOf be bv) = ap magnitude (sym length-a ∙ h ∙ length-b) in
+          let e : lengthOf (runsOf ae av) ≡ lengthOf (runsOf be bv) = ap toNat (sym length-a ∙ h ∙ length-b) in
           same-segments Missing Missing (runsOf ae av) (runsOf be bv) valid-a valid-b e
           ∙ rw (ends-in ae av (q .paired-a), ends-in be bv (q .paired-b))
 
@@ -97,7 +97,7 @@ module _ (ae av be bv : List ℤ) where
         pub compared-differ : b ≡ false → false ≡ sameShown
         unfolding differing
         compared-differ h′ =
-            let ends = map magnitude ae ∷ map magnitude be ∷ [] in
+            let ends = map toNat ae ∷ map toNat be ∷ [] in
             let l = walk-next ae be (d .walk) s .listing in
             let run = segmentRun (operation 7) cs in
             let more = segmentsFrom (l .bound) (placesAt ae be c′) in

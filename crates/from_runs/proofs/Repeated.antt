@@ -10,15 +10,15 @@ use mir.Syntax.{w64}
 use mir.Val.{SFits}
 use Rattle.column.specs.Asking.{Question, firstNo, _otherwise_}
 use Rattle.column.specs.Questions.{agree, notNegative, runByRun, room, both}
-use Rattle.column.specs.Runs.{magnitude}
-use Rattle.column.proofs.Naturals.{magnitude-below}
+use Rattle.column.specs.Runs.{toNat}
+use Rattle.column.proofs.Naturals.{to-nat-below}
 use Rattle.column.proofs.YesNo.{fits-yes}
 use Rattle.from_runs.specs.Calls.{runsFrom, fromRunsAsked, fromRuns, repeat}
 
 -- one run always fits
 runs-one : (run : ℤ) → SFits w64 run → runByRun 0 0 (run ∷ []) ≡ notNegative 0 run
 unfolding runByRun
-runs-one run f = rw (zero-add (magnitude run), fits-yes (magnitude run) (magnitude-below run f)) (only (notNegative 0 run))
+runs-one run f = rw (zero-add (toNat run), fits-yes (toNat run) (to-nat-below run f)) (only (notNegative 0 run))
   where
     only : (q : Question) → firstNo (q ∷ none ∷ none ∷ []) ≡ q
     only none = refl

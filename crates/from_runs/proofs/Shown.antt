@@ -9,14 +9,14 @@ use lib.IntN.{ℤ}
 use lib.ListN.{replicate}
 use borrow.Author.Tests.{eqb-true}
 use Rattle.num.proofs.Tests.{by-test}
-use Rattle.column.specs.Runs.{magnitude, denseFrom, dense}
+use Rattle.column.specs.Runs.{toNat, denseFrom, dense}
 use Rattle.from_runs.specs.Calls.{runsFrom}
 
 -- each value as often as its run is long
 abbrev pub spread : List ℤ → List ℤ → List ℤ
 spread [] vs = []
 spread (n ∷ ns) [] = []
-spread (n ∷ ns) (v ∷ vs) = replicate (magnitude n) v ++ spread ns vs
+spread (n ∷ ns) (v ∷ vs) = replicate (toNat n) v ++ spread ns vs
 
 shown-length : (p k : ℕ) (v : ℤ) → replicate (p + k - p) v ≡ replicate k v
 shown-length p k v = let e : p + k - p ≡ k = omega arith in rw e
@@ -26,9 +26,9 @@ unfolding denseFrom runsFrom
 shown-from p [] vs = refl
 shown-from p (n ∷ ns) [] = refl
 shown-from p (n ∷ ns) (v ∷ vs) =
-    by-test (eqb (magnitude n) 0)
-    (λ t. rw (t, eqb-true (magnitude n) 0 t) (shown-from p ns vs))
-    (λ t. rw (t, shown-length p (magnitude n) v, shown-from (p + magnitude n) ns vs))
+    by-test (eqb (toNat n) 0)
+    (λ t. rw (t, eqb-true (toNat n) 0 t) (shown-from p ns vs))
+    (λ t. rw (t, shown-length p (toNat n) v, shown-from (p + toNat n) ns vs))
 
 pub from-runs-shows : (ns vs : List ℤ) → dense (runsFrom 0 ns vs) ≡ spread ns vs
 unfolding dense

@@ -8,15 +8,15 @@ use lib.Dec.{eqb}
 use Rattle.column.specs.Asking.{Question, firstNo, _otherwise_}
 use Rattle.column.specs.Paper.{Outcome}
 use Rattle.column.specs.Questions.{agree, paired, endsValid, notNegative, runByRun, room, both}
-use Rattle.column.specs.Runs.{Sequence, Runs, magnitude}
+use Rattle.column.specs.Runs.{Sequence, Runs, toNat}
 
 -- the runs from position p on, for given lengths: "skips runs of 0"
 unfoldable pub runsFrom : ℕ → List ℤ → List ℤ → Runs
 runsFrom p [] vs = []
 runsFrom p (n ∷ ns) [] = []
 runsFrom p (n ∷ ns) (v ∷ vs) =
-    let end = p + magnitude n in
-    cond (eqb (magnitude n) 0) (runsFrom p ns vs) (record { end = end; value = v } ∷ runsFrom end ns vs)
+    let end = p + toNat n in
+    cond (eqb (toNat n) 0) (runsFrom p ns vs) (record { end = end; value = v } ∷ runsFrom end ns vs)
 
 -- "Output entries: as many as runs given"
 unfoldable pub fromRunsAsked : List ℤ → List ℤ → List ℕ → Question

@@ -13,8 +13,7 @@ use Rattle.column.specs.Questions.{agree, paired, endsValid, intervals, roomAt,
 use Rattle.column.specs.Runs.{sequence, Runs, runsOf}
 use Rattle.column.proofs.FirstNo.{all-yes, asked-next, asked-last}
 use Rattle.column.proofs.Told.{agree-told, room-told}
-use Rattle.column.proofs.YesNo.{room-each}
-use Rattle.slice.proofs.Asks.{flat-room-saturated}
+use Rattle.column.proofs.YesNo.{room-each, flat-room-saturated}
 use Rattle.getitems.specs.Calls.{intervalRuns, getitemsAsked}
 use Rattle.getitems.specs.Workers.{intervalCounts, Gettable}
 use Rattle.getitems.proofs.Items.{counts-are}

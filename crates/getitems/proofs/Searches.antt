@@ -14,22 +14,22 @@ use mir.Val.{SFits}
 use borrow.Author.Tests.{eqb-true, eqb-false}
 use Rattle.num.proofs.Tests.{by-test}
 use Rattle.column.specs.Questions.{endsValid}
-use Rattle.column.specs.Runs.{magnitude, lengthOfEnds}
-use Rattle.column.proofs.Naturals.{magnitude-below}
+use Rattle.column.specs.Runs.{toNat, lengthOfEnds}
+use Rattle.column.proofs.Naturals.{to-nat-below}
 use Rattle.slice.specs.Workers.{Halving}
 use Rattle.slice.proofs.Searching.{halving-start, halving-end}
 use Rattle.getitems.specs.Workers.{sought, found, Halvings, Begun, Searched, Kept}
 
 -- ---- what is looked for
 
-module _ (es : List ℤ) (back : ℕ) (p : ℤ) {m l c : ℕ} (em : m ≡ magnitude p) (el : l ≡ magnitude (lengthOfEnds es)) (ec : c ≡ min m l) where
+module _ (es : List ℤ) (back : ℕ) (p : ℤ) {m l c : ℕ} (em : m ≡ toNat p) (el : l ≡ toNat (lengthOfEnds es)) (ec : c ≡ min m l) where
   pub place-low : c < back → (0 ≡ sought es back p) × (0 < 2 ^ 63)
   unfolding sought
   place-low h = (omega arith, omega arith)
 
   pub place-high : SFits w64 p → back ≤ c → (c - back ≡ sought es back p) × (c - back < 2 ^ 63)
   unfolding sought
-  place-high f h = (omega arith, omega (arith, magnitude-below p f))
+  place-high f h = (omega arith, omega (arith, to-nat-below p f))
 
 -- ---- an entry of a list written, and the others as they were
 

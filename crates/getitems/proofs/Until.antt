@@ -15,7 +15,7 @@ use borrow.Author.Tests.{leb-true, ltb-true, ltb-false, lt-ltb, le-ltb}
 use Rattle.num.specs.Numbers.{smallerOf, largerOf}
 use Rattle.num.proofs.Tests.{by-test}
 use Rattle.column.specs.Questions.{endsValid}
-use Rattle.column.specs.Runs.{magnitude, runsOf, lengthOfEnds, Filled}
+use Rattle.column.specs.Runs.{toNat, runsOf, lengthOfEnds, Filled}
 use Rattle.column.proofs.Naturals.{le-lt}
 use Rattle.slice.specs.declared.search.TouchedRuns.{TouchedRuns}
 use Rattle.slice.specs.Calls.{firstWhere, firstEndAbove, sliceRuns}
@@ -50,10 +50,10 @@ least-on x y es h = where-on (λ e. ltZ (pos x) e) (λ e. leZ (pos y) e) (above-
 
 module _ (start stop : ℤ) (es : List ℤ) (k : 0 < touchedBy start stop es .count) where
   abbrev x : ℕ
-  x = magnitude start
+  x = toNat start
 
   abbrev y : ℕ
-  y = min (magnitude stop) (magnitude (lengthOfEnds es))
+  y = min (toNat stop) (toNat (lengthOfEnds es))
 
   ordered : ltb x y ≡ true
   unfolding touchedBy
@@ -64,7 +64,7 @@ module _ (start stop : ℤ) (es : List ℤ) (k : 0 < touchedBy start stop es .co
   unfolding touchedBy sought
   first-found =
       let h = ltb-true x y ordered in
-      let m : min x (magnitude (lengthOfEnds es)) - 0 ≡ x = omega arith in
+      let m : min x (toNat (lengthOfEnds es)) - 0 ≡ x = omega arith in
       rw (ordered, m)
 
   last-found : found es 1 stop + 1 ≡ touchedBy start stop es .first + touchedBy start stop es .count

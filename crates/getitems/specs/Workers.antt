@@ -7,7 +7,7 @@ use lib.IntN.{ℤ, pos}
 use lib.ListN.{length, getD}
 use Rattle.column.specs.Lists.{total}
 use Rattle.column.specs.Questions.{endsValid}
-use Rattle.column.specs.Runs.{Sequence, runs, runsOf, magnitude, lengthOfEnds}
+use Rattle.column.specs.Runs.{Sequence, runs, runsOf, toNat, lengthOfEnds}
 use Rattle.slice.specs.Calls.{firstEndAbove, sliceRuns}
 use Rattle.slice.specs.Workers.{touchedBy, Halving}
 use Rattle.getitems.specs.Calls.{intervalRuns}
@@ -16,7 +16,7 @@ use Rattle.getitems.specs.Calls.{intervalRuns}
 
 -- a position as clamped to the sequence, or so many before it
 unfoldable pub sought : List ℤ → ℕ → ℤ → ℕ
-sought es back p = min (magnitude p) (magnitude (lengthOfEnds es)) - back
+sought es back p = min (toNat p) (toNat (lengthOfEnds es)) - back
 
 -- the first end above it
 abbrev pub found : List ℤ → ℕ → ℤ → ℕ

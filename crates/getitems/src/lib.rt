@@ -61,7 +61,7 @@ fn getitems_asks(
         ≡ calls.getitemsAsked (givenSequence ends values) (given starts) (given stops) («out_offsets» ∷ «out_ends» ∷ «out_values» ∷ [])) ⌝ }
 {
     let runs = count_runs(ends, starts, stops);
-    let room = slice::ask_flat_room(starts.len() + 1, runs, out_offsets, out_ends, out_values);
+    let room = questions::ask_flat_room(starts.len() + 1, runs, out_offsets, out_ends, out_values);
     let inside = questions::first_no(questions::ask_intervals(starts, stops), room);
     let valid = questions::first_no(questions::ask_ends(ends), inside);
     let paired = questions::first_no(questions::ask_lengths(8, starts.len(), stops.len()), valid);

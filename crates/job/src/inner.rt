@@ -73,7 +73,7 @@ pub struct Job {
 // Where the runs of a column start; of the column behind the last, where the last one's end.
 fn offset(table: &[i64], column: usize) -> usize {
     let at = num::saturating_add(OFFSETS, column);
-    sequence::magnitude(sequence::entry_or(table, at, 0))
+    sequence::to_nat(sequence::entry_or(table, at, 0))
 }
 
 // The offsets of the columns, as the library takes them.

@@ -18,9 +18,9 @@ use Rattle.num.proofs.Tests.{by-test}
 use Rattle.num.proofs.Bits.{getD-any}
 use Rattle.column.specs.Lists.{part}
 use Rattle.column.specs.Questions.{endsValid}
-use Rattle.column.specs.Runs.{magnitude}
+use Rattle.column.specs.Runs.{toNat}
 use Rattle.column.proofs.Ends.{natural-end}
-use Rattle.column.proofs.Naturals.{magnitude-below}
+use Rattle.column.proofs.Naturals.{to-nat-below}
 use Rattle.column.proofs.Parts.{length-part, part-at}
 use Rattle.plan.specs.Calls.{Place, steppedOn, least}
 use Rattle.plan.specs.Workers.{placeAt, spent, EndAt}
@@ -44,13 +44,13 @@ module _ (xs : List ℤ) (a b i : ℕ) (q : InColumn xs a b i) where
   value-none fill h = sym (List·getD-eq-default (part a b xs) fill {n = i} (behind h))
 
   module _ (v : endsValid (part a b xs) ≡ none) where
-    pub end-natural : a + i < b → getD xs (a + i) (pos 0) ≡ pos (magnitude (getD xs (a + i) (pos 0)))
+    pub end-natural : a + i < b → getD xs (a + i) (pos 0) ≡ pos (toNat (getD xs (a + i) (pos 0)))
     end-natural h = rw (part-at a b xs i (pos 0) h) at (natural-end (part a b xs) i v (inside h))
 
-    pub end-inside : {r : ℕ} → a + i < b → r ≡ magnitude (getD xs (a + i) (pos 0)) → SFits w64 (getD xs (a + i) (pos 0)) → EndAt (ahead (part a b xs) i) r
+    pub end-inside : {r : ℕ} → a + i < b → r ≡ toNat (getD xs (a + i) (pos 0)) → SFits w64 (getD xs (a + i) (pos 0)) → EndAt (ahead (part a b xs) i) r
     end-inside h e f =
-        let n = ap magnitude (part-at a b xs i (pos 0) h) in
-        end-some _ (ahead-some (part a b xs) i (inside h)) (e ∙ sym n) (rw n (magnitude-below (getD xs (a + i) (pos 0)) f))
+        let n = ap toNat (part-at a b xs i (pos 0) h) in
+        end-some _ (ahead-some (part a b xs) i (inside h)) (e ∙ sym n) (rw n (to-nat-below (getD xs (a + i) (pos 0)) f))
 
     pub end-behind : b ≤ a + i → EndAt (ahead (part a b xs) i) spent
     end-behind h = end-none (ahead-none (part a b xs) i (behind h))
@@ -63,8 +63,8 @@ module _ (m : ℕ) (es : List ℤ) (i : ℕ) where
   place-moves {e} q h en =
       by-test (ltb i (length es))
       (λ t. let a = ahead-some es i (ltb-true i (length es) t) in
-      let c : e ≡ magnitude (getD es i (pos 0)) = rw a at (q .current) in
-      by-test (eqb (magnitude (getD es i (pos 0))) m) (λ y. rw (en, c, y, a, y, add-one i)) (λ y. rw (en, c, y, add-zero i, a, y)))
+      let c : e ≡ toNat (getD es i (pos 0)) = rw a at (q .current) in
+      by-test (eqb (toNat (getD es i (pos 0))) m) (λ y. rw (en, c, y, a, y, add-one i)) (λ y. rw (en, c, y, add-zero i, a, y)))
       (λ t. let a = ahead-none es i (ltb-false i (length es) t) in
       let c : e ≡ spent = rw a at (q .current) in
       let n : eqb e m ≡ false = ne-eqb e m (λ z. let y : ⊥ = omega arith in y) in
@@ -74,7 +74,7 @@ module _ (m : ℕ) (es : List ℤ) (i : ℕ) where
   place-within h =
       by-test (ltb i (length es))
       (λ t. let l = ltb-true i (length es) t in
-      by-test (eqb (magnitude (getD es i (pos 0))) m) (λ y. rw (ahead-some es i l, y) (omega arith)) (λ y. rw (ahead-some es i l, y) h))
+      by-test (eqb (toNat (getD es i (pos 0))) m) (λ y. rw (ahead-some es i l, y) (omega arith)) (λ y. rw (ahead-some es i l, y) h))
       (λ t. rw (ahead-none es i (ltb-false i (length es) t)) h)
 
   -- where its index goes, there it goes
@@ -82,7 +82,7 @@ module _ (m : ℕ) (es : List ℤ) (i : ℕ) where
   place-again =
       by-test (ltb i (length es))
       (λ t. let a = ahead-some es i (ltb-true i (length es) t) in
-      by-test (eqb (magnitude (getD es i (pos 0))) m)
+      by-test (eqb (toNat (getD es i (pos 0))) m)
       (λ y. let s : steppedOn m i (ahead es i) ≡ placeAt es (suc i) = rw (a, y) in ap (λ (p : Place). placeAt es (p .index)) s ∙ sym s)
       (λ y. let s : steppedOn m i (ahead es i) ≡ placeAt es i = rw (a, y) in ap (λ (p : Place). placeAt es (p .index)) s ∙ sym s))
       (λ t. let s = place-stays es i m (ltb-false i (length es) t) in ap (λ (p : Place). placeAt es (p .index)) (sym s) ∙ s)

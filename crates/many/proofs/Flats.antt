@@ -10,7 +10,7 @@ use Rattle.column.specs.declared.answer.Fill.{Fill}
 use Rattle.column.specs.Combine.{Column, many}
 use Rattle.column.specs.Flat.{flat, columns}
 use Rattle.column.specs.Questions.{sequencesValid}
-use Rattle.column.specs.Runs.{Runs, runs, magnitude}
+use Rattle.column.specs.Runs.{Runs, runs, toNat}
 use Rattle.column.proofs.All.{All}
 use Rattle.column.proofs.Flattened.{columns-by-ends, columns-valid, sequences-told}
 use Rattle.column.proofs.Rising.{Valid}
@@ -21,7 +21,7 @@ use Rattle.many.proofs.Walking.{endsOfParts}
 module _ (os : List ℕ) (es vs : List ℤ) (l : length es ≡ length vs) (v : sequencesValid os es ≡ none) where
   -- their ends
   pub ends-columns : map endsIn (columns (flat os es vs)) ≡ endsOfParts os es
-  ends-columns = columns-by-ends endsIn (map magnitude) (λ xs ys h k. ends-in xs ys k) os es vs l (sequences-told os es v)
+  ends-columns = columns-by-ends endsIn (map toNat) (λ xs ys h k. ends-in xs ys k) os es vs l (sequences-told os es v)
 
   -- each with the single fill
   module _ (fill : Fill) where

@@ -11,7 +11,7 @@ use lib.IntN.{ℤ}
 use lib.ListN.{length, getD, drop, set, length-append, length-drop, drop-of-length-le}
 use lib.Seq.{drop-cons, set-at, getD-at, append-snoc}
 use Rattle.column.specs.Lists.{parts}
-use Rattle.column.specs.Runs.{magnitude}
+use Rattle.column.specs.Runs.{toNat}
 use Rattle.column.proofs.Parts.{parts-start}
 use Rattle.plan.specs.Calls.{Place, leastEnd, steppedOn, rests, indexes, stepped}
 use Rattle.plan.specs.Workers.{placeAt, spent, EndAt}
@@ -91,7 +91,7 @@ module _ {os : List ℕ} {es : List ℤ} {m : ℕ} {is is′ : List ℕ} {l c : 
       step-cons = ap (stepped m) (places-cons os es is c h (placed-column q c h .offset)) ∙ ap {B = List Place} (λ p. p ∷ others) (sym (rw unmoved at moved))
 
       -- e is its end, and e′ the next one
-      pub step-next : {e′ l′ : ℕ} → EndAt (map magnitude (drop n column)) e′ → l′ ≡ min l e′ → Stepping os es m is (set is′ c n) l′ (c + 1)
+      pub step-next : {e′ l′ : ℕ} → EndAt (map toNat (drop n column)) e′ → l′ ≡ min l e′ → Stepping os es m is (set is′ c n) l′ (c + 1)
       step-next b el =
           record {
             done = s .done ++ n ∷ [];
@@ -101,9 +101,9 @@ module _ {os : List ℕ} {es : List ℤ} {m : ℕ} {is is′ : List ℕ} {l c : 
             steps = s .steps ∙ rw step-cons (sym (append-snoc (s .done) n (indexes others)));
             least = s .least
                 ∙ rw step-cons
-                (ap (earlier l) (least-cons (map magnitude (drop n column)) (rests others))
-                ∙ earlier-next l (map magnitude (drop n column)) (leastEnd (rests others)) b (s .bounded)
+                (ap (earlier l) (least-cons (map toNat (drop n column)) (rests others))
+                ∙ earlier-next l (map toNat (drop n column)) (leastEnd (rests others)) b (s .bounded)
                 ∙ ap (λ (x : ℕ). earlier x (leastEnd (rests others))) (sym el));
             bounded = omega (arith, s .bounded);
-            small = rw el (earlier-small l (map magnitude (drop n column)) b (s .small));
+            small = rw el (earlier-small l (map toNat (drop n column)) b (s .small));
           }

@@ -11,7 +11,7 @@ use lib.ListN.{length, take, replicate, length-map, length-replicate}
 use borrow.Author.Tests.{lt-ltb, le-ltb, ne-eqb}
 use Rattle.column.specs.Lists.{total, parts}
 use Rattle.column.specs.Questions.{endsValid, offsetsValid}
-use Rattle.column.specs.Runs.{magnitude}
+use Rattle.column.specs.Runs.{toNat}
 use Rattle.column.proofs.Ends.{rising}
 use Rattle.column.proofs.Flattened.{AllValid, offsets-some, length-parts, total-parts, sequences-told}
 use Rattle.plan.specs.Calls.{Place, Segment, steppedOn, leastEnd, rests, indexes, stepped, firstPlaces, segments}
@@ -24,11 +24,11 @@ use Rattle.many.proofs.Places.{places-again, indexes-places, placed-pai
 -- ---- columns at their first runs
 
 abbrev pub endsOfParts : List ℕ → List ℤ → List (List ℕ)
-endsOfParts os es = map (map magnitude) (parts os es)
+endsOfParts os es = map (map toNat) (parts os es)
 
-first-places : (ess : List (List ℤ)) → placesFor (replicate (length ess) 0) ess ≡ firstPlaces (map (map magnitude) ess)
+first-places : (ess : List (List ℤ)) → placesFor (replicate (length ess) 0) ess ≡ firstPlaces (map (map toNat) ess)
 first-places [] = refl
-first-places (es ∷ ess) = ap {B = List Place} (λ ps. record { index = 0; rest = map magnitude es } ∷ ps) (first-places ess)
+first-places (es ∷ ess) = ap {B = List Place} (λ ps. record { index = 0; rest = map toNat es } ∷ ps) (first-places ess)
 
 first-within : (ess : List (List ℤ)) → Within (replicate (length ess) 0) ess
 first-within [] = tt
@@ -44,17 +44,17 @@ pub length-front : {A : Type 0} (x : A) (n m : ℕ) → n ≤ m → length (take
 length-front x n m h = length-take-le n (replicate m x) (rw (length-replicate m x) h)
 
 -- no run ends at 0
-first-stays : (ess : List (List ℤ)) → AllValid ess → stepped 0 (firstPlaces (map (map magnitude) ess)) ≡ firstPlaces (map (map magnitude) ess)
+first-stays : (ess : List (List ℤ)) → AllValid ess → stepped 0 (firstPlaces (map (map toNat) ess)) ≡ firstPlaces (map (map toNat) ess)
 first-stays [] v = refl
 first-stays (es ∷ ess) v = ap₂ (λ (p : Place) (ps : List Place). p ∷ ps) (stays es (v .0)) (first-stays ess (v .1))
   where
-    stays : (l : List ℤ) → endsValid l ≡ none → steppedOn 0 0 (map magnitude l) ≡ record { index = 0; rest = map magnitude l }
+    stays : (l : List ℤ) → endsValid l ≡ none → steppedOn 0 0 (map toNat l) ≡ record { index = 0; rest = map toNat l }
     stays [] h = refl
-    stays (e ∷ l) h = rw (ne-eqb (magnitude e) 0 (λ z. let y : ⊥ = omega (arith, rising (e ∷ l) h .1) in y))
+    stays (e ∷ l) h = rw (ne-eqb (toNat e) 0 (λ z. let y : ⊥ = omega (arith, rising (e ∷ l) h .1) in y))
 
-total-lengths : (ess : List (List ℤ)) → total (map length (map (map magnitude) ess)) ≡ total (map length ess)
+total-lengths : (ess : List (List ℤ)) → total (map length (map (map toNat) ess)) ≡ total (map length ess)
 total-lengths [] = refl
-total-lengths (es ∷ ess) = ap₂ _+_ (length-map es magnitude) (total-lengths ess)
+total-lengths (es ∷ ess) = ap₂ _+_ (length-map es toNat) (total-lengths ess)
 
 -- they have all runs left
 pub first-total : (os : List ℕ) (es : List ℤ) → offsetsValid os (length es) ≡ none → left (firstPlaces (endsOfParts os es)) ≡ length es

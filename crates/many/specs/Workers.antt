@@ -9,7 +9,7 @@ use lib.IntN.{ℤ, pos}
 use lib.ListN.{length, getD, drop, set, replicate}
 use Rattle.column.specs.Lists.{part, parts}
 use Rattle.column.specs.Questions.{endsValid, offsetsValid, sequencesValid}
-use Rattle.column.specs.Runs.{magnitude, over}
+use Rattle.column.specs.Runs.{toNat, over}
 use Rattle.plan.specs.Calls.{Place, Segment, leastEnd, rests, indexes, stepped, segmentEnds}
 use Rattle.plan.specs.Workers.{placeAt, spent, EndAt}
 use Rattle.many.specs.declared.inner.Counts.{Counts}
@@ -60,7 +60,7 @@ pub record Paired (es vs : List ℤ) (is xs : List ℕ) (ys : List ℤ) : Type 0
 pub record Kept (os : List ℕ) (es vs : List ℤ) (fill : ℤ) (is xs : List ℕ) (ys : List ℤ) (n : ℕ) : Type 0 where
   pub long-ends : length xs ≡ length is
   pub long-values : length ys ≡ length is
-  pub ends : (c : ℕ) → c < n → EndAt (map magnitude (drop (getD is c 0) (columnAt os es c))) (getD xs c 0)
+  pub ends : (c : ℕ) → c < n → EndAt (map toNat (drop (getD is c 0) (columnAt os es c))) (getD xs c 0)
   pub values : (c : ℕ) → c < n → getD ys c (pos 0) ≡ getD (columnAt os vs c) (getD is c 0) fill
 
 -- a valid column at its place

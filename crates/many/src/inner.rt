@@ -8,7 +8,7 @@ ghost use mathlib.Core.Path.{_≡_};
 ghost use lib.ListN.{length, getD, take, drop};
 ghost use Rattle.column.specs.Lists.{part, parts};
 ghost use Rattle.column.specs.Questions.{endsValid};
-ghost use Rattle.column.specs.Runs.{magnitude, lengthOfEnds, over};
+ghost use Rattle.column.specs.Runs.{toNat, lengthOfEnds, over};
 ghost use Rattle.plan.specs.Calls.{segments};
 ghost use Rattle.plan.specs.Workers.{spent, EndAt};
 ghost use Rattle.many.specs.Workers.{InColumn, Placed, Paired, Kept, ColumnPlaced, ColumnStepped, Stepped, Walkable, Plannable, PlanManyFilled};
@@ -33,7 +33,7 @@ pub fn length_at(offsets: &[usize], ends: &[i64], c: usize) -> i64
 // The end of the run where a column stands, or `SPENT` where the column is spent. The column's runs are those from `from` up to `to`.
 fn end_at(ends: &[i64], from: usize, to: usize, place: usize) -> usize
     requires { ⌜ InColumn (now ends) from to place × (endsValid (part from to (now ends)) ≡ none) ⌝ }
-    ensures { λ r. ⌜ EndAt (map magnitude (drop place (part from to (given ends)))) r ⌝ }
+    ensures { λ r. ⌜ EndAt (map toNat (drop place (part from to (given ends)))) r ⌝ }
 {
     let at = from + place;
     if at < to {
@@ -175,7 +175,7 @@ fn plan_walk(
     out_idx: &mut [usize],
 ) -> Counts
     requires { ⌜ Walkable (now offsets) (now ends) (now places) × Paired (now ends) (now values) (now places) (now current) (now shown) × (length (now ends) ≤ length (now «out_ends»)) × (length (now ends) * (length (now offsets) - 1) ≤ length (now «out_idx»)) ⌝ }
-    ensures { λ r. ⌜ PlanManyFilled (segments (map (map magnitude) (parts (given offsets) (given ends))))
+    ensures { λ r. ⌜ PlanManyFilled (segments (map (map toNat) (parts (given offsets) (given ends))))
         (given «out_ends») (after «out_ends») (given «out_idx») (after «out_idx») r ⌝ }
 {
     let mut n: usize = 0;
@@ -202,7 +202,7 @@ pub fn plan_many(
     out_idx: &mut [usize],
 ) -> Counts
     requires { ⌜ Plannable (now offsets) (now ends) (now values) (now «out_ends») (now «out_idx») ⌝ }
-    ensures { λ r. ⌜ PlanManyFilled (segments (map (map magnitude) (parts (given offsets) (given ends))))
+    ensures { λ r. ⌜ PlanManyFilled (segments (map (map toNat) (parts (given offsets) (given ends))))
         (given «out_ends») (after «out_ends») (given «out_idx») (after «out_idx») r ⌝ }
 {
     let k = offsets.len() - 1;

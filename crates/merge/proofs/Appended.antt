@@ -14,13 +14,13 @@ use borrow.Author.Tests.{eqb-true, eqb-false, leb-true, leb-false}
 use Rattle.num.proofs.Tests.{by-test}
 use Rattle.column.specs.declared.inner.Writer.{Writer}
 use Rattle.column.specs.Questions.{endsValid}
-use Rattle.column.specs.Runs.{magnitude, runsOf, lengthOf, lengthOfEnds, denseFrom, dense, encode, encodeFrom, Filled}
+use Rattle.column.specs.Runs.{toNat, runsOf, lengthOf, lengthOfEnds, denseFrom, dense, encode, encodeFrom, Filled}
 use Rattle.column.specs.Workers.{Merging, moved, Behind, Appendable, Appended}
 use Rattle.column.proofs.Appending.{rising-at, push-few, push-shown, length-moved}
 use Rattle.column.proofs.Dense.{length-dense}
 use Rattle.column.proofs.Encode.{encode-pos}
 use Rattle.column.proofs.Ends.{rising, runs-rise, length-runs, length-of-ends}
-use Rattle.column.proofs.Naturals.{magnitude-below}
+use Rattle.column.proofs.Naturals.{to-nat-below}
 use Rattle.column.proofs.Sequences.{length-none}
 use Rattle.column.proofs.Merging.{merge-start, merge-end, fill-none}
 
@@ -29,7 +29,7 @@ length-some : (es vs : List ℤ) → endsValid es ≡ none → length es ≡ len
 unfolding lengthOfEnds
 length-some es vs valid paired h =
     let k = rising-at 0 es 0 (rising es valid) (let n : 0 < length es = omega (arith, h) in n) in
-    omega (arith, k .1, k .2, ap magnitude (length-of-ends es vs valid paired))
+    omega (arith, k .1, k .2, ap toNat (length-of-ends es vs valid paired))
 
 filled-none : (es vs e₀ v₀ : List ℤ) → length es ≡ 0 → Filled (encode (dense (runsOf es vs))) e₀ e₀ v₀ v₀ 0
 unfolding dense denseFrom encode encodeFrom runsOf
@@ -50,8 +50,8 @@ module _ (es vs : List ℤ) (valid : endsValid es ≡ none) (paired : length es 
       let f : leZ (pos 0) (pos 0) ≡ false = rw (ex ∙ length-none es h) at t in
       let z : 0 < 0 = leb-false 0 0 f in omega arith
 
-  pub merged-below : mag x < 2 ^ 63 → magnitude (lengthOfEnds es) < 2 ^ 63
-  merged-below f = rw (← ex) (magnitude-below x (record { sfits = f }))
+  pub merged-below : mag x < 2 ^ 63 → toNat (lengthOfEnds es) < 2 ^ 63
+  merged-below f = rw (← ex) (to-nat-below x (record { sfits = f }))
 
 module _ (es vs e₀ v₀ : List ℤ) (valid : endsValid es ≡ none) (paired : length es ≡ length vs) (room-ends : length es ≤ length e₀) (room-values : length es ≤ length v₀)
     {first : ℤ} (ef : first ≡ getD vs 0 (pos 0)) where
@@ -61,7 +61,7 @@ module _ (es vs e₀ v₀ : List ℤ) (valid : endsValid es ≡ none) (paired : 
   behind : Behind [] first e₀ v₀ e₀ v₀ start es vs
   behind = record { merging = merge-start first e₀ v₀; started = λ _ _. ef; room-ends = omega (arith, room-ends); room-values = omega (arith, room-values) }
 
-  pub merged-appendable : magnitude (lengthOfEnds es) < 2 ^ 63 → Appendable 0 0 es vs e₀ v₀ start
+  pub merged-appendable : toNat (lengthOfEnds es) < 2 ^ 63 → Appendable 0 0 es vs e₀ v₀ start
   unfolding lengthOfEnds
   merged-appendable h = record {
     movable = record { rising = rising es valid; fitting = omega arith; paired = paired };

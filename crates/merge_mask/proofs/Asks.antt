@@ -3,20 +3,16 @@
 use Prim.Native.Nat.{ℕ, _-_, _≤_}
 use mathlib.Core.Option.{none}
 use mathlib.Core.List.{List, [], _∷_}
-use mathlib.Core.Path.{_≡_, ap, _∙_}
+use mathlib.Core.Path.{_≡_}
 use lib.IntN.{ℤ}
 use lib.ListN.{length}
 use Rattle.column.specs.Asking.{Question, firstNo}
-use Rattle.column.specs.Questions.{listed, maskListed, agree, paired, endsValid, room, both, sequenceAsked}
+use Rattle.column.specs.Questions.{listed, maskListed, agree, paired, endsValid, room, both, sequenceAsked, maskAgrees}
 use Rattle.column.specs.Runs.{sequence}
 use Rattle.column.proofs.FirstNo.{all-yes, asked-next, asked-last}
 use Rattle.column.proofs.Told.{listed-told, agree-told, both-told, sequence-told}
-use Rattle.merge_mask.specs.Calls.{maskAgrees, mergeMaskAsked, mergeByAsked}
+use Rattle.merge_mask.specs.Calls.{mergeMaskAsked, mergeByAsked}
 use Rattle.merge_mask.specs.Workers.{Mergeable}
-
-pub mask-length : (mask : List ℕ) (es : List ℤ) {q : Question} {n : ℕ} → q ≡ agree 6 (length mask) n → n ≡ length es - 1 → q ≡ maskAgrees mask es
-unfolding maskAgrees
-mask-length mask es h e = h ∙ ap (agree 6 (length mask)) e
 
 module _ (es vs : List ℤ) (e v : ℕ) where
   pub merge-mask-asked : (mask : List ℕ) (keep : ℕ) {r a b : Question} → r ≡ firstNo (a ∷ b ∷ []) → a ≡ listed 0 1 keep

@@ -7,10 +7,10 @@ use lib.IntN.{ℤ, pos}
 use Rattle.num.specs.Numbers.{operation}
 use Rattle.column.specs.Asking.{eachFrom}
 use Rattle.column.specs.Paper.{answers}
-use Rattle.column.specs.Questions.{listed, maskListed, agree, paired, endsFrom, endsValid, roomAt, roomFrom, room, sequenceAsked}
+use Rattle.column.specs.Questions.{listed, maskListed, agree, paired, endsFrom, endsValid, roomAt, roomFrom, room, sequenceAsked, maskAgrees}
 use Rattle.column.specs.Runs.{Sequence, sequence, runsOf, endsOf, valuesOf}
 use Rattle.column.proofs.Rows.{Row, row, Hold, refused, asRuns}
-use Rattle.merge_mask.specs.Calls.{groupsFrom, groups, maskAgrees, maskRuns, mergeMaskAsked, mergeMask, neighbours, mergeByAsked, mergeBy}
+use Rattle.merge_mask.specs.Calls.{groupsFrom, groups, maskRuns, mergeMaskAsked, mergeMask, neighbours, mergeByAsked, mergeBy}
 
 abbrev ends : List ℤ
 ends = pos 3 ∷ pos 5 ∷ pos 9 ∷ []

@@ -14,7 +14,7 @@ use Rattle.column.specs.Workers.{maskOnes}
 use Rattle.column.specs.Runs.{over}
 use Rattle.column.proofs.Buffer.{over-store}
 use Rattle.merge_mask.specs.Calls.{Group, alone, inFront, groupsFrom, groups}
-use Rattle.merge_mask.specs.Workers.{placeAfter}
+use Rattle.column.specs.Workers.{placeAfter}
 
 pub place-up : (joins : Bool) (at : ℕ) → placeAfter joins at ≤ at + 1
 place-up true at = omega arith

@@ -11,12 +11,13 @@ use lib.ListN.{length, getD, take, set, length-set, length-map, List·getD-map}
 use lib.Seq.{take-all}
 use Rattle.num.specs.Numbers.{eqZ, operation}
 use Rattle.num.proofs.Tests.{by-test}
-use Rattle.column.specs.Runs.{Run, Runs, magnitude, runsOf, endsOf, valuesOf, over, Filled}
+use Rattle.column.specs.Runs.{Run, Runs, toNat, runsOf, endsOf, valuesOf, over, Filled}
 use Rattle.column.proofs.Ends.{rising, ends-runs, values-runs, length-runs}
 use Rattle.column.proofs.Sequences.{length-ends, length-values}
 use Rattle.merge_mask.specs.declared.inner.GroupWriter.{GroupWriter}
 use Rattle.merge_mask.specs.Calls.{Group, alone, groups, maskRuns, neighbours}
-use Rattle.merge_mask.specs.Workers.{placeAfter, keptAfter, Writable, WroteRun, Mergeable}
+use Rattle.column.specs.Workers.{placeAfter}
+use Rattle.merge_mask.specs.Workers.{keptAfter, Writable, WroteRun, Mergeable}
 use Rattle.merge_mask.proofs.First.{over-again, over-first}
 use Rattle.merge_mask.proofs.Groups.{joinsAt, place-up, lastGroup, pushGroup, newGroup, new-group, new-last, last-push, groupPlace, place-is, length-push, groups-take, groups-some, push-store}
 
@@ -85,7 +86,7 @@ pub record Merged (keep : ℕ) (mask : List ℕ) (es vs e₀ v₀ e v : List ℤ
 
 -- which neighbours are joined
 neighbours-at : (code : ℕ) (vs : List ℤ) (r : ℕ) → 0 < r → r < length vs
-    → joinsAt (neighbours code vs) (r - 1) ≡ eqb (magnitude (operation code (getD vs (r - 1) (pos 0)) (getD vs r (pos 0)))) 1
+    → joinsAt (neighbours code vs) (r - 1) ≡ eqb (toNat (operation code (getD vs (r - 1) (pos 0)) (getD vs r (pos 0)))) 1
 unfolding neighbours
 neighbours-at code vs zero p h = let z : ⊥ = omega arith in absurd z
 neighbours-at code [] (suc r) p h = let z : ⊥ = omega arith in absurd z
@@ -95,13 +96,13 @@ neighbours-at code (v ∷ w ∷ vs) (suc (suc r)) p h =
     let n : suc (suc r) - 1 ≡ suc (suc r - 1) = omega arith in
     rw n (neighbours-at code (w ∷ vs) (suc r) (omega arith) (omega arith))
 
-one-magnitude : (z : ℤ) → eqZ z (pos 1) ≡ eqb (magnitude z) 1
-one-magnitude (pos n) = refl
-one-magnitude (negsuc n) = refl
+one-to-nat : (z : ℤ) → eqZ z (pos 1) ≡ eqb (toNat z) 1
+one-to-nat (pos n) = refl
+one-to-nat (negsuc n) = refl
 
 pub neighbours-told : (code : ℕ) (vs : List ℤ) (r : ℕ) {x y : ℤ} {b : Bool} → 0 < r → r < length vs → b ≡ eqZ (operation code x y) (pos 1)
     → x ≡ getD vs (r - 1) (pos 0) → y ≡ getD vs r (pos 0) → b ≡ joinsAt (neighbours code vs) (r - 1)
-neighbours-told code vs r {x} {y} p h e ex ey = e ∙ one-magnitude (operation code x y) ∙ rw (ex, ey) (sym (neighbours-at code vs r p h))
+neighbours-told code vs r {x} {y} p h e ex ey = e ∙ one-to-nat (operation code x y) ∙ rw (ex, ey) (sym (neighbours-at code vs r p h))
 
 -- no runs
 pub merging-none : (keep : ℕ) (mask : List ℕ) (es vs e₀ v₀ : List ℤ) → length es ≡ 0 → Filled (maskRuns keep mask (runsOf es vs)) e₀ e₀ v₀ v₀ 0

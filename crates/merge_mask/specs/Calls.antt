@@ -1,5 +1,5 @@
 -- merge.rs: neighbouring runs made one.
-use Prim.Native.Nat.{ℕ, suc, _-_}
+use Prim.Native.Nat.{ℕ, suc}
 use mathlib.Core.Bool.{cond}
 use mathlib.Core.List.{List, [], _∷_, map}
 use lib.IntN.{ℤ}
@@ -8,8 +8,8 @@ use lib.Dec.{eqb}
 use Rattle.num.specs.Numbers.{operation}
 use Rattle.column.specs.Asking.{Question, firstNo, _otherwise_}
 use Rattle.column.specs.Paper.{Outcome}
-use Rattle.column.specs.Questions.{listed, maskListed, agree, paired, endsValid, room, both, sequenceAsked}
-use Rattle.column.specs.Runs.{Sequence, Run, Runs, magnitude, runs}
+use Rattle.column.specs.Questions.{listed, maskListed, paired, endsValid, room, both, sequenceAsked, maskAgrees}
+use Rattle.column.specs.Runs.{Sequence, Run, Runs, toNat, runs}
 
 -- ---- groups of runs
 
@@ -38,10 +38,6 @@ unfoldable pub groups : {A : Type 0} → List A → List ℕ → List (Group A)
 groups [] mask = []
 groups (x ∷ xs) mask = groupsFrom x xs mask
 
--- what 6: mask, runs − 1 ("0 for no runs")
-unfoldable pub maskAgrees : List ℕ → List ℤ → Question
-maskAgrees mask ends = agree 6 (length mask) (length ends - 1)
-
 -- ---- merge_mask, merge_by
 
 -- a run for each group, with its last end; "Keep 0 First, 1 Last"
@@ -67,7 +63,7 @@ mergeMask s mask keep buffers = mergeMaskAsked s mask keep buffers otherwise mas
 unfoldable pub neighbours : ℕ → List ℤ → List ℕ
 neighbours code [] = []
 neighbours code (v ∷ []) = []
-neighbours code (v ∷ w ∷ ws) = magnitude (operation code v w) ∷ neighbours code (w ∷ ws)
+neighbours code (v ∷ w ∷ ws) = toNat (operation code v w) ∷ neighbours code (w ∷ ws)
 
 -- "`merge_by` (codes 7, 8)"
 unfoldable pub mergeByAsked : Sequence → ℕ → List ℕ → Question

@@ -7,11 +7,8 @@ use mathlib.Core.Path.{_≡_}
 use lib.IntN.{ℤ, pos}
 use lib.ListN.{length, getD, set}
 use Rattle.column.specs.Questions.{endsValid}
+use Rattle.column.specs.Workers.{placeAfter}
 use Rattle.merge_mask.specs.declared.inner.GroupWriter.{GroupWriter}
-
--- where a run goes: to the place of the group that it joins, else behind it
-abbrev pub placeAfter : Bool → ℕ → ℕ
-placeAfter joins at = cond joins at (at + 1)
 
 -- whose value its group keeps then, where the last is to be kept or the first
 abbrev pub keptAfter : Bool → Bool → ℕ → ℕ → ℕ

@@ -4,7 +4,8 @@ ghost use mathlib.Core.Path.{_≡_};
 ghost use lib.ListN.{length};
 ghost use Rattle.column.specs.Runs.{runsOf, Fills};
 ghost use Rattle.merge_mask.specs.Calls.{maskRuns, neighbours};
-ghost use Rattle.merge_mask.specs.Workers.{placeAfter, keptAfter, Writable, WroteRun, Mergeable};
+ghost use Rattle.column.specs.Workers.{placeAfter};
+ghost use Rattle.merge_mask.specs.Workers.{keptAfter, Writable, WroteRun, Mergeable};
 ghost use Rattle.column.specs.Lent.{given, after};
 
 // The group that is being written: its place, and the run whose value it keeps.

@@ -10,17 +10,6 @@ ghost use Rattle.column.specs.Runs.{givenSequence};
 ghost use Rattle.merge_mask.specs.Calls as calls;
 ghost use Rattle.column.specs.Lent.{given};
 
-// What 6 of 2.
-pub fn ask_mask_length(mask: &[u8], ends: &[i64]) -> Asked
-    ensures { λ r. ⌜ shownAsked r ≡ calls.maskAgrees (given mask) (given ends) ⌝ }
-{
-    if ends.len() == 0 {
-        questions::ask_lengths(6, mask.len(), 0)
-    } else {
-        questions::ask_lengths(6, mask.len(), ends.len() - 1)
-    }
-}
-
 fn merge_mask_asks(
     ends: &[i64],
     values: &[i64],
@@ -33,7 +22,7 @@ fn merge_mask_asks(
 {
     let room = questions::ask_both(ends.len(), out_ends, out_values);
     let valid = questions::first_no(questions::ask_ends(ends), room);
-    let masked = questions::first_no(ask_mask_length(mask, ends), valid);
+    let masked = questions::first_no(questions::ask_mask_length(mask, ends), valid);
     let paired = questions::first_no(questions::ask_lengths(3, ends.len(), values.len()), masked);
     let listed = questions::first_no(questions::ask_mask(mask), paired);
     questions::first_no(questions::ask_code(0, 1, keep), listed)

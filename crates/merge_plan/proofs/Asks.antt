@@ -10,11 +10,10 @@ use lib.IntN.{ℤ}
 use lib.ListN.{length}
 use Rattle.num.proofs.Tests.{by-test}
 use Rattle.column.specs.Asking.{Question, firstNo}
-use Rattle.column.specs.Questions.{maskListed, startAndRise, lastOffset, offsetsRise, endsValid, roomAt, room}
+use Rattle.column.specs.Questions.{maskListed, startAndRise, lastOffset, offsetsRise, endsValid, roomAt, room, maskAgrees}
 use Rattle.column.proofs.FirstNo.{all-yes, asked-next, asked-last}
 use Rattle.column.proofs.Told.{agree-told, room-told}
 use Rattle.column.proofs.YesNo.{rise-refused, room-each, room-one}
-use Rattle.merge_mask.specs.Calls.{maskAgrees}
 use Rattle.merge_plan.specs.Calls.{mergePlanAsked, groupIdsAsked}
 
 module _ (es : List ℤ) (mask : List ℕ) (e x : ℕ) where

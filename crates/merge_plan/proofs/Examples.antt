@@ -7,9 +7,9 @@ use mathlib.Core.Path.{refl}
 use lib.IntN.{ℤ, pos}
 use Rattle.column.specs.Asking.{eachFrom}
 use Rattle.column.specs.Paper.{Outcome, answers, counts}
-use Rattle.column.specs.Questions.{listed, maskListed, agree, offsetsRise, endsFrom, endsValid, roomAt, roomFrom, room}
+use Rattle.column.specs.Questions.{listed, maskListed, agree, offsetsRise, endsFrom, endsValid, roomAt, roomFrom, room, maskAgrees}
 use Rattle.column.proofs.Rows.{Lines, Row, row, Hold, refused, asEntries}
-use Rattle.merge_mask.specs.Calls.{Group, groupsFrom, groups, maskAgrees}
+use Rattle.merge_mask.specs.Calls.{Group, groupsFrom, groups}
 use Rattle.merge_plan.specs.Calls.{mergePlanAsked, mergePlan, groupEnds, pastEach, groupOffsets, idsFrom, groupIdsAsked, groupIds}
 
 abbrev ends : List ℤ

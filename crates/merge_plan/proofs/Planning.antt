@@ -16,7 +16,7 @@ use Rattle.column.specs.Runs.{over}
 use Rattle.column.proofs.Buffer.{over-store, over-next}
 use Rattle.merge_mask.specs.Calls.{Group, groups}
 use Rattle.merge_plan.specs.Calls.{groupEnds, pastEach, groupOffsets}
-use Rattle.merge_mask.specs.Workers.{placeAfter}
+use Rattle.column.specs.Workers.{placeAfter}
 use Rattle.merge_plan.specs.Workers.{Stored, Planned}
 use Rattle.merge_mask.proofs.First.{over-again, over-first}
 use Rattle.merge_mask.proofs.Groups.{joinsAt, place-up, pushGroup, push-cons, place-next, groupPlace, place-is, place-le, le-place, length-push, new-last, groups-take, groups-count, push-store}

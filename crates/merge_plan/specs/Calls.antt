@@ -6,9 +6,9 @@ use lib.IntN.{ℤ}
 use lib.ListN.{length, replicate}
 use Rattle.column.specs.Asking.{Question, firstNo, _otherwise_}
 use Rattle.column.specs.Paper.{Outcome, shownCounted, counts, written}
-use Rattle.column.specs.Questions.{maskListed, offsetsRise, lastOffset, endsValid, room}
+use Rattle.column.specs.Questions.{maskListed, offsetsRise, lastOffset, endsValid, room, maskAgrees}
 use Rattle.column.specs.declared.answer.Counted.{Counted}
-use Rattle.merge_mask.specs.Calls.{Group, groups, maskAgrees}
+use Rattle.merge_mask.specs.Calls.{Group, groups}
 use Rattle.column.specs.Lent.{Lent, given, after}
 
 -- "n entries; offsets n + 1"; it takes ends alone

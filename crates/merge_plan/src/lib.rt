@@ -18,7 +18,7 @@ fn merge_plan_asks(ends: &[i64], mask: &[u8], out_ends: usize, out_offsets: usiz
         questions::ask_room(1, ends.len() + 1, out_offsets),
     );
     let valid = questions::first_no(questions::ask_ends(ends), room);
-    let masked = questions::first_no(merge_mask::ask_mask_length(mask, ends), valid);
+    let masked = questions::first_no(questions::ask_mask_length(mask, ends), valid);
     questions::first_no(questions::ask_mask(mask), masked)
 }
 

@@ -10,7 +10,7 @@ use lib.ListN.{length, getD, length-map}
 use Rattle.column.specs.declared.answer.Fill.{Fill}
 use Rattle.column.specs.Combine.{Column, two, valueOf, combined, table}
 use Rattle.column.specs.Questions.{endsValid}
-use Rattle.column.specs.Runs.{Run, Runs, magnitude, runsOf, dense}
+use Rattle.column.specs.Runs.{Run, Runs, toNat, runsOf, dense}
 use Rattle.column.proofs.All.{All}
 use Rattle.column.proofs.Ends.{rising, runs-rise, values-runs}
 use Rattle.column.proofs.Rising.{Valid}
@@ -19,11 +19,11 @@ use Rattle.plan.proofs.Raw.{raw-dense}
 use Rattle.plan.proofs.Walking.{firsts}
 use Rattle.plan.proofs.Zipping.{starts, shownAt, combined-few}
 
-pub ends-in : (es vs : List ℤ) → length es ≡ length vs → endsIn (runsOf es vs) ≡ map magnitude es
+pub ends-in : (es vs : List ℤ) → length es ≡ length vs → endsIn (runsOf es vs) ≡ map toNat es
 unfolding runsOf
 ends-in [] vs l = refl
 ends-in (e ∷ es) [] l = let z : ⊥ = omega arith in absurd z
-ends-in (e ∷ es) (v ∷ vs) l = ap {B = List ℕ} (λ r. magnitude e ∷ r) (ends-in es vs (omega arith))
+ends-in (e ∷ es) (v ∷ vs) l = ap {B = List ℕ} (λ r. toNat e ∷ r) (ends-in es vs (omega arith))
 
 -- two columns combined have no more runs than both
 pub two-few : (op : ℤ → ℤ → ℤ) (fa fb : Fill) (a b : Runs) → Valid a → Valid b → length (combined op (two fa fb a b)) ≤ length a + length b

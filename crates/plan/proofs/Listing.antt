@@ -9,7 +9,7 @@ use lib.IntN.{ℤ}
 use lib.ListN.{length, length-append}
 use lib.Seq.{append-snoc}
 use Rattle.column.specs.Lists.{total}
-use Rattle.column.specs.Runs.{magnitude}
+use Rattle.column.specs.Runs.{toNat}
 use Rattle.plan.specs.Calls.{Place, Segment, leastEnd, rests, indexes, firstPlaces, segmentsFrom, segments}
 use Rattle.plan.specs.Workers.{Steps}
 use Rattle.plan.proofs.Segments.{left, left-less, segments-step, segments-end}
@@ -26,11 +26,11 @@ list-start start = record { bound = left start; enough = omega arith; few = omeg
 
 -- each step leaves fewer runs
 pub step-less : {ps ps′ : List Place} {e : ℤ} → Steps ps e ps′ → left ps′ < left ps
-step-less {ps} {e = e} s = rw (s .next) (left-less (magnitude e) ps (s .ends))
+step-less {ps} {e = e} s = rw (s .next) (left-less (toNat e) ps (s .ends))
 
 -- the segment of a step
 abbrev pub segmentAt : List Place → ℤ → Segment
-segmentAt ps e = record { end = magnitude e; indexes = indexes ps }
+segmentAt ps e = record { end = toNat e; indexes = indexes ps }
 
 module _ {start : List Place} {done : List Segment} {ps : List Place} (l : Listing start done ps) where
   pub list-next : {e : ℤ} {ps′ : List Place} → Steps ps e ps′ → Listing start (done ++ segmentAt ps e ∷ []) ps′
@@ -43,7 +43,7 @@ module _ {start : List Place} {done : List Segment} {ps : List Place} (l : Listi
             bound = n;
             enough = omega (arith, step-less s);
             few = simp length-append (omega (arith, l .few, step-less s));
-            all = a ∙ ap (λ (r : List Segment). done ++ r) (segments-step n ps (magnitude e) (s .ends)) ∙ sym (append-snoc done (segmentAt ps e) _)
+            all = a ∙ ap (λ (r : List Segment). done ++ r) (segments-step n ps (toNat e) (s .ends)) ∙ sym (append-snoc done (segmentAt ps e) _)
                 ∙ rw (s .next);
             begun = λ z. absurd (let y : ⊥ = omega (arith, simp length-append at z) in y);
           }

@@ -13,7 +13,7 @@ use lib.ListN.{length, getD, drop, drop-of-length-le}
 use lib.Seq.{drop-cons}
 use borrow.Author.Tests.{ltb-true, ltb-false, eq-eqb, ne-eqb}
 use Rattle.num.proofs.Tests.{by-test}
-use Rattle.column.specs.Runs.{magnitude}
+use Rattle.column.specs.Runs.{toNat}
 use Rattle.plan.specs.declared.inner.Cursor.{Cursor}
 use Rattle.plan.specs.declared.inner.Segments.{Segments}
 use Rattle.plan.specs.Calls.{leastEnd, rests, steppedOn}
@@ -23,11 +23,11 @@ use Rattle.plan.specs.Workers.{placeAt, placesAt, spent, currentEnd, End
 
 module _ (es : List ℤ) (i : ℕ) where
   abbrev pub ahead : List ℕ
-  ahead = map magnitude (drop i es)
+  ahead = map toNat (drop i es)
 
   -- its current end, and the ends behind it
-  pub ahead-some : i < length es → ahead ≡ magnitude (getD es i (pos 0)) ∷ map magnitude (drop (suc i) es)
-  ahead-some h = ap (map magnitude) (drop-cons es i (pos 0) h)
+  pub ahead-some : i < length es → ahead ≡ toNat (getD es i (pos 0)) ∷ map toNat (drop (suc i) es)
+  ahead-some h = ap (map toNat) (drop-cons es i (pos 0) h)
 
   pub ahead-none : length es ≤ i → ahead ≡ []
   ahead-none h = rw (drop-of-length-le es {i = i} h)
@@ -53,7 +53,7 @@ cursor-steps c other behind {b} {e} eb ee =
 module _ {es : List ℤ} {c : Cursor} (s : Stands es c) where
   ahead-run : c .index < length es → ahead es (c .index) ≡ c .end ∷ ahead es (suc (c .index))
   ahead-run h = let a = ahead-some es (c .index) h in
-      let e : c .end ≡ magnitude (getD es (c .index) (pos 0)) = s .ends .current ∙ ap currentEnd a in
+      let e : c .end ≡ toNat (getD es (c .index) (pos 0)) = s .ends .current ∙ ap currentEnd a in
       a ∙ rw e
 
   -- it is spent where its end says so

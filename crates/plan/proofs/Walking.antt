@@ -6,15 +6,15 @@ use mathlib.Core.Path.{_≡_, _∙_}
 use native.Mathlib.Omega.{arith}
 use lib.IntN.{ℤ}
 use lib.ListN.{length, drop, length-map, length-drop}
-use Rattle.column.specs.Runs.{magnitude}
+use Rattle.column.specs.Runs.{toNat}
 use Rattle.plan.specs.declared.inner.Segments.{Segments}
 use Rattle.plan.specs.Calls.{Place, Segment, segments}
 use Rattle.plan.specs.Workers.{placeAt, placesAt, Standing, Starts, Walks}
 use Rattle.plan.proofs.Listing.{Listing, segmentAt, list-start, list-next, list-end, step-less, segments-first}
 use Rattle.plan.proofs.Segments.{left, none-left}
 
-length-ahead : (es : List ℤ) (i : ℕ) → length (map magnitude (drop i es)) ≡ length es - i
-length-ahead es i = length-map (drop i es) magnitude ∙ length-drop i es
+length-ahead : (es : List ℤ) (i : ℕ) → length (map toNat (drop i es)) ≡ length es - i
+length-ahead es i = length-map (drop i es) toNat ∙ length-drop i es
 
 module _ (a b : List ℤ) where
   abbrev pub firsts : List Place
@@ -41,8 +41,8 @@ module _ (a b : List ℤ) where
     pub walk-none : length a + length b ≤ c .a .index + c .b .index → left (placesAt a b c) ≡ 0
     walk-none h = omega (arith, left-at c, w .standing .left .within, w .standing .right .within)
 
-    pub walk-end : length a + length b ≤ c .a .index + c .b .index → segments (map magnitude a ∷ map magnitude b ∷ []) ≡ done
-    walk-end h = segments-first (map magnitude a ∷ map magnitude b ∷ []) ∙ list-end (w .listing) (none-left (placesAt a b c) (walk-none h))
+    pub walk-end : length a + length b ≤ c .a .index + c .b .index → segments (map toNat a ∷ map toNat b ∷ []) ≡ done
+    walk-end h = segments-first (map toNat a ∷ map toNat b ∷ []) ∙ list-end (w .listing) (none-left (placesAt a b c) (walk-none h))
 
     module _ {e : ℤ} {c′ : Segments} (s : Walks a b c e c′) where
       pub walk-next : Walk (done ++ segmentAt (placesAt a b c) e ∷ []) c′

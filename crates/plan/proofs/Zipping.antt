@@ -9,7 +9,7 @@ use lib.IntN.{ℤ}
 use lib.ListN.{length, length-map}
 use Rattle.column.specs.declared.inner.Writer.{Writer}
 use Rattle.column.specs.Combine.{Column, folded, combined}
-use Rattle.column.specs.Runs.{Run, Runs, magnitude, pushMerged, Filled}
+use Rattle.column.specs.Runs.{Run, Runs, toNat, pushMerged, Filled}
 use Rattle.column.specs.Workers.{nextPlace, PushedMerged, pushAll, Merging}
 use Rattle.column.proofs.Appending.{push-few}
 use Rattle.column.proofs.All.{All}
@@ -117,5 +117,5 @@ module _ (op : ℤ → ℤ → ℤ) (cs : List Column) where
     pub zip-more : {z : ℤ} {ps′ : List Place} {e′ v′ : List ℤ} {next : Writer} → Steps ps z ps′ → PushedMerged w z x e e′ v v′ next
         → left start ≤ length e₀ → left start ≤ length v₀ → Merging (mergedRuns (done ++ segmentAt ps z ∷ [])) (shownAt (indexes start)) e₀ v₀ e′ v′ next
     zip-more {z} s d re rv =
-        merge-more m x same-first _ d (s .natural) (merged-next done (segmentAt ps z) ∙ ap (pushMerged (mergedRuns done) (magnitude z)) (sym ex))
+        merge-more m x same-first _ d (s .natural) (merged-next done (segmentAt ps z) ∙ ap (pushMerged (mergedRuns done) (toNat z)) (sym ex))
         (omega (arith, merged-few done, l .few, step-less s)) (omega (arith, merged-few done, l .few, step-less s))

@@ -13,7 +13,7 @@ use Rattle.column.specs.Combine.{Column, valueOf, folded}
 use Rattle.column.specs.Lists.{total}
 use Rattle.column.specs.Paper.{Outcome, shownCounted, counts, written}
 use Rattle.column.specs.Questions.{endsValid, room}
-use Rattle.column.specs.Runs.{Run, Runs, magnitude, valuesOf}
+use Rattle.column.specs.Runs.{Run, Runs, toNat, valuesOf}
 use Rattle.column.specs.Lent.{Lent, given, after}
 
 -- where a column stands: the index of its current run, and the ends from it on
@@ -72,7 +72,7 @@ segments ends = segmentsFrom (total (map length ends)) (firstPlaces ends)
 
 -- the segments of two columns, from their ends as they are handed in
 abbrev pub segmentsOf : List ℤ → List ℤ → List Segment
-segmentsOf a b = segments (map magnitude a ∷ map magnitude b ∷ [])
+segmentsOf a b = segments (map toNat a ∷ map toNat b ∷ [])
 
 -- "`plan` needs na + nb entries per buffer"; it takes ends alone
 unfoldable pub planAsked : List ℤ → List ℤ → List ℕ → Question

@@ -8,14 +8,14 @@ use lib.Dec.{ltb}
 use lib.IntN.{ℤ, pos}
 use lib.ListN.{length, drop}
 use Rattle.column.specs.Questions.{endsValid}
-use Rattle.column.specs.Runs.{magnitude, over}
+use Rattle.column.specs.Runs.{toNat, over}
 use Rattle.plan.specs.declared.inner.Cursor.{Cursor}
 use Rattle.plan.specs.declared.inner.Segments.{Segments}
 use Rattle.plan.specs.Calls.{Place, Segment, leastEnd, rests, stepped, segmentEnds, indexesOf}
 
 -- a column at its run i
 abbrev pub placeAt : List ℤ → ℕ → Place
-placeAt es i = record { index = i; rest = map magnitude (drop i es) }
+placeAt es i = record { index = i; rest = map toNat (drop i es) }
 
 -- two columns at a cursor each
 abbrev pub placesAt : List ℤ → List ℤ → Segments → List Place
@@ -23,9 +23,9 @@ placesAt a b c = placeAt a (c .a .index) ∷ placeAt b (c .b .index) ∷ []
 
 -- the next segment: its end, and where the columns stand behind it
 pub record Steps (ps : List Place) (end : ℤ) (ps′ : List Place) : Type 0 where
-  pub natural : end ≡ pos (magnitude end)
-  pub ends : leastEnd (rests ps) ≡ some (magnitude end)
-  pub next : ps′ ≡ stepped (magnitude end) ps
+  pub natural : end ≡ pos (toNat end)
+  pub ends : leastEnd (rests ps) ≡ some (toNat end)
+  pub next : ps′ ≡ stepped (toNat end) ps
 
 -- ---- a current end
 
@@ -48,7 +48,7 @@ pub record EndAt (rest : List ℕ) (r : ℕ) : Type 0 where
 -- a cursor of a column
 pub record Stands (es : List ℤ) (c : Cursor) : Type 0 where
   pub within : c .index ≤ length es
-  pub ends : EndAt (map magnitude (drop (c .index) es)) (c .end)
+  pub ends : EndAt (map toNat (drop (c .index) es)) (c .end)
 
 pub record Standing (a b : List ℤ) (c : Segments) : Type 0 where
   pub left : Stands a (c .a)

@@ -7,7 +7,7 @@ ghost use mathlib.Core.Path.{_≡_};
 ghost use lib.Dec.{ltb};
 ghost use lib.ListN.{length, drop};
 ghost use Rattle.column.specs.Questions.{endsValid};
-ghost use Rattle.column.specs.Runs.{magnitude};
+ghost use Rattle.column.specs.Runs.{toNat};
 ghost use Rattle.plan.specs.Workers.{spent, EndAt, steppedCursor, Starts, Walkable, Walks, PlanFilled};
 ghost use Rattle.plan.specs.Calls.{segmentsOf};
 ghost use Rattle.column.specs.Lent.{given, after};
@@ -36,7 +36,7 @@ pub struct Segment {
 // Where the run at an index ends.
 fn end_at(ends: &[i64], index: usize) -> usize
     requires { ⌜ endsValid (now ends) ≡ none ⌝ }
-    ensures { λ r. ⌜ EndAt (map magnitude (drop index (given ends))) r ⌝ }
+    ensures { λ r. ⌜ EndAt (map toNat (drop index (given ends))) r ⌝ }
 {
     if index < ends.len() {
         let end = ends[index];

@@ -15,8 +15,8 @@ ghost use lib.Signed.{ltZ};
 ghost use Rattle.column.specs.Asking.{shownAsked, refusal, firstNo, inKey};
 ghost use Rattle.column.specs.Flat.{flatAsked, givenFlat};
 ghost use Rattle.column.specs.Paper.{numberOf, shownBy};
-ghost use Rattle.column.specs.Questions.{listed, maskListed, agree, paired, usedWithin, startAndRise, lastOffset, offsetsRise, offsetsValid, endsFrom, endsValid, sequencesValid, atMost, notNegative, fits, runByRun, intervals, side, isMissing, filled, longEnough, roomAt, room, both, sequenceAsked};
-ghost use Rattle.column.specs.Runs.{magnitude, givenSequence};
+ghost use Rattle.column.specs.Questions.{listed, maskListed, agree, paired, maskAgrees, usedWithin, startAndRise, lastOffset, offsetsRise, offsetsValid, endsFrom, endsValid, sequencesValid, atMost, notNegative, fits, runByRun, intervals, side, isMissing, filled, longEnough, roomAt, room, both, sequenceAsked};
+ghost use Rattle.column.specs.Runs.{toNat, givenSequence};
 ghost use Rattle.questions.specs.Workers.{endsFromQuarters};
 ghost use Rattle.column.specs.Lent.{given};
 
@@ -75,6 +75,17 @@ pub fn ask_lengths(what: u8, left: usize, right: usize) -> Asked
         Asked::Yes
     } else {
         no(Error::LengthMismatch { what, left, right })
+    }
+}
+
+// What 6 of 2.
+pub fn ask_mask_length(mask: &[u8], ends: &[i64]) -> Asked
+    ensures { λ r. ⌜ shownAsked r ≡ maskAgrees (given mask) (given ends) ⌝ }
+{
+    if ends.len() == 0 {
+        ask_lengths(6, mask.len(), 0)
+    } else {
+        ask_lengths(6, mask.len(), ends.len() - 1)
     }
 }
 
@@ -217,7 +228,7 @@ pub fn ask_ends(ends: &[i64]) -> Asked
 pub fn ask_sequence(ends: &[i64], values: &[i64]) -> Asked
     ensures { λ r. ⌜ shownAsked r ≡ firstNo (paired (givenSequence ends values) ∷ endsValid (given ends) ∷ []) ⌝ }
 {
-    first_no(ask_lengths(3, ends.len(), values.len()), ask_ends(ends))
+    ask_lengths(3, ends.len(), values.len()).and(ask_ends(ends))
 }
 
 // The same answer, for the key or sequence at a position.
@@ -258,11 +269,9 @@ pub fn ask_sequences(offsets: &[usize], ends: &[i64]) -> Asked
 pub fn ask_flat(offsets: &[usize], ends: &[i64], values: &[i64]) -> Asked
     ensures { λ r. ⌜ shownAsked r ≡ firstNo (flatAsked (givenFlat offsets ends values)) ⌝ }
 {
-    let valid = first_no(
-        ask_offsets(offsets, ends.len()),
-        ask_sequences(offsets, ends),
-    );
-    first_no(ask_lengths(3, ends.len(), values.len()), valid)
+    ask_lengths(3, ends.len(), values.len())
+        .and(ask_offsets(offsets, ends.len()))
+        .and(ask_sequences(offsets, ends))
 }
 
 // 5
@@ -289,9 +298,9 @@ pub fn ask_run(index: usize, run: i64) -> Asked
 
 // 7, of a length and a run behind it; a negative number counts as 0.
 pub fn ask_sum(length: i64, run: i64) -> Asked
-    ensures { λ r. ⌜ shownAsked r ≡ fits (magnitude length + magnitude run) ⌝ }
+    ensures { λ r. ⌜ shownAsked r ≡ fits (toNat length + toNat run) ⌝ }
 {
-    ask_fits(sequence::magnitude(length) + sequence::magnitude(run))
+    ask_fits(sequence::to_nat(length) + sequence::to_nat(run))
 }
 
 // 7, of a new length.
@@ -409,11 +418,26 @@ pub fn ask_room(which: usize, needed: usize, given: usize) -> Asked
     }
 }
 
+// 12, of buffers for offsets, ends and values.
+pub fn ask_flat_room(
+    offsets: usize,
+    runs: usize,
+    out_offsets: usize,
+    out_ends: usize,
+    out_values: usize,
+) -> Asked
+    ensures { λ r. ⌜ shownAsked r ≡ room (offsets ∷ both runs) («out_offsets» ∷ «out_ends» ∷ «out_values» ∷ []) ⌝ }
+{
+    ask_room(0, offsets, out_offsets)
+        .and(ask_room(1, runs, out_ends))
+        .and(ask_room(2, runs, out_values))
+}
+
 // 12, of a buffer for ends and one for values.
 pub fn ask_both(needed: usize, ends: usize, values: usize) -> Asked
     ensures { λ r. ⌜ shownAsked r ≡ room (both needed) (ends ∷ values ∷ []) ⌝ }
 {
-    first_no(ask_room(0, needed, ends), ask_room(1, needed, values))
+    ask_room(0, needed, ends).and(ask_room(1, needed, values))
 }
 
 // What 3 of 2, 4 and 12, of a call that makes a sequence out of one.
@@ -426,8 +450,5 @@ pub fn ask_sequence_into(
 ) -> Asked
     ensures { λ r. ⌜ shownAsked r ≡ sequenceAsked (givenSequence ends values) needed («out_ends» ∷ «out_values» ∷ []) ⌝ }
 {
-    first_no(
-        ask_sequence(ends, values),
-        ask_both(needed, out_ends, out_values),
-    )
+    ask_sequence(ends, values).and(ask_both(needed, out_ends, out_values))
 }

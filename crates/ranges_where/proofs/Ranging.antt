@@ -18,7 +18,7 @@ use Rattle.column.specs.Paper.{answers, paper}
 use Rattle.column.specs.Questions.{listed, endsValid, sequenceAsked}
 use Rattle.column.specs.declared.answer.Counted.{Counted}
 use Rattle.column.specs.declared.error.Refusal.{Refusal}
-use Rattle.column.specs.Runs.{sequence, Runs, magnitude, endBefore, runsOf, lastEnd, lengthOf, dense, denseFrom, encode, encodeFrom, pushMerged, over}
+use Rattle.column.specs.Runs.{sequence, Runs, toNat, endBefore, runsOf, lastEnd, lengthOf, dense, denseFrom, encode, encodeFrom, pushMerged, over}
 use Rattle.column.specs.Workers.{RisingEnds, lastOf}
 use Rattle.column.proofs.Appending.{rising-at}
 use Rattle.column.proofs.Buffer.{over-store, over-next, over-over, Written, write-next}
@@ -118,35 +118,35 @@ module _ {A : Type 0} (passes : A → Bool) where
 -- ---- the first runs of a sequence
 
 runs-next : (es vs : List ℤ) (r : ℕ) → r < length es → length es ≡ length vs
-    → runsOf (take (suc r) es) (take (suc r) vs) ≡ runsOf (take r es) (take r vs) ++ record { end = magnitude (getD es r (pos 0)); value = getD vs r (pos 0) } ∷ []
+    → runsOf (take (suc r) es) (take (suc r) vs) ≡ runsOf (take r es) (take r vs) ++ record { end = toNat (getD es r (pos 0)); value = getD vs r (pos 0) } ∷ []
 unfolding runsOf
 runs-next [] vs r h l = let z : ⊥ = omega arith in absurd z
 runs-next (e ∷ es) [] r h l = let z : ⊥ = omega arith in absurd z
 runs-next (e ∷ es) (v ∷ vs) zero h l = refl
-runs-next (e ∷ es) (v ∷ vs) (suc r) h l = ap {B = Runs} (λ rs. record { end = magnitude e; value = v } ∷ rs) (runs-next es vs r (omega arith) (omega arith))
+runs-next (e ∷ es) (v ∷ vs) (suc r) h l = ap {B = Runs} (λ rs. record { end = toNat e; value = v } ∷ rs) (runs-next es vs r (omega arith) (omega arith))
 
 rising-take : (p : ℕ) (es : List ℤ) (r : ℕ) → RisingEnds p es → RisingEnds p (take r es)
 rising-take p es zero h = tt
 rising-take p [] (suc r) h = tt
-rising-take p (e ∷ es) (suc r) h = (h .0, h .1, rising-take (magnitude e) es r (h .2))
+rising-take p (e ∷ es) (suc r) h = (h .0, h .1, rising-take (toNat e) es r (h .2))
 
 -- their length is the end before the next
-length-first : (es vs : List ℤ) (r : ℕ) → r ≤ length es → length es ≡ length vs → lengthOf (runsOf (take r es) (take r vs)) ≡ magnitude (endBefore es r)
+length-first : (es vs : List ℤ) (r : ℕ) → r ≤ length es → length es ≡ length vs → lengthOf (runsOf (take r es) (take r vs)) ≡ toNat (endBefore es r)
 unfolding lengthOf runsOf
 length-first es vs zero h l = refl
 length-first es vs (suc r) h l =
-    rw (runs-next es vs r (omega arith) l) (last-end 0 (runsOf (take r es) (take r vs)) (record { end = magnitude (getD es r (pos 0)); value = getD vs r (pos 0) }))
+    rw (runs-next es vs r (omega arith) l) (last-end 0 (runsOf (take r es) (take r vs)) (record { end = toNat (getD es r (pos 0)); value = getD vs r (pos 0) }))
 
-ends-rise : (p : ℕ) (es : List ℤ) (r : ℕ) → RisingEnds p es → suc r < length es → magnitude (getD es r (pos 0)) < magnitude (getD es (suc r) (pos 0))
+ends-rise : (p : ℕ) (es : List ℤ) (r : ℕ) → RisingEnds p es → suc r < length es → toNat (getD es r (pos 0)) < toNat (getD es (suc r) (pos 0))
 ends-rise p [] r h l = let z : ⊥ = omega arith in absurd z
-ends-rise p (e ∷ es) zero h l = rising-at (magnitude e) es 0 (h .2) (omega arith) .1
-ends-rise p (e ∷ es) (suc r) h l = ends-rise (magnitude e) es r (h .2) (omega arith)
+ends-rise p (e ∷ es) zero h l = rising-at (toNat e) es 0 (h .2) (omega arith) .1
+ends-rise p (e ∷ es) (suc r) h l = ends-rise (toNat e) es r (h .2) (omega arith)
 
-end-above : (es : List ℤ) (r : ℕ) → RisingEnds 0 es → r < length es → magnitude (endBefore es r) < magnitude (getD es r (pos 0))
+end-above : (es : List ℤ) (r : ℕ) → RisingEnds 0 es → r < length es → toNat (endBefore es r) < toNat (getD es r (pos 0))
 end-above es zero h l = rising-at 0 es 0 h l .1
 end-above es (suc r) h l = ends-rise 0 es r h l
 
-before-natural : (es : List ℤ) (r : ℕ) → RisingEnds 0 es → r ≤ length es → endBefore es r ≡ pos (magnitude (endBefore es r))
+before-natural : (es : List ℤ) (r : ℕ) → RisingEnds 0 es → r ≤ length es → endBefore es r ≡ pos (toNat (endBefore es r))
 before-natural es zero h l = refl
 before-natural es (suc r) h l = rising-at 0 es r h (omega arith) .0
 
@@ -189,7 +189,7 @@ module _ {P A : Type 0} (f : P → A) where
 -- ---- the loop: f is the operation, and the runs before the r-th are seen
 
 abbrev rangeOf : Open → Range
-rangeOf last = record { start = magnitude (last .start); end = magnitude (last .end) }
+rangeOf last = record { start = toNat (last .start); end = toNat (last .end) }
 
 abbrev startOf : Range → ℤ
 startOf g = pos (g .start)
@@ -206,11 +206,11 @@ module _ (f : ℤ → ℤ) (es vs : List ℤ) where
   marks r = encode (seen r)
 
   module _ (valid : RisingEnds 0 es) (paired : length es ≡ length vs) where
-    seen-length : (r : ℕ) → r ≤ length es → length (seen r) ≡ magnitude (endBefore es r)
+    seen-length : (r : ℕ) → r ≤ length es → length (seen r) ≡ toNat (endBefore es r)
     seen-length r h =
         rw length-map (length-dense (runsOf (take r es) (take r vs)) (runs-rise 0 (take r es) (take r vs) (rising-take 0 es r valid)) ∙ length-first es vs r h paired)
 
-    seen-next : (r : ℕ) → r < length es → seen (suc r) ≡ seen r ++ replicate (magnitude (getD es r (pos 0)) - length (seen r)) (f (getD vs r (pos 0)))
+    seen-next : (r : ℕ) → r < length es → seen (suc r) ≡ seen r ++ replicate (toNat (getD es r (pos 0)) - length (seen r)) (f (getD vs r (pos 0)))
     unfolding denseFrom
     seen-next r h =
         let rs = runsOf (take r es) (take r vs) in
@@ -218,15 +218,15 @@ module _ (f : ℤ → ℤ) (es vs : List ℤ) where
         rw (runs-next es vs r h paired, dense-append, append-nil, map-append, map-replicate, n)
 
     -- one run more
-    marks-next : (r : ℕ) → r < length es → marks (suc r) ≡ pushMerged (marks r) (magnitude (getD es r (pos 0))) (f (getD vs r (pos 0)))
+    marks-next : (r : ℕ) → r < length es → marks (suc r) ≡ pushMerged (marks r) (toNat (getD es r (pos 0))) (f (getD vs r (pos 0)))
     marks-next r h =
         ap encode (seen-next r h)
-        ∙ encode-up (seen r) (magnitude (getD es r (pos 0))) (f (getD vs r (pos 0))) (omega (arith, seen-length r (omega arith), end-above es r valid h))
+        ∙ encode-up (seen r) (toNat (getD es r (pos 0))) (f (getD vs r (pos 0))) (omega (arith, seen-length r (omega arith), end-above es r valid h))
 
-    marks-more : (r : ℕ) → r < length es → marks (r + 1) ≡ pushMerged (marks r) (magnitude (getD es r (pos 0))) (f (getD vs r (pos 0)))
+    marks-more : (r : ℕ) → r < length es → marks (r + 1) ≡ pushMerged (marks r) (toNat (getD es r (pos 0))) (f (getD vs r (pos 0)))
     marks-more r h = rw (add-one r) (marks-next r h)
 
-    marks-length : (r : ℕ) → r ≤ length es → lastEnd 0 (marks r) ≡ magnitude (endBefore es r)
+    marks-length : (r : ℕ) → r ≤ length es → lastEnd 0 (marks r) ≡ toNat (endBefore es r)
     unfolding lengthOf
     marks-length r h = length-encode (seen r) ∙ seen-length r h
 
@@ -238,8 +238,8 @@ module _ (f : ℤ → ℤ) (es vs : List ℤ) where
         let a = none-fewer (λ v. eqZ (f v) (pos 1)) vs r (pos 0) n (omega arith) in
         let k = none-yet r (omega arith) (a .0) in
         rw (marks-next r (omega arith)) (
-          push-other 0 (marks r) (magnitude (getD es r (pos 0))) (f (getD vs r (pos 0))) (a .1) ∙ k .0,
-          rw (last-push (pos 0) (marks r) (magnitude (getD es r (pos 0))) (f (getD vs r (pos 0)))) (a .1),
+          push-other 0 (marks r) (toNat (getD es r (pos 0))) (f (getD vs r (pos 0))) (a .1) ∙ k .0,
+          rw (last-push (pos 0) (marks r) (toNat (getD es r (pos 0))) (f (getD vs r (pos 0)))) (a .1),
         )
 
   -- no value passes: nothing is written
@@ -258,8 +258,8 @@ module _ (f : ℤ → ℤ) (es vs : List ℤ) where
     pub gs : List Range
     pub ranges : rangesFrom 0 (marks r) ≡ gs ++ rangeOf last ∷ []
     pub inside : Marked (marks r) (last .inside)
-    pub natural-start : last .start ≡ pos (magnitude (last .start))
-    pub natural-end : last .end ≡ pos (magnitude (last .end))
+    pub natural-start : last .start ≡ pos (toNat (last .start))
+    pub natural-end : last .end ≡ pos (toNat (last .end))
     pub starts : Written startOf (gs ++ rangeOf last ∷ []) s₁ s (last .at + 1)
     pub ends : Written endOf (gs ++ rangeOf last ∷ []) e₁ e (last .at + 1)
     pub end-before : before ≡ endBefore es r
@@ -272,11 +272,11 @@ module _ (f : ℤ → ℤ) (es vs : List ℤ) where
         let none = none-yet valid paired r (omega arith) (p .before) in
         let v : ℤ = f (getD vs r (pos 0)) in
         let yes : eqZ v (pos 1) ≡ true = p .here (omega arith) in
-        let e : ℕ = magnitude (getD es r (pos 0)) in
+        let e : ℕ = toNat (getD es r (pos 0)) in
         let more = marks-more valid paired r h in
-        let nx : x ≡ pos (magnitude x) = rw ex (before-natural es r valid (omega arith)) in
-        let ny : y ≡ pos (magnitude y) = rw ey (rising-at 0 es r valid h .0) in
-        let g : Range = record { start = magnitude x; end = magnitude y } in
+        let nx : x ≡ pos (toNat x) = rw ex (before-natural es r valid (omega arith)) in
+        let ny : y ≡ pos (toNat y) = rw ey (rising-at 0 es r valid h .0) in
+        let g : Range = record { start = toNat x; end = toNat y } in
         record {
           within = omega arith;
           few = omega arith;
@@ -295,23 +295,23 @@ module _ (f : ℤ → ℤ) (es vs : List ℤ) where
       value = f (getD vs r (pos 0))
 
       abbrev end : ℕ
-      end = magnitude (getD es r (pos 0))
+      end = toNat (getD es r (pos 0))
 
       more : marks (r + 1) ≡ pushMerged (marks r) end value
       more = marks-more valid paired r h
 
       module _ {next : Open} {b : Bool} {x y z : ℤ} (eb : b ≡ eqZ value (pos 1)) (en : next ≡ openAfter last b before z) (ez : z ≡ getD es r (pos 0)) (ex : x ≡ next .start) (ey : y ≡ next .end) where
-        natural : z ≡ pos (magnitude z)
+        natural : z ≡ pos (toNat z)
         natural = rw ez (rising-at 0 es r valid h .0)
 
         marked : Marked (marks (r + 1)) (next .inside)
         marked = rw (more, last-push (pos 0) (marks r) end value) (sym (ap (λ (o : Open). o .inside) en ∙ eb))
 
         -- over the last range
-        range-over : next .at ≡ last .at → next .start ≡ last .start → next .end ≡ pos (magnitude (next .end)) → rangesFrom 0 (marks (r + 1)) ≡ i .gs ++ rangeOf next ∷ []
+        range-over : next .at ≡ last .at → next .start ≡ last .start → next .end ≡ pos (toNat (next .end)) → rangesFrom 0 (marks (r + 1)) ≡ i .gs ++ rangeOf next ∷ []
             → Ranging s₁ e₁ (set s (next .at) x) (set e (next .at) y) next z (r + 1)
         range-over at st ne rs =
-            let ns : next .start ≡ pos (magnitude (next .start)) = rw st (i .natural-start) in
+            let ns : next .start ≡ pos (toNat (next .start)) = rw st (i .natural-start) in
             let g = rangeOf next in
             let few = i .few in
             record {
@@ -353,8 +353,8 @@ module _ (f : ℤ → ℤ) (es vs : List ℤ) where
         range-new : last .inside ≡ false → b ≡ true → next .at ≡ last .at + 1 → next .start ≡ before → Ranging s₁ e₁ (set s (next .at) x) (set e (next .at) y) next z (r + 1)
         range-new ti tb at st =
             let te : next .end ≡ z = rw tb at end-is in
-            let ns : next .start ≡ pos (magnitude (next .start)) = rw (st, i .end-before) (before-natural es r valid (omega arith)) in
-            let ne : next .end ≡ pos (magnitude (next .end)) = rw te natural in
+            let ns : next .start ≡ pos (toNat (next .start)) = rw (st, i .end-before) (before-natural es r valid (omega arith)) in
+            let ne : next .end ≡ pos (toNat (next .end)) = rw te natural in
             let few = i .few in
             record {
               within = omega arith;

@@ -12,7 +12,7 @@ use mir.Val.{SFits}
 use borrow.Author.Tests.{leb-true, leb-false, le-leb, lt-leb}
 use Rattle.num.specs.Numbers.{wrap, largerOf}
 use Rattle.num.proofs.Tests.{by-test}
-use Rattle.column.specs.Runs.{magnitude}
+use Rattle.column.specs.Runs.{toNat}
 use Rattle.slice.proofs.Difference.{difference}
 use Rattle.reduce.specs.Workers.{divisorOf}
 
@@ -43,10 +43,10 @@ divisor-none a (pos b) t = rw (under a b (leb-true a b t))
 divisor-none a (negsuc b) t = absurd (let z : _≡_ {A = ℕ} 0 1 = cc in omega arith)
 
 -- it is a natural number
-pub divisor-natural : (a : ℕ) (d : ℤ) → divisorOf (pos a) d ≡ pos (magnitude (divisorOf (pos a) d))
+pub divisor-natural : (a : ℕ) (d : ℤ) → divisorOf (pos a) d ≡ pos (toNat (divisorOf (pos a) d))
 unfolding divisorOf
 divisor-natural a d = natural-cond (pos a -ℤ d)
   where
-    natural-cond : (z : ℤ) → cond (leZ (pos 1) z && ltZ z (pos (2 ^ 63))) z (pos 0) ≡ pos (magnitude (cond (leZ (pos 1) z && ltZ z (pos (2 ^ 63))) z (pos 0)))
+    natural-cond : (z : ℤ) → cond (leZ (pos 1) z && ltZ z (pos (2 ^ 63))) z (pos 0) ≡ pos (toNat (cond (leZ (pos 1) z && ltZ z (pos (2 ^ 63))) z (pos 0)))
     natural-cond (pos n) = by-test (leb 1 n && ltb n (2 ^ 63)) (λ t. rw t) (λ t. rw t)
     natural-cond (negsuc n) = refl

@@ -21,9 +21,9 @@ use Rattle.float.proofs.Converted.{converted-one}
 use Rattle.float.proofs.Operations.{div-within}
 use Rattle.column.specs.Asking.{Question, refusal}
 use Rattle.column.specs.Questions.{endsFrom}
-use Rattle.column.specs.Runs.{magnitude, runsOf, lengthOf, lastFrom}
+use Rattle.column.specs.Runs.{toNat, runsOf, lengthOf, lastFrom}
 use Rattle.column.proofs.Ends.{from-check, runs-rise}
-use Rattle.column.proofs.Naturals.{magnitude-below}
+use Rattle.column.proofs.Naturals.{to-nat-below}
 use Rattle.column.proofs.Rising.{Rising}
 use Rattle.column.proofs.Told.{both-true}
 use Rattle.slice.specs.declared.search.TouchedRuns.{TouchedRuns}
@@ -46,20 +46,20 @@ not-zero z h e = let q : _≡_ {A = Bool} false true = rw e at h in let x : _≡
 
 -- ---- the variance by a divisor
 
-module _ (t : TouchedRuns) (es vs : List ℤ) (mean : Float) (d : ℤ) (nat : d ≡ pos (magnitude d)) where
+module _ (t : TouchedRuns) (es vs : List ℤ) (mean : Float) (d : ℤ) (nat : d ≡ pos (toNat d)) where
   pub variance-none : leZ d (pos 0) ≡ true → VarianceBy d t es vs mean Nothing
   variance-none h =
-      let z : magnitude d ≡ 0 = omega (arith, leb-true (magnitude d) 0 (ap (λ (z : ℤ). leZ z (pos 0)) (sym nat) ∙ h)) in
+      let z : toNat d ≡ 0 = omega (arith, leb-true (toNat d) 0 (ap (λ (z : ℤ). leZ z (pos 0)) (sym nat) ∙ h)) in
       record { none-by-zero = λ e. refl; answer = λ n. absurd (n (nat ∙ ap pos z)); finite = tt }
 
   pub variance-some : leZ d (pos 0) ≡ false → SFits w64 d → {total x : Float} → SquaresOf mean t es vs total → Within 180 mean → x ≡ div binary64 total (converted d)
       → VarianceBy d t es vs mean (Fraction (record { mean = mean; variance = x }))
   variance-some h f {total} {x} q k ex =
-      let p : 0 < magnitude d = leb-false (magnitude d) 0 (ap (λ (z : ℤ). leZ z (pos 0)) (sym nat) ∙ h) in
+      let p : 0 < toNat d = leb-false (toNat d) 0 (ap (λ (z : ℤ). leZ z (pos 0)) (sym nat) ∙ h) in
       let o = ap converted (sym nat) in
-      let b : Within 480 x = rw ex (div-within binary64 480 total (converted d) (lit≤ tt) (q .kept) (rw nat (converted-one (magnitude-below d f) p))) in
+      let b : Within 480 x = rw ex (div-within binary64 480 total (converted d) (lit≤ tt) (q .kept) (rw nat (converted-one (to-nat-below d f) p))) in
       record {
-        none-by-zero = λ e. absurd (let z : magnitude d ≡ 0 = ap magnitude e in let y : ⊥ = omega arith in y);
+        none-by-zero = λ e. absurd (let z : toNat d ≡ 0 = ap toNat e in let y : ⊥ = omega arith in y);
         answer = λ n. ap (λ (y : Float). Fraction (record { mean = mean; variance = y })) (ex ∙ ap (λ (y : Float). div binary64 y (converted d)) (q .folded));
         finite = (within-finite 180 mean k, within-finite 480 x b);
       }
@@ -68,12 +68,12 @@ module _ (t : TouchedRuns) (es vs : List ℤ) (w : Window t es vs) where
   abbrev Rises : Type 0
   Rises = endsFrom 0 (t .start) (windowEnds t es) ≡ none
 
-  rising-runs : Rises → Rising (magnitude (t .start)) (runsOf (windowEnds t es) (windowValues t vs))
-  rising-runs n = runs-rise (magnitude (t .start)) (windowEnds t es) (windowValues t vs)
-      (from-check (magnitude (t .start)) 0 (windowEnds t es) (ap (λ (z : ℤ). endsFrom 0 z (windowEnds t es)) (sym (w .natural)) ∙ n))
+  rising-runs : Rises → Rising (toNat (t .start)) (runsOf (windowEnds t es) (windowValues t vs))
+  rising-runs n = runs-rise (toNat (t .start)) (windowEnds t es) (windowValues t vs)
+      (from-check (toNat (t .start)) 0 (windowEnds t es) (ap (λ (z : ℤ). endsFrom 0 z (windowEnds t es)) (sym (w .natural)) ∙ n))
 
-  folds : {A : Type 0} (step : A → ℕ → ℤ → A) (a : A) → Rises → foldRuns step a (magnitude (t .start)) (runsOf (windowEnds t es) (windowValues t vs)) ≡ foldRuns step a 0 (windowRuns t es vs)
-  folds step a n = fold-counted step a (magnitude (t .start)) _ (rising-runs n)
+  folds : {A : Type 0} (step : A → ℕ → ℤ → A) (a : A) → Rises → foldRuns step a (toNat (t .start)) (runsOf (windowEnds t es) (windowValues t vs)) ≡ foldRuns step a 0 (windowRuns t es vs)
+  folds step a n = fold-counted step a (toNat (t .start)) _ (rising-runs n)
 
   -- where not all ends rise, they are refused
   refused : {runs : ℕ} → endsFrom 0 (t .start) (windowEnds t es) ≡ endsPass runs (t .count) → runs < t .count → Rises → ⊥
@@ -88,7 +88,7 @@ module _ (t : TouchedRuns) (es vs : List ℤ) (w : Window t es vs) where
   unfolding reduction sumRuns
   sum-reduced ddof {code} {runs} {total} e s = record {
     asked = s .asked;
-    answer = λ n. rw e (ap Whole (s .folded n ∙ wrapped-fold (magnitude (t .start)) (runsOf (windowEnds t es) (windowValues t vs)) ∙ ap wrap (folds addWeight (pos 0) n)));
+    answer = λ n. rw e (ap Whole (s .folded n ∙ wrapped-fold (toNat (t .start)) (runsOf (windowEnds t es) (windowValues t vs)) ∙ ap wrap (folds addWeight (pos 0) n)));
     finite = λ n. tt;
   }
 
@@ -115,22 +115,22 @@ module _ (t : TouchedRuns) (es vs : List ℤ) (w : Window t es vs) where
     all-asked : endsFrom 0 (t .start) (windowEnds t es) ≡ endsPass (t .count) (t .count)
     all-asked = n ∙ sym (rw (le-leb (t .count) (t .count) (omega arith)))
 
-    end-above : (t .end ≡ pos (magnitude (t .end))) × (magnitude (t .start) < magnitude (t .end))
+    end-above : (t .end ≡ pos (toNat (t .end))) × (toNat (t .start) < toNat (t .end))
     end-above =
         let b = body-rises t es vs w some n in
-        let l = lastFrom (pos (magnitude (t .start))) (bodyOf t es) in
-        let a = above (magnitude l) (t .end) (ap (λ (z : ℤ). ltZ z (t .end)) (sym (last-natural (magnitude (t .start)) (bodyOf t es) (b .0))) ∙ b .1) in
-        (a .0, omega (arith, a .1, last-above (magnitude (t .start)) (bodyOf t es) (b .0)))
+        let l = lastFrom (pos (toNat (t .start))) (bodyOf t es) in
+        let a = above (toNat l) (t .end) (ap (λ (z : ℤ). ltZ z (t .end)) (sym (last-natural (toNat (t .start)) (bodyOf t es) (b .0))) ∙ b .1) in
+        (a .0, omega (arith, a .1, last-above (toNat (t .start)) (bodyOf t es) (b .0)))
 
     pub length-is : t .end -ℤ t .start ≡ pos (lengthOf (windowRuns t es vs))
     length-is =
         let a = end-above in
         difference-of (a .0) (w .natural) (omega (arith, a .1)) ∙ ap pos (sym (counted-length t es vs (w .paired) (omega (arith, some)) (w .inside)))
 
-    pub length-natural : t .end -ℤ t .start ≡ pos (magnitude (t .end -ℤ t .start))
-    length-natural = length-is ∙ ap (λ (z : ℤ). pos (magnitude z)) (sym length-is)
+    pub length-natural : t .end -ℤ t .start ≡ pos (toNat (t .end -ℤ t .start))
+    length-natural = length-is ∙ ap (λ (z : ℤ). pos (toNat z)) (sym length-is)
 
-    pub divisor-held : (ddof : ℤ) {d : ℤ} → d ≡ divisorOf (t .end -ℤ t .start) ddof → d ≡ pos (magnitude d)
+    pub divisor-held : (ddof : ℤ) {d : ℤ} → d ≡ divisorOf (t .end -ℤ t .start) ddof → d ≡ pos (toNat d)
     divisor-held ddof e = let q = e ∙ ap (λ (z : ℤ). divisorOf z ddof) length-is in rw q (divisor-natural (lengthOf (windowRuns t es vs)) ddof)
 
     length-some : 0 < lengthOf (windowRuns t es vs)
@@ -144,7 +144,7 @@ module _ (t : TouchedRuns) (es vs : List ℤ) (w : Window t es vs) where
       pub mean-within : Within 180 total → Within 180 x
       mean-within k = rw (ex, length-is) (div-within binary64 180 total _ (lit≤ tt) k (converted-one length-small length-some))
 
-      module _ (et : total ≡ foldRuns addProduct plusZero (magnitude (t .start)) (runsOf (windowEnds t es) (windowValues t vs))) where
+      module _ (et : total ≡ foldRuns addProduct plusZero (toNat (t .start)) (runsOf (windowEnds t es) (windowValues t vs))) where
         mean-is : x ≡ meanOf (windowRuns t es vs)
         unfolding meanOf
         mean-is = ex ∙ ap₂ (div binary64) (et ∙ folds addProduct plusZero n) (ap converted length-is)

@@ -19,7 +19,7 @@ use borrow.Author.Tests.{ltb-true, ltb-false, lt-ltb}
 use Rattle.num.proofs.Tests.{by-test}
 use Rattle.column.specs.Asking.{refusal}
 use Rattle.column.specs.Questions.{endsFrom}
-use Rattle.column.specs.Runs.{magnitude, runsOf, lastFrom}
+use Rattle.column.specs.Runs.{toNat, runsOf, lastFrom}
 use Rattle.column.specs.Workers.{RisingEnds}
 use Rattle.slice.proofs.Difference.{difference-of, difference-fits}
 use Rattle.reduce.specs.Calls.{foldRuns}
@@ -27,16 +27,16 @@ use Rattle.reduce.specs.Workers.{Walked, Stopped, ExactRun, ExactUpTo, E
 
 -- ---- one end more behind ends that rise
 
-pub above : (p : ℕ) (e : ℤ) → ltZ (pos p) e ≡ true → (e ≡ pos (magnitude e)) × (p < magnitude e)
+pub above : (p : ℕ) (e : ℤ) → ltZ (pos p) e ≡ true → (e ≡ pos (toNat e)) × (p < toNat e)
 above p (pos n) h = (refl, ltb-true p n h)
 above p (negsuc n) h = absurd (let z : _≡_ {A = ℕ} 0 1 = cc in omega arith)
 
-pub last-natural : (p : ℕ) (xs : List ℤ) → RisingEnds p xs → lastFrom (pos p) xs ≡ pos (magnitude (lastFrom (pos p) xs))
+pub last-natural : (p : ℕ) (xs : List ℤ) → RisingEnds p xs → lastFrom (pos p) xs ≡ pos (toNat (lastFrom (pos p) xs))
 last-natural p [] r = refl
 last-natural p (pos x ∷ xs) r = last-natural x xs (r .2)
 last-natural p (negsuc x ∷ xs) r = absurd (let z : _≡_ {A = ℕ} 0 1 = cc in omega arith)
 
-pub last-above : (p : ℕ) (xs : List ℤ) → RisingEnds p xs → p ≤ magnitude (lastFrom (pos p) xs)
+pub last-above : (p : ℕ) (xs : List ℤ) → RisingEnds p xs → p ≤ toNat (lastFrom (pos p) xs)
 last-above p [] r = omega arith
 last-above p (pos x ∷ xs) r = omega (arith, last-above x xs (r .2), r .1)
 last-above p (negsuc x ∷ xs) r = absurd (let z : _≡_ {A = ℕ} 0 1 = cc in omega arith)
@@ -57,7 +57,7 @@ rising-front p (pos x ∷ xs) e r = let f = rising-front x xs e (r .2) in ((r .0
 rising-front p (negsuc x ∷ xs) e r = absurd (let z : _≡_ {A = ℕ} 0 1 = cc in omega arith)
 
 pub fold-behind : {A : Type 0} (step : A → ℕ → ℤ → A) (a : A) (p : ℕ) (xs ys : List ℤ) (e v : ℤ) → RisingEnds p xs → length xs ≡ length ys
-    → foldRuns step a p (runsOf (xs ++ e ∷ []) (ys ++ v ∷ [])) ≡ step (foldRuns step a p (runsOf xs ys)) (magnitude e - magnitude (lastFrom (pos p) xs)) v
+    → foldRuns step a p (runsOf (xs ++ e ∷ []) (ys ++ v ∷ [])) ≡ step (foldRuns step a p (runsOf xs ys)) (toNat e - toNat (lastFrom (pos p) xs)) v
 unfolding foldRuns runsOf
 fold-behind step a p [] [] e v r l = refl
 fold-behind step a p [] (y ∷ ys) e v r l = let z : ⊥ = omega arith in absurd z
@@ -67,24 +67,24 @@ fold-behind step a p (negsuc x ∷ xs) (y ∷ ys) e v r l = absurd (let z : _≡
 
 -- ---- a run whose end rises
 
-module _ {end : ℤ} (n : end ≡ pos (magnitude end)) (e : ℤ) (g : ltZ end e ≡ true) where
-  rises : (e ≡ pos (magnitude e)) × (magnitude end < magnitude e)
-  rises = above (magnitude end) e (rw n at g)
+module _ {end : ℤ} (n : end ≡ pos (toNat end)) (e : ℤ) (g : ltZ end e ≡ true) where
+  rises : (e ≡ pos (toNat e)) × (toNat end < toNat e)
+  rises = above (toNat end) e (rw n at g)
 
-  pub run-is : e -ℤ end ≡ pos (magnitude e - magnitude end)
+  pub run-is : e -ℤ end ≡ pos (toNat e - toNat end)
   run-is = difference-of (rises .0) n (omega (arith, rises .1))
 
-  pub run-natural : e -ℤ end ≡ pos (magnitude (e -ℤ end))
-  run-natural = run-is ∙ ap (λ (z : ℤ). pos (magnitude z)) (sym run-is)
+  pub run-natural : e -ℤ end ≡ pos (toNat (e -ℤ end))
+  run-natural = run-is ∙ ap (λ (z : ℤ). pos (toNat z)) (sym run-is)
 
   pub run-fits : mag e < 2 ^ 63 → SFits w64 (e -ℤ end)
   run-fits f = difference-fits (rises .0) n (omega (arith, rises .1)) (rw (rises .0) at f)
 
   -- as the machine holds it
-  pub run-held : mag e < 2 ^ 63 → toZ w64 (ofZ w64 (e -ℤ end)) ≡ pos (magnitude (toZ w64 (ofZ w64 (e -ℤ end))))
+  pub run-held : mag e < 2 ^ 63 → toZ w64 (ofZ w64 (e -ℤ end)) ≡ pos (toNat (toZ w64 (ofZ w64 (e -ℤ end))))
   run-held f = rw (toZ-ofZ (run-fits f)) run-natural
 
-  pub run-small : mag e < 2 ^ 63 → SFits w64 (pos (magnitude (toZ w64 (ofZ w64 (e -ℤ end)))))
+  pub run-small : mag e < 2 ^ 63 → SFits w64 (pos (toNat (toZ w64 (ofZ w64 (e -ℤ end)))))
   run-small f = rw (← run-held f, toZ-ofZ (run-fits f)) (run-fits f)
 
 -- ---- question 4 of them
@@ -108,19 +108,19 @@ module _ {A : Type 0} (step : A → ℕ → ℤ → A) (P : A → Type 0) (first
   walked-start k s = record { inside = omega arith; rising = tt; last = s; folded = refl; kept = k }
 
 module _ {A : Type 0} {step : A → ℕ → ℤ → A} {P : A → Type 0} {first : A} {p : ℕ} {es vs : List ℤ} {i : ℕ} {end : ℤ} {total : A} (w : Walked step P first p es vs i end total) where
-  pub end-natural : end ≡ pos (magnitude end)
+  pub end-natural : end ≡ pos (toNat end)
   end-natural = rw (w .last) (last-natural p (take i es) (w .rising))
 
   -- the next run, whose end rises
   module _ (e : ℤ) (g : ltZ end e ≡ true) where
     pub walked-next : length es ≡ length vs → i < length es → e ≡ getD es i (pos 0) → {v run : ℤ} → v ≡ getD vs i (pos 0) → run ≡ e -ℤ end
-        → {t : A} → t ≡ step total (magnitude run) v → P t → Walked step P first p es vs (i + 1) e t
+        → {t : A} → t ≡ step total (toNat run) v → P t → Walked step P first p es vs (i + 1) e t
     walked-next l h ee {v} {run} ev er {t} et k =
         let ends : take (i + 1) es ≡ take i es ++ e ∷ [] = rw (add-one i, take-suc es i (pos 0), ee) in
         let values : take (i + 1) vs ≡ take i vs ++ v ∷ [] = rw (add-one i, take-suc vs i (pos 0) (omega arith), ev) in
         let g′ : ltZ (lastFrom (pos p) (take i es)) e ≡ true = rw (← w .last) g in
         let long : length (take i es) ≡ length (take i vs) = length-take-le i es (omega arith) ∙ sym (length-take-le i vs (omega arith)) in
-        let m : magnitude run ≡ magnitude e - magnitude (lastFrom (pos p) (take i es)) = ap magnitude (er ∙ run-is end-natural e g) ∙ ap (λ (z : ℤ). magnitude e - magnitude z) (w .last) in
+        let m : toNat run ≡ toNat e - toNat (lastFrom (pos p) (take i es)) = ap toNat (er ∙ run-is end-natural e g) ∙ ap (λ (z : ℤ). toNat e - toNat z) (w .last) in
         record {
           inside = omega arith;
           rising = rw ends (rising-behind p (take i es) e (w .rising) g′);

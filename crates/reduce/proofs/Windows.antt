@@ -17,7 +17,7 @@ use mir.Val.{SFits}
 use borrow.Author.Tests.{leb-false, ltb-true, ltb-false, le-leb, lt-leb, eq-eqb, ne-eqb}
 use Rattle.num.proofs.Tests.{by-test}
 use Rattle.column.specs.Questions.{endsFrom, endsValid}
-use Rattle.column.specs.Runs.{Runs, magnitude, runsOf, lastEnd, lengthOf, lastFrom, lengthOfEnds}
+use Rattle.column.specs.Runs.{Runs, toNat, runsOf, lastEnd, lengthOf, lastFrom, lengthOfEnds}
 use Rattle.column.specs.Workers.{RisingEnds}
 use Rattle.column.proofs.Ends.{rising, rising-yes, length-of-ends}
 use Rattle.column.proofs.Rising.{Rising}
@@ -34,8 +34,8 @@ use Rattle.reduce.specs.Workers.{Window, wholeOf, windowEnds, windowValu
 pub window-of : (start end : ℤ) (es vs : List ℤ) → endsValid es ≡ none → length es ≡ length vs → mag (touchedBy start end es .end) < 2 ^ 63 → Window (touchedBy start end es) es vs
 unfolding touchedBy
 window-of start end es vs v l f =
-    let x = magnitude start in
-    let y = min (magnitude end) (magnitude (lengthOfEnds es)) in
+    let x = toNat start in
+    let y = min (toNat end) (toNat (lengthOfEnds es)) in
     by-test (ltb x y)
     (λ t. let h = ltb-true x y t in
     rw t (record {
@@ -69,8 +69,8 @@ all-but-last n = omega arith
 pub window-rises : (start end : ℤ) (es : List ℤ) → endsValid es ≡ none → endsFrom 0 (touchedBy start end es .start) (windowEnds (touchedBy start end es) es) ≡ none
 unfolding touchedBy windowEnds endsFrom
 window-rises start end es v =
-    let x = magnitude start in
-    let y = min (magnitude end) (magnitude (lengthOfEnds es)) in
+    let x = toNat start in
+    let y = min (toNat end) (toNat (lengthOfEnds es)) in
     let ds = drop (firstEndAbove (pos x) es) es in
     let n = firstEndAtLeast (pos y) ds in
     by-test (ltb x y)
@@ -109,9 +109,9 @@ cut-within x y p (negsuc e ∷ es) (v ∷ vs) r l = absurd (let z : _≡_ {A = �
 pub window-slice : (start end : ℤ) (es vs : List ℤ) → endsValid es ≡ none → length es ≡ length vs → windowRuns (touchedBy start end es) es vs ≡ sliceRuns start end (runsOf es vs)
 unfolding touchedBy windowEnds windowValues sliceRuns runsOf countedFrom
 window-slice start end es vs v l =
-    let n : magnitude (lengthOfEnds es) ≡ lengthOf (runsOf es vs) = ap magnitude (length-of-ends es vs v l) in
-    let x = magnitude start in
-    let y = min (magnitude end) (lengthOf (runsOf es vs)) in
+    let n : toNat (lengthOfEnds es) ≡ lengthOf (runsOf es vs) = ap toNat (length-of-ends es vs v l) in
+    let x = toNat start in
+    let y = min (toNat end) (lengthOf (runsOf es vs)) in
     let c = firstEndAtLeast (pos y) (drop (firstEndAbove (pos x) es) es) in
     by-test (ltb x y)
     (λ t. rw (n, t, some-runs c, all-but-last c) (cut-within x y 0 es vs (rising es v) l))
@@ -168,22 +168,22 @@ fold-counted step a p rs v =
 
 -- ---- the length of a window
 
-last-counted : (x q : ℕ) (es : List ℤ) (e : ℤ) (vs : List ℤ) → length vs ≡ length es + 1 → lastEnd q (countedFrom x (runsOf (es ++ e ∷ []) vs)) ≡ magnitude e - x
+last-counted : (x q : ℕ) (es : List ℤ) (e : ℤ) (vs : List ℤ) → length vs ≡ length es + 1 → lastEnd q (countedFrom x (runsOf (es ++ e ∷ []) vs)) ≡ toNat e - x
 unfolding runsOf countedFrom
 last-counted x q es e [] l = let z : ⊥ = omega arith in absurd z
 last-counted x q [] e (v ∷ []) l = refl
 last-counted x q [] e (v ∷ w ∷ vs) l = let z : ⊥ = omega arith in absurd z
-last-counted x q (d ∷ es) e (v ∷ vs) l = last-counted x (magnitude d - x) es e vs (omega arith)
+last-counted x q (d ∷ es) e (v ∷ vs) l = last-counted x (toNat d - x) es e vs (omega arith)
 
 module _ (t : TouchedRuns) (es vs : List ℤ) where
   pub counted-none : t .count ≡ 0 → windowRuns t es vs ≡ []
   unfolding windowEnds runsOf countedFrom
   counted-none e = rw (eq-eqb (t .count) 0 e)
 
-  pub counted-length : length es ≡ length vs → 0 < t .count → t .first + t .count ≤ length es → lengthOf (windowRuns t es vs) ≡ magnitude (t .end) - magnitude (t .start)
+  pub counted-length : length es ≡ length vs → 0 < t .count → t .first + t .count ≤ length es → lengthOf (windowRuns t es vs) ≡ toNat (t .end) - toNat (t .start)
   unfolding windowEnds windowValues lengthOf
   counted-length l h i =
       let z : eqb (t .count) 0 ≡ false = ne-eqb (t .count) 0 (λ e. omega arith) in
       let m : length (take (t .count - 1) (drop (t .first) es)) ≡ t .count - 1 = length-take-le (t .count - 1) (drop (t .first) es) (rw length-drop (omega arith)) in
       let k : length (take (t .count) (drop (t .first) vs)) ≡ t .count = length-take-le (t .count) (drop (t .first) vs) (rw length-drop (omega arith)) in
-      rw z (last-counted (magnitude (t .start)) 0 (take (t .count - 1) (drop (t .first) es)) (t .end) (take (t .count) (drop (t .first) vs)) (omega arith))
+      rw z (last-counted (toNat (t .start)) 0 (take (t .count - 1) (drop (t .first) es)) (t .end) (take (t .count) (drop (t .first) vs)) (omega arith))

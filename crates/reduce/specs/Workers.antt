@@ -15,7 +15,7 @@ use Rattle.num.specs.Numbers.{wrap}
 use Rattle.float.specs.Float.{converted, Within}
 use Rattle.column.specs.Asking.{Question, refusal, _unless_}
 use Rattle.column.specs.Questions.{endsFrom}
-use Rattle.column.specs.Runs.{Run, Runs, magnitude, runsOf, lastFrom, lengthOfEnds, over}
+use Rattle.column.specs.Runs.{Run, Runs, toNat, runsOf, lastFrom, lengthOfEnds, over}
 use Rattle.column.specs.Workers.{RisingEnds}
 use Rattle.slice.specs.declared.search.TouchedRuns.{TouchedRuns}
 use Rattle.reduce.specs.declared.inner.WindowReduction.{WindowReduction}
@@ -114,13 +114,13 @@ wholeOf es = record { first = 0; count = length es; start = pos 0; end = lengthO
 pub record Window (t : TouchedRuns) (es vs : List ℤ) : Type 0 where
   pub paired : length es ≡ length vs
   pub inside : t .first + t .count ≤ length es
-  pub natural : t .start ≡ pos (magnitude (t .start))
+  pub natural : t .start ≡ pos (toNat (t .start))
   pub fitting : SFits w64 (t .end -ℤ t .start)
 
 -- what the steps over the runs of a window come to, where their ends rise
 pub record Totalled {A : Type 0} (step : A → ℕ → ℤ → A) (P : A → Type 0) (first : A) (t : TouchedRuns) (es vs : List ℤ) (runs : ℕ) (total : A) : Type 0 where
   pub asked : endsFrom 0 (t .start) (windowEnds t es) ≡ endsPass runs (t .count)
-  pub folded : endsFrom 0 (t .start) (windowEnds t es) ≡ none → total ≡ foldRuns step first (magnitude (t .start)) (runsOf (windowEnds t es) (windowValues t vs))
+  pub folded : endsFrom 0 (t .start) (windowEnds t es) ≡ none → total ≡ foldRuns step first (toNat (t .start)) (runsOf (windowEnds t es) (windowValues t vs))
   pub kept : P total
 
 abbrev pub SumOf : TouchedRuns → List ℤ → List ℤ → ℕ → ℤ → Type 0
@@ -129,7 +129,7 @@ SumOf = Totalled addWrapped Any (pos 0)
 pub record ProductsOf (t : TouchedRuns) (es vs : List ℤ) (runs : ℕ) (total : Float) (exact : ℕ) : Type 0 where
   pub totalled : Totalled addProduct (Within 180) plusZero t es vs runs total
   pub inside : exact ≤ t .count - 1
-  pub exactly : ExactUpTo exact (magnitude (t .start)) (bodyOf t es) (bodyOf t vs)
+  pub exactly : ExactUpTo exact (toNat (t .start)) (bodyOf t es) (bodyOf t vs)
 
 -- a window of one run or more whose ends rise, and what is known of a mean to take squares around
 pub record Squarable (t : TouchedRuns) (es vs : List ℤ) (mean : Float) (exact : ℕ) : Type 0 where
@@ -138,10 +138,10 @@ pub record Squarable (t : TouchedRuns) (es vs : List ℤ) (mean : Float) (exact 
   pub rising : endsFrom 0 (t .start) (windowEnds t es) ≡ none
   pub bounded : Within 180 mean
   pub inside : exact ≤ t .count - 1
-  pub exactly : ExactUpTo exact (magnitude (t .start)) (bodyOf t es) (bodyOf t vs)
+  pub exactly : ExactUpTo exact (toNat (t .start)) (bodyOf t es) (bodyOf t vs)
 
 pub record SquaresOf (mean : Float) (t : TouchedRuns) (es vs : List ℤ) (total : Float) : Type 0 where
-  pub folded : total ≡ foldRuns (addSquare mean) plusZero (magnitude (t .start)) (runsOf (windowEnds t es) (windowValues t vs))
+  pub folded : total ≡ foldRuns (addSquare mean) plusZero (toNat (t .start)) (runsOf (windowEnds t es) (windowValues t vs))
   pub kept : Within 480 total
 
 -- what a variance is divided by, or 0 where there is none
@@ -153,7 +153,7 @@ pub record VarianceBy (divisor : ℤ) (t : TouchedRuns) (es vs : List ℤ) (mean
   pub none-by-zero : divisor ≡ pos 0 → r ≡ Nothing
   pub answer : (divisor ≡ pos 0 → ⊥) → r ≡ Fraction (record {
     mean = mean;
-    variance = div binary64 (foldRuns (addSquare mean) plusZero (magnitude (t .start)) (runsOf (windowEnds t es) (windowValues t vs))) (converted divisor);
+    variance = div binary64 (foldRuns (addSquare mean) plusZero (toNat (t .start)) (runsOf (windowEnds t es) (windowValues t vs))) (converted divisor);
   })
   pub finite : FiniteReduction r
 
@@ -162,7 +162,7 @@ unfoldable pub countedFrom : ℕ → Runs → Runs
 countedFrom x rs = map (λ (r : Run). record { end = r .end - x; value = r .value }) rs
 
 abbrev pub windowRuns : TouchedRuns → List ℤ → List ℤ → Runs
-windowRuns t es vs = countedFrom (magnitude (t .start)) (runsOf (windowEnds t es) (windowValues t vs))
+windowRuns t es vs = countedFrom (toNat (t .start)) (runsOf (windowEnds t es) (windowValues t vs))
 
 -- a window is reduced, where its ends rise
 pub record ReducesWindow (code : ℕ) (ddof : ℤ) (t : TouchedRuns) (es vs : List ℤ) (r : WindowReduction) : Type 0 where

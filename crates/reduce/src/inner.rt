@@ -11,7 +11,7 @@ ghost use lib.IntN.{pos, natAbs};
 ghost use lib.ListN.{length};
 ghost use lib.Signed.{ltZ};
 ghost use Rattle.column.specs.Questions.{endsValid};
-ghost use Rattle.column.specs.Runs.{magnitude, runsOf};
+ghost use Rattle.column.specs.Runs.{toNat, runsOf};
 ghost use Rattle.slice.specs.Calls.{sliceRuns};
 ghost use Rattle.reduce.specs.Calls.{addProduct, addSquare, reduction, FiniteReduction, kindOf, bitsOf};
 ghost use Rattle.reduce.specs.Workers.{addWrapped, WalkedSum, StoppedSum, SumOf, ProductsOf, ExactProducts, AllProducts, AroundMean, WalkedSquares, Squarable, SquaresOf, ExactRun, Window, divisorOf, VarianceBy, ReducesWindow};
@@ -46,8 +46,8 @@ pub struct WindowReduction {
 
 // Run × value onto a sum, modulo 2^64.
 fn add_weight(total: i64, run: i64, value: i64) -> i64
-    requires { ⌜ run ≡ pos (magnitude run) ⌝ }
-    ensures { λ r. ⌜ r ≡ addWrapped total (magnitude run) value ⌝ }
+    requires { ⌜ run ≡ pos (toNat run) ⌝ }
+    ensures { λ r. ⌜ r ≡ addWrapped total (toNat run) value ⌝ }
 {
     num::wrapping_add(total, num::wrapping_mul(run, value))
 }
@@ -61,8 +61,8 @@ fn both_rise(before: i64, first: i64, second: i64) -> bool
 
 // Two runs at each turn, as long as both ends rise.
 fn sum_pairs(ends: &[i64], values: &[i64], start: i64) -> WholeSum
-    requires { ⌜ (length (now ends) ≡ length (now values)) × (start ≡ pos (magnitude start)) ⌝ }
-    ensures { λ r. ⌜ WalkedSum (magnitude start) (given ends) (given values) (r .runs) (r .end) (r .total) ⌝ }
+    requires { ⌜ (length (now ends) ≡ length (now values)) × (start ≡ pos (toNat start)) ⌝ }
+    ensures { λ r. ⌜ WalkedSum (toNat start) (given ends) (given values) (r .runs) (r .end) (r .total) ⌝ }
 {
     let mut total: i64 = 0;
     let mut before = start;
@@ -91,8 +91,8 @@ fn sum_pairs(ends: &[i64], values: &[i64], start: i64) -> WholeSum
 
 // The sum of the runs, up to the first whose end does not rise.
 fn sum_runs(ends: &[i64], values: &[i64], start: i64) -> WholeSum
-    requires { ⌜ (length (now ends) ≡ length (now values)) × (start ≡ pos (magnitude start)) ⌝ }
-    ensures { λ r. ⌜ StoppedSum (magnitude start) (given ends) (given values) (r .runs) (r .end) (r .total) ⌝ }
+    requires { ⌜ (length (now ends) ≡ length (now values)) × (start ≡ pos (toNat start)) ⌝ }
+    ensures { λ r. ⌜ StoppedSum (toNat start) (given ends) (given values) (r .runs) (r .end) (r .total) ⌝ }
 {
     let pairs = sum_pairs(ends, values, start);
     let mut total = pairs.total;
@@ -152,7 +152,7 @@ pub fn sum_window(ends: &[i64], values: &[i64], window: TouchedRuns) -> WholeSum
 
 // Does the end rise, and are the run and its value converted with nothing rounded?
 fn is_exact(before: i64, end: i64, value: i64) -> bool
-    requires { ⌜ before ≡ pos (magnitude before) ⌝ }
+    requires { ⌜ before ≡ pos (toNat before) ⌝ }
     ensures { λ r. ⌜ (r ≡ true → ExactRun before end value) ⌝ }
 {
     if end <= before {
@@ -163,24 +163,24 @@ fn is_exact(before: i64, end: i64, value: i64) -> bool
 
 // Run × value onto a sum: both converted, the product and the sum rounded.
 fn add_product(total: f64, run: i64, value: i64) -> f64
-    requires { ⌜ run ≡ pos (magnitude run) ⌝ }
-    ensures { λ r. ⌜ r ≡ addProduct total (magnitude run) value ⌝ }
+    requires { ⌜ run ≡ pos (toNat run) ⌝ }
+    ensures { λ r. ⌜ r ≡ addProduct total (toNat run) value ⌝ }
 {
     total + float::to_f64(run) * float::to_f64(value)
 }
 
 // The same where nothing is rounded in converting.
 fn add_exact_product(total: f64, run: i64, value: i64) -> f64
-    requires { ⌜ (run ≡ pos (magnitude run)) × (natAbs run ≤ 2 ^ 53) × (natAbs value ≤ 2 ^ 53) ⌝ }
-    ensures { λ r. ⌜ r ≡ addProduct total (magnitude run) value ⌝ }
+    requires { ⌜ (run ≡ pos (toNat run)) × (natAbs run ≤ 2 ^ 53) × (natAbs value ≤ 2 ^ 53) ⌝ }
+    ensures { λ r. ⌜ r ≡ addProduct total (toNat run) value ⌝ }
 {
     total + float::inner::exact(run) * float::inner::exact(value)
 }
 
 // The products as long as nothing is rounded in converting; most columns are at their end then.
 fn exact_products(ends: &[i64], values: &[i64], start: i64) -> FloatSum
-    requires { ⌜ (length (now ends) ≡ length (now values)) × (start ≡ pos (magnitude start)) ⌝ }
-    ensures { λ r. ⌜ ExactProducts (magnitude start) (given ends) (given values) (r .runs) (r .end) (r .total) ⌝ }
+    requires { ⌜ (length (now ends) ≡ length (now values)) × (start ≡ pos (toNat start)) ⌝ }
+    ensures { λ r. ⌜ ExactProducts (toNat start) (given ends) (given values) (r .runs) (r .end) (r .total) ⌝ }
 {
     let mut total = 0.0;
     let mut before = start;
@@ -208,8 +208,8 @@ fn exact_products(ends: &[i64], values: &[i64], start: i64) -> FloatSum
 
 // The products of the runs, up to the first whose end does not rise.
 fn products(ends: &[i64], values: &[i64], start: i64) -> ProductSum
-    requires { ⌜ (length (now ends) ≡ length (now values)) × (start ≡ pos (magnitude start)) ⌝ }
-    ensures { λ r. ⌜ AllProducts (magnitude start) (given ends) (given values) (r .runs) (r .end) (r .total) (r .exact) ⌝ }
+    requires { ⌜ (length (now ends) ≡ length (now values)) × (start ≡ pos (toNat start)) ⌝ }
+    ensures { λ r. ⌜ AllProducts (toNat start) (given ends) (given values) (r .runs) (r .end) (r .total) (r .exact) ⌝ }
 {
     let exact = exact_products(ends, values, start);
     let mut total = exact.total;
@@ -273,8 +273,8 @@ fn product_window(ends: &[i64], values: &[i64], window: TouchedRuns) -> ProductS
 
 // The square of the distance from the mean, times the run, onto a sum.
 fn add_square(mean: f64, total: f64, run: i64, value: i64) -> f64
-    requires { ⌜ run ≡ pos (magnitude run) ⌝ }
-    ensures { λ r. ⌜ r ≡ addSquare mean total (magnitude run) value ⌝ }
+    requires { ⌜ run ≡ pos (toNat run) ⌝ }
+    ensures { λ r. ⌜ r ≡ addSquare mean total (toNat run) value ⌝ }
 {
     let d = float::to_f64(value) - mean;
     total + d * d * float::to_f64(run)
@@ -282,8 +282,8 @@ fn add_square(mean: f64, total: f64, run: i64, value: i64) -> f64
 
 // The same where nothing is rounded in converting.
 fn add_exact_square(mean: f64, total: f64, run: i64, value: i64) -> f64
-    requires { ⌜ (run ≡ pos (magnitude run)) × (natAbs run ≤ 2 ^ 53) × (natAbs value ≤ 2 ^ 53) ⌝ }
-    ensures { λ r. ⌜ r ≡ addSquare mean total (magnitude run) value ⌝ }
+    requires { ⌜ (run ≡ pos (toNat run)) × (natAbs run ≤ 2 ^ 53) × (natAbs value ≤ 2 ^ 53) ⌝ }
+    ensures { λ r. ⌜ r ≡ addSquare mean total (toNat run) value ⌝ }
 {
     let d = float::inner::exact(value) - mean;
     total + d * d * float::inner::exact(run)
@@ -291,8 +291,8 @@ fn add_exact_square(mean: f64, total: f64, run: i64, value: i64) -> f64
 
 // The squares of the first runs, which are known to be converted with nothing rounded.
 fn exact_squares(ends: &[i64], values: &[i64], start: i64, mean: f64, exact: usize) -> FloatSum
-    requires { ⌜ (start ≡ pos (magnitude start)) × AroundMean (magnitude start) (now ends) (now values) mean exact ⌝ }
-    ensures { λ r. ⌜ WalkedSquares mean (magnitude start) (given ends) (given values) (r .runs) (r .end) (r .total) ⌝ }
+    requires { ⌜ (start ≡ pos (toNat start)) × AroundMean (toNat start) (now ends) (now values) mean exact ⌝ }
+    ensures { λ r. ⌜ WalkedSquares mean (toNat start) (given ends) (given values) (r .runs) (r .end) (r .total) ⌝ }
 {
     let mut total = 0.0;
     let mut before = start;
@@ -312,8 +312,8 @@ fn exact_squares(ends: &[i64], values: &[i64], start: i64, mean: f64, exact: usi
 
 // The squares of the runs.
 fn squares(ends: &[i64], values: &[i64], start: i64, mean: f64, exact: usize) -> FloatSum
-    requires { ⌜ (start ≡ pos (magnitude start)) × AroundMean (magnitude start) (now ends) (now values) mean exact ⌝ }
-    ensures { λ r. ⌜ WalkedSquares mean (magnitude start) (given ends) (given values) (length (given ends)) (r .end) (r .total) ⌝ }
+    requires { ⌜ (start ≡ pos (toNat start)) × AroundMean (toNat start) (now ends) (now values) mean exact ⌝ }
+    ensures { λ r. ⌜ WalkedSquares mean (toNat start) (given ends) (given values) (length (given ends)) (r .end) (r .total) ⌝ }
 {
     let first = exact_squares(ends, values, start, mean, exact);
     let mut total = first.total;
@@ -349,7 +349,7 @@ fn square_window(ends: &[i64], values: &[i64], window: TouchedRuns, mean: f64, e
 
 // What the squares are divided by: length − ddof where that is 1 to 2^63 − 1, else 0. Past that it wraps to a negative number.
 fn divisor(length: i64, ddof: i64) -> i64
-    requires { ⌜ length ≡ pos (magnitude length) ⌝ }
+    requires { ⌜ length ≡ pos (toNat length) ⌝ }
     ensures { λ r. ⌜ r ≡ divisorOf length ddof ⌝ }
 {
     if length <= ddof {
@@ -367,7 +367,7 @@ fn variance(
     exact: usize,
     divisor: i64,
 ) -> Reduction
-    requires { ⌜ Squarable window (now ends) (now values) mean exact × (divisor ≡ pos (magnitude divisor)) ⌝ }
+    requires { ⌜ Squarable window (now ends) (now values) mean exact × (divisor ≡ pos (toNat divisor)) ⌝ }
     ensures { λ r. ⌜ VarianceBy divisor window (given ends) (given values) mean r ⌝ }
 {
     if divisor <= 0 {

@@ -10,7 +10,7 @@ use lib.ListN.{length, take}
 use Rattle.column.specs.Asking.{Question, firstNo}
 use Rattle.column.specs.Lists.{part}
 use Rattle.column.specs.Questions.{usedWithin, endsValid, notNegative, fits, longEnough}
-use Rattle.column.specs.Runs.{sequence, magnitude, lengthOfEnds}
+use Rattle.column.specs.Runs.{sequence, toNat, lengthOfEnds}
 use Rattle.column.proofs.Ends.{length-of-ends}
 use Rattle.column.proofs.FirstNo.{asked-next, asked-last}
 use Rattle.column.proofs.Told.{used-told}
@@ -38,16 +38,16 @@ module _ (e v : List ℤ) (n : ℕ) (few : length e < 2 ^ 63) where
         → r ≡ firstNo (a ∷ b ∷ []) → a ≡ usedWithin n (length e) (length v)
         → b ≡ firstNo (c ∷ d ∷ []) → c ≡ endsValid es
         → d ≡ firstNo (f ∷ g ∷ []) → f ≡ notNegative n run
-        → g ≡ firstNo (h ∷ k ∷ []) → h ≡ fits (magnitude x + magnitude run)
+        → g ≡ firstNo (h ∷ k ∷ []) → h ≡ fits (toNat x + toNat run)
         → (n < 2 ^ 64 - 1 → k ≡ roomForOne n (sequence e v))
         → r ≡ pushRunAsked (sequence e v) n run
     unfolding pushRunAsked
     push-run-asked run {x = x} ex hr ha hb hc hd hf hg hh hk =
-        let sum = fits (presentLength n (sequence e v) + magnitude run) in
+        let sum = fits (presentLength n (sequence e v) + toNat run) in
         asked-next (usedWithin n (length e) (length v)) (endsValid (take n e) ∷ notNegative n run ∷ sum ∷ roomForOne n (sequence e v) ∷ []) hr ha
         (λ u. asked-next (endsValid (take n e)) (notNegative n run ∷ sum ∷ roomForOne n (sequence e v) ∷ []) hb (hc ∙ ap endsValid used-entries)
         (λ w. asked-next (notNegative n run) (sum ∷ roomForOne n (sequence e v) ∷ []) hd hf
-        (λ z. asked-last sum hg (hh ∙ ap (λ (y : ℤ). fits (magnitude y + magnitude run)) (present-is ex u w)) (λ y. room-is ex u w hk))))
+        (λ z. asked-last sum hg (hh ∙ ap (λ (y : ℤ). fits (toNat y + toNat run)) (present-is ex u w)) (λ y. room-is ex u w hk))))
 
     pub extend-to-asked : (requested : ℤ) {r a b c d f g : Question} {x : ℤ} → x ≡ lengthOfEnds es
         → r ≡ firstNo (a ∷ b ∷ []) → a ≡ usedWithin n (length e) (length v)

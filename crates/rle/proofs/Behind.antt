@@ -16,7 +16,7 @@ use mir.Val.{SFits}
 use Rattle.column.specs.declared.inner.Writer.{Writer}
 use Rattle.column.specs.Lists.{part}
 use Rattle.column.specs.Questions.{endsValid}
-use Rattle.column.specs.Runs.{sequence, magnitude, runsOf, lengthOfEnds, Filled}
+use Rattle.column.specs.Runs.{sequence, toNat, runsOf, lengthOfEnds, Filled}
 use Rattle.column.specs.Workers.{nextPlace, PushedMerged, lastOf, Merging}
 use Rattle.column.proofs.Encode.{length-push}
 use Rattle.column.proofs.Ends.{length-of-ends}
@@ -45,30 +45,30 @@ module _ (e v : List ℤ) (n : ℕ) where
   -- ---- push_run
 
   module _ (run : ℤ) (q : Pushable e v n run) where
-    push-natural : run ≡ pos (magnitude run)
+    push-natural : run ≡ pos (toNat run)
     push-natural = natural run (negative-told n run (q .natural))
 
-    pub push-sum : {x run′ : ℤ} → x ≡ pos present → run′ ≡ run → x +ℤ run′ ≡ pos (present + magnitude run)
+    pub push-sum : {x run′ : ℤ} → x ≡ pos present → run′ ≡ run → x +ℤ run′ ≡ pos (present + toNat run)
     push-sum ex er = rw (ex, er, push-natural)
 
     pub push-fits : {x run′ : ℤ} → x ≡ pos present → run′ ≡ run → SFits w64 (x +ℤ run′)
-    push-fits ex er = rw (push-sum ex er) (record { sfits = fits-told (present + magnitude run) (q .fitting) })
+    push-fits ex er = rw (push-sum ex er) (record { sfits = fits-told (present + toNat run) (q .fitting) })
 
-    pub push-filled : {e′ v′ : List ℤ} {run′ end value value′ : ℤ} {m : ℕ} → run′ ≡ run → end ≡ pos (present + magnitude run) → value′ ≡ value
+    pub push-filled : {e′ v′ : List ℤ} {run′ end value value′ : ℤ} {m : ℕ} → run′ ≡ run → end ≡ pos (present + toNat run) → value′ ≡ value
         → PutRun e e′ v v′ n run′ end value′ m → Filled (pushed (sequence e v) n run value) e e′ v v′ m
     unfolding pushed
     push-filled er ee ev d =
-        let f = put-filled (used-filled n e v (le-of-lt (q .room-ends)) (le-of-lt (q .room-values)) (q .valid)) present (magnitude run) _ (er ∙ push-natural) ee d (q .room-ends) (q .room-values) in
+        let f = put-filled (used-filled n e v (le-of-lt (q .room-ends)) (le-of-lt (q .room-values)) (q .valid)) present (toNat run) _ (er ∙ push-natural) ee d (q .room-ends) (q .room-values) in
         rw (← push-natural, ev) at f
 
   -- ---- extend_to
 
   module _ (requested : ℤ) (q : Extendable e v n requested) where
-    reached : (z : ℤ) → leZ (pos present) z ≡ true → z ≡ pos (magnitude z)
+    reached : (z : ℤ) → leZ (pos present) z ≡ true → z ≡ pos (toNat z)
     reached (pos k) t = refl
     reached (negsuc k) t = absurd (let w : _≡_ {A = ℕ} 0 1 = cc in omega arith)
 
-    extend-natural : requested ≡ pos (magnitude requested)
+    extend-natural : requested ≡ pos (toNat requested)
     extend-natural = reached requested (long-told requested (pos present) (q .long))
 
     pub extend-same : (value : ℤ) → requested ≡ pos present → Filled (extended (sequence e v) n requested value) e e v v n
@@ -94,7 +94,7 @@ module _ (e v : List ℤ) (n : ℕ) where
       unfolding extended
       extend-filled ne ez d =
           let c = used-count n e v (le-of-lt (q .room-ends)) (le-of-lt (q .room-values)) in
-          let p = magnitude requested in
+          let p = toNat requested in
           let t : p ≡ present → ⊥ = λ h. ne (extend-natural ∙ ap pos h) in
           let m = merge-more merging value (λ z. refl) p d (ez ∙ extend-natural) refl (rw c (q .room-ends)) (rw c (q .room-values)) in
           rw (ne-eqb p present t) (merge-end m (rw (length-push _ p value) (omega arith)))

@@ -11,7 +11,7 @@ use lib.ListN.{replicate}
 use borrow.Author.Tests.{eqb-true}
 use Rattle.num.proofs.Tests.{by-test}
 use Rattle.column.specs.Questions.{endsValid}
-use Rattle.column.specs.Runs.{Sequence, magnitude, runs, lengthOf, dense}
+use Rattle.column.specs.Runs.{Sequence, toNat, runs, lengthOf, dense}
 use Rattle.column.proofs.Dense.{dense-append, dense-push}
 use Rattle.column.proofs.Ends.{rising, runs-rise}
 use Rattle.from_runs.specs.Calls.{runsFrom}
@@ -19,18 +19,18 @@ use Rattle.from_runs.proofs.Shown.{shown-from}
 use Rattle.rle.specs.Calls.{used, presentLength, pushed, extended}
 
 module _ (buffers : Sequence) (n : ℕ) where
-  pub push-run-shows : (run value : ℤ) → dense (pushed buffers n run value) ≡ dense (runs (used n buffers)) ++ replicate (magnitude run) value
+  pub push-run-shows : (run value : ℤ) → dense (pushed buffers n run value) ≡ dense (runs (used n buffers)) ++ replicate (toNat run) value
   unfolding pushed
   push-run-shows run value =
       dense-append (runs (used n buffers)) (runsFrom (presentLength n buffers) (run ∷ []) (value ∷ []))
-      ∙ ap (λ (l : List ℤ). dense (runs (used n buffers)) ++ l) (shown-from (presentLength n buffers) (run ∷ []) (value ∷ []) ∙ append-nil (replicate (magnitude run) value))
+      ∙ ap (λ (l : List ℤ). dense (runs (used n buffers)) ++ l) (shown-from (presentLength n buffers) (run ∷ []) (value ∷ []) ∙ append-nil (replicate (toNat run) value))
 
-  pub extend-to-shows : (requested value : ℤ) → endsValid (used n buffers .ends) ≡ none → presentLength n buffers ≤ magnitude requested
-      → dense (extended buffers n requested value) ≡ dense (runs (used n buffers)) ++ replicate (magnitude requested - presentLength n buffers) value
+  pub extend-to-shows : (requested value : ℤ) → endsValid (used n buffers .ends) ≡ none → presentLength n buffers ≤ toNat requested
+      → dense (extended buffers n requested value) ≡ dense (runs (used n buffers)) ++ replicate (toNat requested - presentLength n buffers) value
   unfolding extended
   extend-to-shows requested value valid h =
       let rs = runs (used n buffers) in
-      by-test (eqb (magnitude requested) (lengthOf rs))
-      (λ t. let e : magnitude requested - lengthOf rs ≡ 0 = omega (arith, eqb-true (magnitude requested) (lengthOf rs) t) in
+      by-test (eqb (toNat requested) (lengthOf rs))
+      (λ t. let e : toNat requested - lengthOf rs ≡ 0 = omega (arith, eqb-true (toNat requested) (lengthOf rs) t) in
       rw (t, e) (sym (append-nil (dense rs))))
-      (λ t. rw t (dense-push rs (magnitude requested) value (runs-rise 0 (used n buffers .ends) (used n buffers .values) (rising (used n buffers .ends) valid)) h))
+      (λ t. rw t (dense-push rs (toNat requested) value (runs-rise 0 (used n buffers .ends) (used n buffers .values) (rising (used n buffers .ends) valid)) h))

@@ -8,7 +8,7 @@ use native.Mathlib.Omega.{arith}
 use lib.IntN.{ℤ, pos}
 use lib.ListN.{length, take}
 use Rattle.column.specs.Questions.{usedWithin, endsValid, notNegative, fits, longEnough}
-use Rattle.column.specs.Runs.{sequence, magnitude}
+use Rattle.column.specs.Runs.{sequence, toNat}
 use Rattle.column.proofs.FirstNo.{all-yes}
 use Rattle.column.proofs.Told.{both-told}
 use Rattle.rle.specs.Calls.{pushRunAsked, extendToAsked, presentLength, roomForOne}
@@ -19,7 +19,7 @@ module _ (e v : List ℤ) where
   unfolding pushRunAsked
   push-run-yes n run h =
       let y = all-yes
-      (usedWithin n (length e) (length v) ∷ endsValid (take n e) ∷ notNegative n run ∷ fits (presentLength n (sequence e v) + magnitude run) ∷ roomForOne n (sequence e v) ∷ []) h in
+      (usedWithin n (length e) (length v) ∷ endsValid (take n e) ∷ notNegative n run ∷ fits (presentLength n (sequence e v) + toNat run) ∷ roomForOne n (sequence e v) ∷ []) h in
       let r = both-told (n + 1) (length e) (length v) (y .1 .1 .1 .1 .0) in
       record { valid = y .1 .0; room-ends = omega arith; room-values = omega arith; natural = y .1 .1 .0; fitting = y .1 .1 .1 .0 }
 

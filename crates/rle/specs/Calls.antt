@@ -8,7 +8,7 @@ use lib.Dec.{eqb}
 use Rattle.column.specs.Asking.{Question, firstNo, _otherwise_}
 use Rattle.column.specs.Paper.{Outcome}
 use Rattle.column.specs.Questions.{usedWithin, endsValid, notNegative, fits, longEnough, room, both}
-use Rattle.column.specs.Runs.{Sequence, sequence, Runs, magnitude, runs, lengthOf, pushMerged}
+use Rattle.column.specs.Runs.{Sequence, sequence, Runs, toNat, runs, lengthOf, pushMerged}
 use Rattle.from_runs.specs.Calls.{runsFrom}
 
 -- the sequence in lent buffers: as many first entries as the used count
@@ -32,7 +32,7 @@ pushRunAsked buffers n run =
     (usedWithin n (length (buffers .ends)) (length (buffers .values))
     ∷ endsValid (used n buffers .ends)
     ∷ notNegative n run
-    ∷ fits (presentLength n buffers + magnitude run)
+    ∷ fits (presentLength n buffers + toNat run)
     ∷ roomForOne n buffers
     ∷ [])
 
@@ -43,7 +43,7 @@ pushRun buffers n run value = pushRunAsked buffers n run otherwise pushed buffer
 unfoldable pub extended : Sequence → ℕ → ℤ → ℤ → Runs
 extended buffers n requested value =
     let present = runs (used n buffers) in
-    cond (eqb (magnitude requested) (lengthOf present)) present (pushMerged present (magnitude requested) value)
+    cond (eqb (toNat requested) (lengthOf present)) present (pushMerged present (toNat requested) value)
 
 unfoldable pub extendToAsked : Sequence → ℕ → ℤ → Question
 extendToAsked buffers n requested =

@@ -6,7 +6,7 @@ use mathlib.Core.Path.{_≡_}
 use lib.IntN.{ℤ, pos}
 use lib.ListN.{length, take}
 use Rattle.column.specs.Questions.{endsValid, notNegative, fits, longEnough}
-use Rattle.column.specs.Runs.{sequence, magnitude}
+use Rattle.column.specs.Runs.{sequence, toNat}
 use Rattle.rle.specs.Calls.{presentLength}
 
 -- every question of push_run and of extend_to answered "yes"
@@ -15,7 +15,7 @@ pub record Pushable (ends values : List ℤ) (n : ℕ) (run : ℤ) : Type 0 wher
   pub room-ends : n < length ends
   pub room-values : n < length values
   pub natural : notNegative n run ≡ none
-  pub fitting : fits (presentLength n (sequence ends values) + magnitude run) ≡ none
+  pub fitting : fits (presentLength n (sequence ends values) + toNat run) ≡ none
 
 pub record Extendable (ends values : List ℤ) (n : ℕ) (requested : ℤ) : Type 0 where
   pub valid : endsValid (take n ends) ≡ none

@@ -20,14 +20,14 @@ use Rattle.num.proofs.Tests.{by-test}
 use Rattle.column.specs.declared.inner.Writer.{Writer}
 use Rattle.column.specs.Lists.{part}
 use Rattle.column.specs.Questions.{endsValid}
-use Rattle.column.specs.Runs.{Runs, magnitude, runsOf, lastEnd, lengthOf, lastFrom, lengthOfEnds, denseFrom, dense, encode, encodeFrom, Filled}
+use Rattle.column.specs.Runs.{Runs, toNat, runsOf, lastEnd, lengthOf, lastFrom, lengthOfEnds, denseFrom, dense, encode, encodeFrom, Filled}
 use Rattle.column.specs.Workers.{nextPlace, PushedMerged, Merging, RisingEnds, pushAll, moved, Behind, Appendable, Appended}
 use Rattle.column.proofs.Appending.{push-few, push-shown, length-moved}
 use Rattle.column.proofs.Dense.{length-dense}
 use Rattle.column.proofs.Encode.{encode-up, encode-pos, encode-more, length-push}
 use Rattle.column.proofs.Encoded.{dense-encode, valid-encode}
 use Rattle.column.proofs.Ends.{rising, runs-rise, length-runs, length-of-ends}
-use Rattle.column.proofs.Naturals.{magnitude-below}
+use Rattle.column.proofs.Naturals.{to-nat-below}
 use Rattle.column.proofs.Pushed.{place}
 use Rattle.column.proofs.Rising.{Rising}
 use Rattle.column.proofs.Merging.{merge-start, merge-more, merge-at, merge-end, fill-none}
@@ -64,7 +64,7 @@ encode-constant k v h =
 
 -- ---- what is shown up to and from a position, by the first end above it
 
-test-end : {e : ℤ} (q : ℕ) → e ≡ pos (magnitude e) → ltZ (pos q) e ≡ ltb q (magnitude e)
+test-end : {e : ℤ} (q : ℕ) → e ≡ pos (toNat e) → ltZ (pos q) e ≡ ltb q (toNat e)
 test-end q h = ap (ltZ (pos q)) h
 
 -- from q on: the runs from the one found on
@@ -77,7 +77,7 @@ unfolding firstEndAbove firstWhere runsOf denseFrom
 left-above p q [] vs r l h = record { rises = tt; shown = sym (drop-of-length-le [] {i = q - p} (omega arith)) }
 left-above p q (e ∷ es) [] r l h = let z : ⊥ = omega arith in absurd z
 left-above p q (e ∷ es) (v ∷ vs) r l h =
-    let m = magnitude e in
+    let m = toNat e in
     by-test (ltZ (pos q) e)
     (λ t. let k : q < m = ltb-true q m (sym (test-end q (r .0)) ∙ t) in
     let n : m - p - (q - p) ≡ m - q = omega arith in
@@ -91,7 +91,7 @@ left-above p q (e ∷ es) (v ∷ vs) r l h =
 record Front (p q f : ℕ) (es vs : List ℤ) : Type 0 where
   rises : RisingEnds p (take f es)
   low : lastEnd p (runsOf (take f es) (take f vs)) ≤ q
-  last : magnitude (lastFrom (pos p) (take f es)) ≡ lastEnd p (runsOf (take f es) (take f vs))
+  last : toNat (lastFrom (pos p) (take f es)) ≡ lastEnd p (runsOf (take f es) (take f vs))
   shown : denseFrom p (runsOf (take f es) (take f vs)) ++ replicate (suc q - lastEnd p (runsOf (take f es) (take f vs))) (getD vs f (pos 0))
       ≡ take (suc q - p) (denseFrom p (runsOf es vs))
 
@@ -100,7 +100,7 @@ unfolding firstEndAbove firstWhere runsOf denseFrom
 front-above p q [] vs r l h w = let z : ⊥ = omega arith in absurd z
 front-above p q (e ∷ es) [] r l h w = let z : ⊥ = omega arith in absurd z
 front-above p q (e ∷ es) (v ∷ vs) r l h w =
-    let m = magnitude e in
+    let m = toNat e in
     by-test (ltZ (pos q) e)
     (λ t. let k : q < m = ltb-true q m (sym (test-end q (r .0)) ∙ t) in
     rw t (record { rises = tt; low = h; last = refl; shown = sym (take-front (suc q - p) (m - p) v (denseFrom m (runsOf es vs)) (omega arith)) }))
@@ -111,29 +111,29 @@ front-above p q (e ∷ es) (v ∷ vs) r l h w =
     rw t (record {
       rises = (r .0, r .1, i .rises);
       low = i .low;
-      last = ap (λ (z : ℤ). magnitude (lastFrom z (take f es))) (r .0) ∙ i .last;
+      last = ap (λ (z : ℤ). toNat (lastFrom z (take f es))) (r .0) ∙ i .last;
       shown = append-assoc (replicate (m - p) v) (denseFrom m (runsOf (take f es) (take f vs))) (replicate (suc q - lastEnd m (runsOf (take f es) (take f vs))) (getD vs f (pos 0)))
           ∙ ap (λ (l : List ℤ). replicate (m - p) v ++ l) (i .shown)
           ∙ sym (rw n (take-behind (suc q - m) (m - p) v (denseFrom m (runsOf es vs))));
     }))
 
 -- the first end above a position that is not past the last is inside
-above-inside : (p q : ℕ) (es : List ℤ) → RisingEnds p es → q < magnitude (lastFrom (pos p) es) → p ≤ q → firstEndAbove (pos q) es < length es
+above-inside : (p q : ℕ) (es : List ℤ) → RisingEnds p es → q < toNat (lastFrom (pos p) es) → p ≤ q → firstEndAbove (pos q) es < length es
 unfolding firstEndAbove firstWhere
 above-inside p q [] r h k = let z : ⊥ = omega arith in absurd z
 above-inside p q (e ∷ es) r h k =
-    let m = magnitude e in
+    let m = toNat e in
     by-test (ltZ (pos q) e)
     (λ t. rw t (omega arith))
     (λ t. let j : m ≤ q = ltb-false q m (sym (test-end q (r .0)) ∙ t) in
-    let i = above-inside m q es (r .2) (omega (arith, ap (λ (z : ℤ). magnitude (lastFrom z es)) (r .0))) j in
+    let i = above-inside m q es (r .2) (omega (arith, ap (λ (z : ℤ). toNat (lastFrom z es)) (r .0))) j in
     rw t (omega arith))
 
 -- the last of the ends from the l-th on is the last of all
-last-drop : (p q : ℕ) (es : List ℤ) (l : ℕ) {n : ℕ} → RisingEnds p es → q < n → magnitude (lastFrom (pos p) es) ≡ n → magnitude (lastFrom (pos q) (drop l es)) ≤ n
+last-drop : (p q : ℕ) (es : List ℤ) (l : ℕ) {n : ℕ} → RisingEnds p es → q < n → toNat (lastFrom (pos p) es) ≡ n → toNat (lastFrom (pos q) (drop l es)) ≤ n
 last-drop p q [] l r h e = rw (drop-of-length-le {A = ℤ} [] {i = l} (omega arith)) (omega arith)
 last-drop p q (x ∷ es) zero r h e = omega (arith, e)
-last-drop p q (x ∷ es) (suc l) r h e = last-drop (magnitude x) q es l (r .2) h (ap (λ (z : ℤ). magnitude (lastFrom z es)) (sym (r .0)) ∙ e)
+last-drop p q (x ∷ es) (suc l) r h e = last-drop (toNat x) q es l (r .2) h (ap (λ (z : ℤ). toNat (lastFrom z es)) (sym (r .0)) ∙ e)
 
 -- ---- the parts of the flat lists that the code takes
 
@@ -155,9 +155,9 @@ module _ {es vs : List ℤ} {by n : ℕ} {e₀ v₀ : List ℤ} (q : Shiftable e
   unfolding xs
   long = length-dense (runsOf es vs) (runs-rise 0 es vs rises) ∙ sym (q .whole)
 
-  last-is : magnitude (lastFrom (pos 0) es) ≡ n
+  last-is : toNat (lastFrom (pos 0) es) ≡ n
   unfolding lengthOfEnds
-  last-is = ap magnitude (length-of-ends es vs (q .valid) (q .paired)) ∙ sym (q .whole)
+  last-is = ap toNat (length-of-ends es vs (q .valid) (q .paired)) ∙ sym (q .whole)
 
   pub found : {l : ℕ} {z : ℤ} (k : ℕ) → (endsValid es ≡ none → l ≡ firstEndAbove z es) → z ≡ pos k → l ≡ firstEndAbove (pos k) es
   found k h e = h (q .valid) ∙ ap (λ (z : ℤ). firstEndAbove z es) e
@@ -258,7 +258,7 @@ module _ {es vs : List ℤ} {by n : ℕ} {e₀ v₀ : List ℤ} (q : Shiftable e
       behind = down-behind h;
     }
       where
-        last-left : magnitude (lastFrom (pos by) pe) ≤ n
+        last-left : toNat (lastFrom (pos by) pe) ≤ n
         last-left = rw ep (last-drop 0 by es l rises (q .short) last-is)
 
     -- all that is left is written
@@ -525,12 +525,12 @@ up-some {d} f t e = rw e (go d (above-zero f t))
 
 -- ---- what the code knows of the length
 
-module _ (es vs : List ℤ) (valid : endsValid es ≡ none) (paired : length es ≡ length vs) {y : ℤ} {n : ℕ} (fits : mag y < 2 ^ 63) (ey : y ≡ lengthOfEnds es) (en : n ≡ magnitude (toZ w64 (ofZ w64 y))) where
+module _ (es vs : List ℤ) (valid : endsValid es ≡ none) (paired : length es ≡ length vs) {y : ℤ} {n : ℕ} (fits : mag y < 2 ^ 63) (ey : y ≡ lengthOfEnds es) (en : n ≡ toNat (toZ w64 (ofZ w64 y))) where
   pub length-told : n ≡ lengthOf (runsOf es vs)
-  length-told = en ∙ ap magnitude (back y fits ∙ ey ∙ length-of-ends es vs valid paired)
+  length-told = en ∙ ap toNat (back y fits ∙ ey ∙ length-of-ends es vs valid paired)
 
   pub length-fits : n < 2 ^ 63
-  length-fits = rw (en, back y fits) (magnitude-below y (record { sfits = fits }))
+  length-fits = rw (en, back y fits) (to-nat-below y (record { sfits = fits }))
 
   pub shiftable : (by : ℕ) (e v : List ℤ) → length es + 1 ≤ length e → length es + 1 ≤ length v → by < n → Shiftable es vs by n e v
   shiftable by e v re rv h = record { valid = valid; paired = paired; whole = length-told; short = h; fitting = length-fits; room-ends = re; room-values = rv }

@@ -86,7 +86,7 @@ pub fn shift(
     requires { ⌜ (endsValid (now ends) ≡ none) × (length (now ends) ≡ length (now values)) × (length (now ends) + 1 ≤ length (now «out_ends»)) × (length (now ends) + 1 ≤ length (now «out_values»)) ⌝ }
     ensures { λ r. ⌜ Fills (encode (shiftValues distance fill (dense (runsOf (given ends) (given values))))) «out_ends» «out_values» r ⌝ }
 {
-    let length = sequence::magnitude(sequence::length(ends));
+    let length = sequence::to_nat(sequence::length(ends));
     if length == 0 {
         return 0;
     }

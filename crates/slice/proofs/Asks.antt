@@ -1,19 +1,16 @@
 -- The questions of each call, as the code joins them: what is needed is counted before they are put, and counts only where the ends are valid.
 -- Assumes nothing.
-use Prim.Native.Nat.{ℕ, _<_, _^_}
+use Prim.Native.Nat.{ℕ}
 use mathlib.Core.Option.{none}
 use mathlib.Core.List.{List, [], _∷_}
-use mathlib.Core.Path.{_≡_, refl, ap, sym, _∙_}
-use native.Mathlib.Omega.{arith}
+use mathlib.Core.Path.{_≡_, refl, ap, _∙_}
 use lib.IntN.{ℤ}
 use lib.ListN.{length}
-use Rattle.num.specs.Numbers.{saturated}
-use Rattle.column.specs.Asking.{Question, firstNo}
-use Rattle.column.specs.Questions.{paired, endsValid, roomAt, room, both, sequenceAsked}
+use Rattle.column.specs.Asking.{Question}
+use Rattle.column.specs.Questions.{paired, endsValid, room, both, sequenceAsked}
 use Rattle.column.specs.Runs.{sequence, runsOf, Filled}
-use Rattle.column.proofs.FirstNo.{asked-next, asked-last, first-several}
+use Rattle.column.proofs.FirstNo.{first-several}
 use Rattle.column.proofs.Told.{sequence-asked, sequence-told}
-use Rattle.column.proofs.YesNo.{room-each, room-saturated}
 use Rattle.slice.specs.declared.search.TouchedRuns.{TouchedRuns}
 use Rattle.slice.specs.Workers.{touchedBy, cutRuns, Touches}
 use Rattle.slice.specs.Calls.{sliceRuns}
@@ -43,15 +40,3 @@ module _ (start end : ℤ) (es vs : List ℤ) {t : TouchedRuns} (et : endsValid 
   pub slice-filled : {e e′ v v′ : List ℤ} {n : ℕ} → endsValid es ≡ none → length es ≡ length vs
       → Filled (cutRuns t (runsOf es vs)) e e′ v v′ n → Filled (sliceRuns start end (runsOf es vs)) e e′ v v′ n
   slice-filled y p f = rw (et y, cut-touched start end es vs y p) at f
-
--- ---- the slices of intervals
-
-pub flat-room-asked : (o n x e v : ℕ) {r a b c d : Question} → r ≡ firstNo (a ∷ b ∷ []) → a ≡ roomAt 0 o x → b ≡ firstNo (c ∷ d ∷ []) → c ≡ roomAt 1 n e → d ≡ roomAt 2 n v
-    → r ≡ room (o ∷ both n) (x ∷ e ∷ v ∷ [])
-flat-room-asked o n x e v hr ha hb hc hd =
-    asked-next (roomAt 0 o x) (roomAt 1 n e ∷ roomAt 2 n v ∷ []) hr ha (λ y. asked-last (roomAt 1 n e) hb hc (λ z. hd)) ∙ sym (room-each (o ∷ both n) (x ∷ e ∷ v ∷ []))
-
-pub flat-room-saturated : (o n x e v : ℕ) → e < 2 ^ 63 → v < 2 ^ 63 → room (o ∷ both (saturated n)) (x ∷ e ∷ v ∷ []) ≡ room (o ∷ both n) (x ∷ e ∷ v ∷ [])
-flat-room-saturated o n x e v h k =
-    room-each (o ∷ both (saturated n)) (x ∷ e ∷ v ∷ [])
-    ∙ rw (room-saturated 1 n e (omega arith), room-saturated 2 n v (omega arith)) (sym (room-each (o ∷ both n) (x ∷ e ∷ v ∷ [])))

@@ -12,7 +12,7 @@ use lib.ListN.{length}
 use borrow.Author.Tests.{ltb-true}
 use Rattle.num.proofs.Tests.{by-test}
 use Rattle.column.specs.Questions.{endsValid}
-use Rattle.column.specs.Runs.{magnitude}
+use Rattle.column.specs.Runs.{toNat}
 use Rattle.column.specs.Workers.{RisingEnds}
 use Rattle.column.proofs.Ends.{rising}
 use Rattle.column.proofs.Naturals.{lt-le}
@@ -40,7 +40,7 @@ module _ (p : ℤ) where
 
   negative-from : (i q : ℕ) (es : List ℤ) → ltZ p (pos 0) ≡ true → RisingEnds q es → coveringFrom i (pos q) es p ≡ none
   negative-from i q [] t r = refl
-  negative-from i q (e ∷ es) t r = rw (not-from q) (ap (λ (b : ℤ). coveringFrom (suc i) b es p) (r .0) ∙ negative-from (suc i) (magnitude e) es t (r .2))
+  negative-from i q (e ∷ es) t r = rw (not-from q) (ap (λ (b : ℤ). coveringFrom (suc i) b es p) (r .0) ∙ negative-from (suc i) (toNat e) es t (r .2))
     where
       below : (z : ℤ) (n : ℕ) → ltZ z (pos 0) ≡ true → leZ (pos n) z ≡ false
       below (pos m) n h = let z : ⊥ = omega (arith, ltb-true m 0 h) in absurd z

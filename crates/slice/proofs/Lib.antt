@@ -2,7 +2,6 @@ pub mod Asks
 pub mod Covering
 pub mod Difference
 pub mod Examples
-pub mod Items
 pub mod Searching
 pub mod Sliced
 pub mod Slicing

@@ -14,7 +14,7 @@ use lib.Dec.{eqb, ltb}
 use borrow.Author.Tests.{leb-true, leb-false, le-leb, le-ltb, ltb-true, ltb-false}
 use Rattle.num.proofs.Tests.{by-test}
 use Rattle.column.specs.Questions.{endsValid}
-use Rattle.column.specs.Runs.{magnitude}
+use Rattle.column.specs.Runs.{toNat}
 use Rattle.column.specs.Workers.{RisingEnds}
 use Rattle.column.proofs.Appending.{rising-at}
 use Rattle.column.proofs.Ends.{rising, rising-yes}
@@ -83,9 +83,9 @@ unfolding firstEndAbove firstWhere
 above-past-from p q [] i r h t = let z : ⊥ = omega arith in absurd z
 above-past-from p q (e ∷ es) zero r h t = rw (le-lt e p t) (omega arith)
 above-past-from p q (e ∷ es) (suc i) r h t =
-    let a = rising-at (magnitude e) es i (r .2) (omega arith) in
-    let low : leZ e p ≡ true = rw (r .0) (le-lower (magnitude e) (magnitude (getD es i (pos 0))) p (omega (arith, a .1)) (rw (a .0) at t)) in
-    rw (le-lt e p low) (omega (arith, above-past-from p (magnitude e) es i (r .2) (omega arith) t))
+    let a = rising-at (toNat e) es i (r .2) (omega arith) in
+    let low : leZ e p ≡ true = rw (r .0) (le-lower (toNat e) (toNat (getD es i (pos 0))) p (omega (arith, a .1)) (rw (a .0) at t)) in
+    rw (le-lt e p low) (omega (arith, above-past-from p (toNat e) es i (r .2) (omega arith) t))
 
 -- the index found is past every end that is not above the position
 pub above-past : (p : ℤ) (es : List ℤ) (i : ℕ) → endsValid es ≡ none → i < length es → leZ (getD es i (pos 0)) p ≡ true → i < firstEndAbove p es
@@ -150,7 +150,7 @@ module _ {p : ℕ} {es : List ℤ} {low size : ℕ} (s : Halving p es low size) 
     told-above ea v =
         let i = halving-inside h in
         let m = rising-at 0 es at (rising es v) i in
-        let natural : ltZ x (pos 0) ≡ false = rw (ex, m .0) (le-ltb (magnitude (getD es at (pos 0))) 0 (omega arith)) in
+        let natural : ltZ x (pos 0) ≡ false = rw (ex, m .0) (le-ltb (toNat (getD es at (pos 0))) 0 (omega arith)) in
         by-test (ltZ (pos p) x) (λ t. rw (ea natural, t, lt-le (pos p) x t)) (λ t. rw (ea natural, t, lt-le (pos p) x t))
 
     pub halving-next : {above next : ℕ} → (ltZ x (pos 0) ≡ false → above ≡ cond (ltZ (pos p) x) 1 0) → next ≡ cond (eqb above 0) (low + (size - size / 2)) low
@@ -181,15 +181,15 @@ least-above n [] = refl
 least-above n (e ∷ es) = rw (le-suc n e, least-above n es)
 
 -- a position above 0, and the one before it
-pub position-above : (p : ℤ) → leZ p (pos 0) ≡ false → p ≡ pos (suc (magnitude p - 1))
+pub position-above : (p : ℤ) → leZ p (pos 0) ≡ false → p ≡ pos (suc (toNat p - 1))
 position-above (pos n) t = ap pos (omega (arith, leb-false n 0 t))
 position-above (negsuc n) t = cc
 
 pub least-is : (p : ℤ) (es : List ℤ) {q : ℤ} {r : ℕ} → leZ p (pos 0) ≡ false → q ≡ p -ℤ pos 1 → r ≡ firstEndAbove q es → r ≡ firstEndAtLeast p es
 least-is p es t eq er =
     let m = position-above p t in
-    let e : p -ℤ pos 1 ≡ pos (magnitude p - 1) = difference-of {b = 1} m refl (omega arith) ∙ ap pos (omega arith) in
-    er ∙ rw (eq, e) (sym (least-above (magnitude p - 1) es) ∙ ap (λ (z : ℤ). firstEndAtLeast z es) (sym m))
+    let e : p -ℤ pos 1 ≡ pos (toNat p - 1) = difference-of {b = 1} m refl (omega arith) ∙ ap pos (omega arith) in
+    er ∙ rw (eq, e) (sym (least-above (toNat p - 1) es) ∙ ap (λ (z : ℤ). firstEndAtLeast z es) (sym m))
 
 pub before-fits : (p : ℤ) → leZ p (pos 0) ≡ false → SFits w64 p → SFits w64 (p -ℤ pos 1)
 before-fits p t f = let m = position-above p t in difference-fits {b = 1} m refl (omega arith) (rw m at (f .sfits))
@@ -198,7 +198,7 @@ before-fits p t f = let m = position-above p t in difference-fits {b = 1} m refl
 least-start : (p : ℤ) (es : List ℤ) → leZ p (pos 0) ≡ true → RisingEnds 0 es → 0 ≡ firstEndAtLeast p es
 unfolding firstEndAtLeast firstWhere
 least-start p [] h r = refl
-least-start (pos n) (e ∷ es) h r = rw (r .0, le-leb n (magnitude e) (omega (arith, leb-true n 0 h)))
+least-start (pos n) (e ∷ es) h r = rw (r .0, le-leb n (toNat e) (omega (arith, leb-true n 0 h)))
 least-start (negsuc n) (e ∷ es) h r = rw (r .0)
 
 pub least-low : (p : ℤ) (es : List ℤ) → leZ p (pos 0) ≡ true → endsValid es ≡ none → 0 ≡ firstEndAtLeast p es
@@ -215,7 +215,7 @@ front-from p (e ∷ es) (suc n) h t = by-test (leZ p e) (λ u. rw u) (λ u. rw u
 rising-front : (q n : ℕ) (es : List ℤ) → RisingEnds q es → RisingEnds q (take n es)
 rising-front q zero es r = tt
 rising-front q (suc n) [] r = tt
-rising-front q (suc n) (e ∷ es) r = (r .0, r .1, rising-front (magnitude e) n es (r .2))
+rising-front q (suc n) (e ∷ es) r = (r .0, r .1, rising-front (toNat e) n es (r .2))
 
 pub least-front : (p : ℤ) (es : List ℤ) (n : ℕ) {r : ℕ} → 0 < n → n ≤ length es → leZ p (getD es (n - 1) (pos 0)) ≡ true
     → (r ≤ length (take n es)) × (endsValid (take n es) ≡ none → r ≡ firstEndAtLeast p (take n es)) → (r ≤ length es) × (endsValid es ≡ none → r ≡ firstEndAtLeast p es)

@@ -12,7 +12,7 @@ use lib.Seq.{getD-take, getD-drop, ext-getD}
 use lib.Dec.{leb, ltb}
 use borrow.Author.Tests.{leb-true, leb-false, le-leb, lt-leb, ltb-true, ltb-false, lt-ltb, le-ltb}
 use Rattle.num.proofs.Tests.{by-test}
-use Rattle.column.specs.Runs.{Runs, magnitude, lastEnd, lengthOf, dense}
+use Rattle.column.specs.Runs.{Runs, toNat, lastEnd, lengthOf, dense}
 use Rattle.column.proofs.Cover.{cover, cover-dense, last-above}
 use Rattle.column.proofs.Dense.{length-dense}
 use Rattle.column.proofs.Rising.{Rising, Valid}
@@ -73,51 +73,51 @@ clamped p s e (r ∷ r′ ∷ rs) h =
     (λ t. let q : min e (lastEnd (r′ .end) rs) ≡ e = omega (arith, leb-true e (r .end) t) in rw q)
     (λ t. rw (t, lt-leb (min e (lastEnd (r′ .end) rs)) (r .end) (omega (arith, leb-false e (r .end) t)), i))
 
--- ---- the slice itself: its span, as numbers, is from magnitude s up to magnitude e
+-- ---- the slice itself: its span, as numbers, is from toNat s up to toNat e
 
 module _ (s e : ℤ) (rs : Runs) (h : Valid rs) where
   -- the slice, without the clamp down to the length
-  slice-cut : sliceRuns s e rs ≡ cond (ltb (magnitude s) (min (magnitude e) (lengthOf rs))) (cut (magnitude s) (magnitude e) rs) []
+  slice-cut : sliceRuns s e rs ≡ cond (ltb (toNat s) (min (toNat e) (lengthOf rs))) (cut (toNat s) (toNat e) rs) []
   unfolding sliceRuns lengthOf
-  slice-cut = rw (clamped 0 (magnitude s) (magnitude e) rs h)
+  slice-cut = rw (clamped 0 (toNat s) (toNat e) rs h)
 
   pub valid-slice : Valid (sliceRuns s e rs)
   valid-slice =
       rw slice-cut
-      (by-test (ltb (magnitude s) (min (magnitude e) (lengthOf rs)))
-      (λ t. let k = ltb-true (magnitude s) (min (magnitude e) (lengthOf rs)) t in
-      let z : 0 - magnitude s ≡ 0 = omega arith in
-      rw t (rw z at (rising-cut 0 (magnitude s) (magnitude e) rs h (omega arith))))
+      (by-test (ltb (toNat s) (min (toNat e) (lengthOf rs)))
+      (λ t. let k = ltb-true (toNat s) (min (toNat e) (lengthOf rs)) t in
+      let z : 0 - toNat s ≡ 0 = omega arith in
+      rw t (rw z at (rising-cut 0 (toNat s) (toNat e) rs h (omega arith))))
       (λ t. rw t tt))
 
-  pub length-slice : lengthOf (sliceRuns s e rs) ≡ min (magnitude e - magnitude s) (lengthOf rs - magnitude s)
+  pub length-slice : lengthOf (sliceRuns s e rs) ≡ min (toNat e - toNat s) (lengthOf rs - toNat s)
   unfolding lengthOf
   length-slice =
       rw slice-cut
-      (by-test (ltb (magnitude s) (min (magnitude e) (lengthOf rs)))
-      (λ t. let k = ltb-true (magnitude s) (min (magnitude e) (lengthOf rs)) t in
-      let z : 0 - magnitude s ≡ 0 = omega arith in
-      rw t (rw z at (last-cut 0 (magnitude s) (magnitude e) rs h (omega arith))))
-      (λ t. rw t (omega (arith, ltb-false (magnitude s) (min (magnitude e) (lengthOf rs)) t))))
+      (by-test (ltb (toNat s) (min (toNat e) (lengthOf rs)))
+      (λ t. let k = ltb-true (toNat s) (min (toNat e) (lengthOf rs)) t in
+      let z : 0 - toNat s ≡ 0 = omega arith in
+      rw t (rw z at (last-cut 0 (toNat s) (toNat e) rs h (omega arith))))
+      (λ t. rw t (omega (arith, ltb-false (toNat s) (min (toNat e) (lengthOf rs)) t))))
 
   -- position by position: what the slice shows is what the sequence shows from its start on
-  pub value-slice : (i : ℕ) (d : ℤ) → i < magnitude e - magnitude s → getD (dense (sliceRuns s e rs)) i d ≡ getD (dense rs) (magnitude s + i) d
+  pub value-slice : (i : ℕ) (d : ℤ) → i < toNat e - toNat s → getD (dense (sliceRuns s e rs)) i d ≡ getD (dense rs) (toNat s + i) d
   unfolding dense lengthOf
   value-slice i d k =
       let v : Rising 0 (sliceRuns s e rs) = valid-slice in
-      rw (cover-dense 0 (sliceRuns s e rs) i d v, cover-dense 0 rs (magnitude s + i) d h, zero-add i, zero-add (magnitude s + i), slice-cut)
-      (by-test (ltb (magnitude s) (min (magnitude e) (lengthOf rs)))
-      (λ t. rw t (cover-cut (magnitude s) (magnitude e) rs i d k))
-      (λ t. rw t (sym (cover-behind 0 rs (magnitude s + i) d h (behind (ltb-false (magnitude s) (min (magnitude e) (lengthOf rs)) t))))))
+      rw (cover-dense 0 (sliceRuns s e rs) i d v, cover-dense 0 rs (toNat s + i) d h, zero-add i, zero-add (toNat s + i), slice-cut)
+      (by-test (ltb (toNat s) (min (toNat e) (lengthOf rs)))
+      (λ t. rw t (cover-cut (toNat s) (toNat e) rs i d k))
+      (λ t. rw t (sym (cover-behind 0 rs (toNat s + i) d h (behind (ltb-false (toNat s) (min (toNat e) (lengthOf rs)) t))))))
     where
-      behind : min (magnitude e) (lengthOf rs) ≤ magnitude s → lengthOf rs ≤ magnitude s + i
+      behind : min (toNat e) (lengthOf rs) ≤ toNat s → lengthOf rs ≤ toNat s + i
       behind l = omega arith
 
 -- what a slice shows: the positions from its start up to its end
-pub dense-slice : (s e : ℤ) (rs : Runs) → Valid rs → dense (sliceRuns s e rs) ≡ take (magnitude e - magnitude s) (drop (magnitude s) (dense rs))
+pub dense-slice : (s e : ℤ) (rs : Runs) → Valid rs → dense (sliceRuns s e rs) ≡ take (toNat e - toNat s) (drop (toNat s) (dense rs))
 dense-slice s e rs v =
-    let l : length (dense (sliceRuns s e rs)) ≡ min (magnitude e - magnitude s) (lengthOf rs - magnitude s) = length-dense (sliceRuns s e rs) (valid-slice s e rs v) ∙ length-slice s e rs v in
-    ext-getD (pos 0) (dense (sliceRuns s e rs)) (take (magnitude e - magnitude s) (drop (magnitude s) (dense rs)))
+    let l : length (dense (sliceRuns s e rs)) ≡ min (toNat e - toNat s) (lengthOf rs - toNat s) = length-dense (sliceRuns s e rs) (valid-slice s e rs v) ∙ length-slice s e rs v in
+    ext-getD (pos 0) (dense (sliceRuns s e rs)) (take (toNat e - toNat s) (drop (toNat s) (dense rs)))
     (rw (l, length-take, length-drop, length-dense rs v))
-    (λ i h. let k : i < magnitude e - magnitude s = omega arith in
-    value-slice s e rs v i (pos 0) k ∙ sym (getD-take (magnitude e - magnitude s) (drop (magnitude s) (dense rs)) i (pos 0) k ∙ getD-drop (magnitude s) (dense rs) i (pos 0)))
+    (λ i h. let k : i < toNat e - toNat s = omega arith in
+    value-slice s e rs v i (pos 0) k ∙ sym (getD-take (toNat e - toNat s) (drop (toNat s) (dense rs)) i (pos 0) k ∙ getD-drop (toNat s) (dense rs) i (pos 0)))

@@ -12,7 +12,7 @@ use lib.Signed.{mag}
 use mir.Syntax.{w64}
 use mir.Val.{SFits}
 use Rattle.num.specs.Numbers.{smallerOf}
-use Rattle.column.specs.Runs.{Run, magnitude, runsOf, endsOf, valuesOf, Filled}
+use Rattle.column.specs.Runs.{Run, toNat, runsOf, endsOf, valuesOf, Filled}
 use Rattle.column.proofs.Buffer.{Written, write-start, write-next}
 use Rattle.column.proofs.Ends.{length-runs}
 use Rattle.column.proofs.Naturals.{smaller-naturals}
@@ -22,7 +22,7 @@ use Rattle.slice.proofs.Difference.{difference-of, difference-fits}
 
 -- the run at an index
 abbrev pub runAt : List ℤ → List ℤ → ℕ → Run
-runAt es vs i = record { end = magnitude (getD es i (pos 0)); value = getD vs i (pos 0) }
+runAt es vs i = record { end = toNat (getD es i (pos 0)); value = getD vs i (pos 0) }
 
 pub run-at : (es vs : List ℤ) (i : ℕ) (d : Run) → length es ≡ length vs → i < length es → getD (runsOf es vs) i d ≡ runAt es vs i
 unfolding runsOf
@@ -50,12 +50,12 @@ module _ {t : TouchedRuns} {es vs e₀ v₀ : List ℤ} (h : Touches t es vs e�
       let l = length-runs es vs (h .paired) in
       rw length-map (length-take-le (t .count) (drop (t .first) (runsOf es vs)) (rw length-drop (omega (arith, h .inside))))
 
-  cut-at : (n : ℕ) (d : Run) → n < t .count → getD (cutRuns t (runsOf es vs)) n (clipped (magnitude (t .start)) (magnitude (t .end)) d)
-      ≡ clipped (magnitude (t .start)) (magnitude (t .end)) (runAt es vs (t .first + n))
+  cut-at : (n : ℕ) (d : Run) → n < t .count → getD (cutRuns t (runsOf es vs)) n (clipped (toNat (t .start)) (toNat (t .end)) d)
+      ≡ clipped (toNat (t .start)) (toNat (t .end)) (runAt es vs (t .first + n))
   unfolding cutRuns
   cut-at n d k =
-      List·getD-map (clipped (magnitude (t .start)) (magnitude (t .end))) (take (t .count) (drop (t .first) (runsOf es vs))) n d
-      ∙ ap (clipped (magnitude (t .start)) (magnitude (t .end)))
+      List·getD-map (clipped (toNat (t .start)) (toNat (t .end))) (take (t .count) (drop (t .first) (runsOf es vs))) n d
+      ∙ ap (clipped (toNat (t .start)) (toNat (t .end)))
       (getD-take (t .count) (drop (t .first) (runsOf es vs)) n d k ∙ getD-drop (t .first) (runsOf es vs) n d ∙ run-at es vs (t .first + n) d (h .paired) (omega (arith, h .inside)))
 
   pub slicing-start : Slicing t es vs e₀ e₀ v₀ v₀ 0
@@ -64,23 +64,23 @@ module _ {t : TouchedRuns} {es vs e₀ v₀ : List ℤ} (h : Touches t es vs e�
   -- the next: its end less the start
   module _ (n : ℕ) (k : n < t .count) where
     abbrev next : Run
-    next = clipped (magnitude (t .start)) (magnitude (t .end)) (runAt es vs (t .first + n))
+    next = clipped (toNat (t .start)) (toNat (t .end)) (runAt es vs (t .first + n))
 
-    next-end-natural : getD es (t .first + n) (pos 0) ≡ pos (magnitude (getD es (t .first + n) (pos 0)))
+    next-end-natural : getD es (t .first + n) (pos 0) ≡ pos (toNat (getD es (t .first + n) (pos 0)))
     next-end-natural = h .naturals (t .first + n) (omega (arith, h .inside))
 
     take-next : take (n + 1) (cutRuns t (runsOf es vs)) ≡ take n (cutRuns t (runsOf es vs)) ++ next ∷ []
     take-next =
         let d = runAt es vs 0 in
         ap (λ (m : ℕ). take m (cutRuns t (runsOf es vs))) (add-one n)
-        ∙ take-suc (cutRuns t (runsOf es vs)) n (clipped (magnitude (t .start)) (magnitude (t .end)) d) (rw length-cut k)
+        ∙ take-suc (cutRuns t (runsOf es vs)) n (clipped (toNat (t .start)) (toNat (t .end)) d) (rw length-cut k)
         ∙ ap (λ (r : Run). take n (cutRuns t (runsOf es vs)) ++ r ∷ []) (cut-at n d k)
 
     module _ {x y : ℤ} (ex : x ≡ getD es (t .first + n) (pos 0)) (ey : y ≡ smallerOf x (t .end)) where
-      smaller-natural : y ≡ pos (min (magnitude (getD es (t .first + n) (pos 0))) (magnitude (t .end)))
-      smaller-natural = ey ∙ ap₂ smallerOf (ex ∙ next-end-natural) (h .end-natural) ∙ smaller-naturals (magnitude (getD es (t .first + n) (pos 0))) (magnitude (t .end))
+      smaller-natural : y ≡ pos (min (toNat (getD es (t .first + n) (pos 0))) (toNat (t .end)))
+      smaller-natural = ey ∙ ap₂ smallerOf (ex ∙ next-end-natural) (h .end-natural) ∙ smaller-naturals (toNat (getD es (t .first + n) (pos 0))) (toNat (t .end))
 
-      start-below : magnitude (t .start) ≤ min (magnitude (getD es (t .first + n) (pos 0))) (magnitude (t .end))
+      start-below : toNat (t .start) ≤ min (toNat (getD es (t .first + n) (pos 0))) (toNat (t .end))
       start-below = omega (arith, h .above n k, h .ordered)
 
       next-end : y -ℤ t .start ≡ pos (next .end)

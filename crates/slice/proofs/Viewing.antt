@@ -18,10 +18,10 @@ use Rattle.column.specs.Asking.{Question, firstNo}
 use Rattle.column.specs.Lists.{part}
 use Rattle.column.specs.Paper.{PaperRefusal}
 use Rattle.column.specs.Questions.{paired, endsValid}
-use Rattle.column.specs.Runs.{sequence, Run, Runs, valuesOf, magnitude, runsOf, lengthOf, lengthOfEnds}
+use Rattle.column.specs.Runs.{sequence, Run, Runs, valuesOf, toNat, runsOf, lengthOf, lengthOfEnds}
 use Rattle.column.proofs.Ends.{length-of-ends, values-runs}
 use Rattle.column.proofs.FirstNo.{all-yes}
-use Rattle.column.proofs.Naturals.{magnitude-below}
+use Rattle.column.proofs.Naturals.{to-nat-below}
 use Rattle.column.proofs.Told.{agree-told}
 use Rattle.slice.specs.declared.Part.{Part}
 use Rattle.slice.specs.declared.View.{View}
@@ -57,11 +57,11 @@ module _ (start end : ℤ) (es vs : List ℤ) (v : endsValid es ≡ none) (l : l
       (viewOf (sequence es vs) start end)
   unfolding touchedBy viewOf
   view-touched =
-      let n : magnitude (lengthOfEnds es) ≡ lengthOf (runsOf es vs) = ap magnitude (length-of-ends es vs v l) in
-      let y = min (magnitude end) (lengthOf (runsOf es vs)) in
-      by-test (ltb (magnitude start) y)
-      (λ t. let h = ltb-true (magnitude start) y t in
-      let d : pos y -ℤ pos (magnitude start) ≡ pos (y - magnitude start) = difference-of refl refl (omega arith) in
+      let n : toNat (lengthOfEnds es) ≡ lengthOf (runsOf es vs) = ap toNat (length-of-ends es vs v l) in
+      let y = min (toNat end) (lengthOf (runsOf es vs)) in
+      by-test (ltb (toNat start) y)
+      (λ t. let h = ltb-true (toNat start) y t in
+      let d : pos y -ℤ pos (toNat start) ≡ pos (y - toNat start) = difference-of refl refl (omega arith) in
       rw (n, t, d))
       (λ t. rw (n, t))
 
@@ -69,7 +69,7 @@ module _ (start end : ℤ) (es vs : List ℤ) (v : endsValid es ≡ none) (l : l
   view-fits f =
       let i = touched-inside start end es v in
       let t = touches start end es es es es v refl (omega arith) (omega arith) in
-      difference-fits (t .end-natural) (t .start-natural) (t .ordered) (magnitude-below (touchedBy start end es .end) f)
+      difference-fits (t .end-natural) (t .start-natural) (t .ordered) (to-nat-below (touchedBy start end es .end) f)
 
   part-is : viewAsked es vs ≡ none → record { first = touchedBy start end es .first; count = touchedBy start end es .count } ≡ slicePart (sequence es vs) start end
   unfolding slicePart sliceView
@@ -93,7 +93,7 @@ module _ (start end : ℤ) (es vs : List ℤ) (v : endsValid es ≡ none) (l : l
       sym (values-touched y)
       ∙ ap (λ (m : ℕ). take m (drop (t .first) vs)) k
       ∙ ap (λ (xs : List ℤ). take (t .count) (drop (t .first) xs)) (sym (values-runs es vs l))
-      ∙ sym (values-clipped (magnitude (t .start)) (magnitude (t .end)) (take (t .count) (drop (t .first) (runsOf es vs))) ∙ values-part (t .count) (t .first) (runsOf es vs))
+      ∙ sym (values-clipped (toNat (t .start)) (toNat (t .end)) (take (t .count) (drop (t .first) (runsOf es vs))) ∙ values-part (t .count) (t .first) (runsOf es vs))
       ∙ ap valuesOf (cut-touched start end es vs v l)
 
 pub part-refused : (start end : ℤ) (es vs : List ℤ) {r : PaperRefusal} → viewAsked es vs ≡ some r → PartOf (record { first = 0; count = 0 }) (slicePart (sequence es vs) start end) vs

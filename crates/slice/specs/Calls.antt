@@ -13,7 +13,7 @@ use Rattle.column.specs.Asking.{firstNo, _otherwise_}
 use Rattle.column.specs.Lists.{part}
 use Rattle.column.specs.Paper.{Outcome, answers, refuses, paper}
 use Rattle.column.specs.Questions.{paired, endsValid, sequenceAsked}
-use Rattle.column.specs.Runs.{Sequence, Runs, magnitude, runs, lengthOf}
+use Rattle.column.specs.Runs.{Sequence, Runs, toNat, runs, lengthOf}
 use Rattle.slice.specs.declared.Part.{Part}
 use Rattle.slice.specs.declared.View.{View}
 use Rattle.slice.specs.declared.Viewed.{Viewed}
@@ -44,8 +44,8 @@ cut s e (r ∷ rs) =
 -- "clamps start up to 0 and end down to the length; empty if start ≥ end .. not merged"
 unfoldable pub sliceRuns : ℤ → ℤ → Runs → Runs
 sliceRuns start end rs =
-    let s = magnitude start in
-    let e = min (magnitude end) (lengthOf rs) in
+    let s = toNat start in
+    let e = min (toNat end) (lengthOf rs) in
     cond (ltb s e) (cut s e rs) []
 
 -- a part of a sequence, from start up to end: "It needs exactly its runs"
@@ -66,8 +66,8 @@ firstEndAbove p es = firstWhere (λ e. ltZ p e) es
 -- "first run, start and length (all 0 for none)"
 unfoldable pub viewOf : Sequence → ℤ → ℤ → View
 viewOf s start end =
-    let x = magnitude start in
-    let y = min (magnitude end) (lengthOf (runs s)) in
+    let x = toNat start in
+    let y = min (toNat end) (lengthOf (runs s)) in
     cond (ltb x y) (record { first = firstEndAbove (pos x) (s .ends); start = pos x; length = pos (y - x) }) (record { first = 0; start = pos 0; length = pos 0 })
 
 -- "One answers first run, start and length .. or the refusal"

@@ -5,16 +5,13 @@ use mathlib.Core.Option.{none}
 use mathlib.Core.Path.{_≡_}
 use lib.IntN.{ℤ, pos}
 use lib.ListN.{length, getD, take, drop}
-use Rattle.column.specs.Flat.{flatOffsets, flatEnds, flatValues}
-use Rattle.column.specs.Lists.{total}
 use Rattle.column.specs.Questions.{endsValid}
-use Rattle.column.specs.Runs.{Run, Runs, magnitude, over, lengthOfEnds}
+use Rattle.column.specs.Runs.{Run, Runs, toNat, lengthOfEnds}
 use Rattle.slice.specs.Calls.{firstWhere, firstEndAbove}
 use Rattle.slice.specs.declared.search.TouchedRuns.{TouchedRuns}
 use mathlib.Core.Bool.{cond}
 use lib.Signed.{leZ}
 use lib.Dec.{ltb}
-use Rattle.column.specs.Lent.{Lent, given, after}
 
 -- the lowest index of an end at or above a position, or how many ends there are
 unfoldable pub firstEndAtLeast : ℤ → List ℤ → ℕ
@@ -23,8 +20,8 @@ firstEndAtLeast p es = firstWhere (λ e. leZ p e) es
 -- the first touched run and how many there are, of valid ends, and where the slice begins and ends; all 0 where it is empty
 unfoldable pub touchedBy : ℤ → ℤ → List ℤ → TouchedRuns
 touchedBy start end es =
-    let x = magnitude start in
-    let y = min (magnitude end) (magnitude (lengthOfEnds es)) in
+    let x = toNat start in
+    let y = min (toNat end) (toNat (lengthOfEnds es)) in
     let first = firstEndAbove (pos x) es in
     cond (ltb x y)
     (record { first = first; count = firstEndAtLeast (pos y) (drop first es) + 1; start = pos x; end = pos y })
@@ -42,27 +39,16 @@ clipped x y r = record { end = min (r .end) y - x; value = r .value }
 
 -- the touched runs, as they stand in the slice
 unfoldable pub cutRuns : TouchedRuns → Runs → Runs
-cutRuns t rs = map (clipped (magnitude (t .start)) (magnitude (t .end))) (take (t .count) (drop (t .first) rs))
+cutRuns t rs = map (clipped (toNat (t .start)) (toNat (t .end))) (take (t .count) (drop (t .first) rs))
 
 -- they are inside the sequence and end above the slice's start, and there is room for them
 pub record Touches (t : TouchedRuns) (es vs e v : List ℤ) : Type 0 where
   pub paired : length es ≡ length vs
   pub inside : t .first + t .count ≤ length es
-  pub start-natural : t .start ≡ pos (magnitude (t .start))
-  pub end-natural : t .end ≡ pos (magnitude (t .end))
-  pub ordered : magnitude (t .start) ≤ magnitude (t .end)
-  pub naturals : (i : ℕ) → i < length es → getD es i (pos 0) ≡ pos (magnitude (getD es i (pos 0)))
-  pub above : (i : ℕ) → i < t .count → magnitude (t .start) ≤ magnitude (getD es (t .first + i) (pos 0))
+  pub start-natural : t .start ≡ pos (toNat (t .start))
+  pub end-natural : t .end ≡ pos (toNat (t .end))
+  pub ordered : toNat (t .start) ≤ toNat (t .end)
+  pub naturals : (i : ℕ) → i < length es → getD es i (pos 0) ≡ pos (toNat (getD es i (pos 0)))
+  pub above : (i : ℕ) → i < t .count → toNat (t .start) ≤ toNat (getD es (t .first + i) (pos 0))
   pub room-ends : t .count ≤ length e
   pub room-values : t .count ≤ length v
-
--- sequences laid flat, written into the front of three buffers, each before and after, and how many runs they have
-pub record FilledFlat (cs : List Runs) (x x′ : List ℕ) (e e′ v v′ : List ℤ) (n : ℕ) : Type 0 where
-  pub count : n ≡ total (map length cs)
-  pub offsets : x′ ≡ over (flatOffsets cs) x
-  pub ends : e′ ≡ over (flatEnds cs) e
-  pub values : v′ ≡ over (flatValues cs) v
-
--- of the buffers that a call is lent
-abbrev pub FillsFlat : List Runs → Lent ℕ → Lent ℤ → Lent ℤ → ℕ → Type 0
-FillsFlat cs x e v n = FilledFlat cs (given x) (after x) (given e) (after e) (given v) (after v) n

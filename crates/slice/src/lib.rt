@@ -133,20 +133,3 @@ pub fn slice_view_values<'e, 'v>(
     let last = first + part.count;
     &values[first..last]
 }
-
-// 12, of buffers for offsets, ends and values.
-pub fn ask_flat_room(
-    offsets: usize,
-    runs: usize,
-    out_offsets: usize,
-    out_ends: usize,
-    out_values: usize,
-) -> Asked
-    ensures { λ r. ⌜ shownAsked r ≡ room (offsets ∷ both runs) («out_offsets» ∷ «out_ends» ∷ «out_values» ∷ []) ⌝ }
-{
-    let runs_fit = questions::first_no(
-        questions::ask_room(1, runs, out_ends),
-        questions::ask_room(2, runs, out_values),
-    );
-    questions::first_no(questions::ask_room(0, offsets, out_offsets), runs_fit)
-}

@@ -17,7 +17,7 @@ pub fn first_end_above(ends: &[i64], position: i64) -> usize
     if position < 0 {
         return 0;
     }
-    let place = sequence::magnitude(position);
+    let place = sequence::to_nat(position);
     let mut low: usize = 0;
     let mut size = ends.len();
     while 0 < size {

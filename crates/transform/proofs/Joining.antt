@@ -16,10 +16,10 @@ use Rattle.num.proofs.Saturated.{saturated-add}
 use Rattle.num.proofs.Tests.{by-test}
 use Rattle.column.specs.declared.inner.Writer.{Writer}
 use Rattle.column.specs.Asking.{Question, firstNo}
-use Rattle.column.specs.Flat.{flat, sequencesFrom, columns, flatAsked}
-use Rattle.column.specs.Lists.{total, part, parts}
+use Rattle.column.specs.Flat.{flat, sequencesOf, columns, flatAsked}
+use Rattle.column.specs.Lists.{total, part, parts, partsFrom}
 use Rattle.column.specs.Questions.{paired, endsValid, rise, startAndRise, fits, room, both}
-use Rattle.column.specs.Runs.{Runs, magnitude, runsOf, runs, lengthOfEnds, lastEnd, lengthOf, denseFrom, dense, encode, encodeFrom, Filled}
+use Rattle.column.specs.Runs.{Runs, toNat, runsOf, runs, lengthOfEnds, lastEnd, lengthOf, denseFrom, dense, encode, encodeFrom, Filled}
 use Rattle.column.specs.Workers.{Merging, pushAll, moved, Behind, Movable, Appendable, Appended}
 use Rattle.column.proofs.Appending.{push-few, push-shown, length-moved}
 use Rattle.column.proofs.Dense.{length-dense}
@@ -39,23 +39,23 @@ use Rattle.transform.specs.Workers.{Joinable}
 -- ---- the columns from the k-th on
 
 unfoldable pub columnsAt : ℕ → List ℕ → List ℤ → List ℤ → List Runs
-columnsAt k os es vs = map runs (sequencesFrom (getD os k 0) (drop (k + 1) os) es vs)
+columnsAt k os es vs = map runs (sequencesOf (partsFrom (getD os k 0) (drop (k + 1) os) es) (partsFrom (getD os k 0) (drop (k + 1) os) vs))
 
 columns-start : (os : List ℕ) (es vs : List ℤ) → columns (flat os es vs) ≡ columnsAt 0 os es vs
-unfolding columns columnsAt sequencesFrom
+unfolding columns columnsAt sequencesOf partsFrom
 columns-start [] es vs = refl
 columns-start (o ∷ os) es vs = refl
 
 module _ (k : ℕ) (os : List ℕ) (es vs : List ℤ) where
   columns-cons : k + 1 < length os
       → columnsAt k os es vs ≡ runsOf (part (getD os k 0) (getD os (k + 1) 0) es) (part (getD os k 0) (getD os (k + 1) 0) vs) ∷ columnsAt (k + 1) os es vs
-  unfolding columnsAt sequencesFrom
+  unfolding columnsAt sequencesOf partsFrom
   columns-cons h =
       let m : k + 1 + 1 ≡ suc (k + 1) = omega arith in
-      ap (λ (l : List ℕ). map runs (sequencesFrom (getD os k 0) l es vs)) (drop-cons os (k + 1) 0 h) ∙ rw m
+      ap (λ (l : List ℕ). map runs (sequencesOf (partsFrom (getD os k 0) l es) (partsFrom (getD os k 0) l vs))) (drop-cons os (k + 1) 0 h) ∙ rw m
 
   columns-end : length os ≤ k + 1 → columnsAt k os es vs ≡ []
-  unfolding columnsAt sequencesFrom
+  unfolding columnsAt sequencesOf partsFrom
   columns-end h = rw (drop-of-length-le os {i = k + 1} h)
 
 -- no more runs than positions
@@ -87,8 +87,8 @@ module _ (os : List ℕ) (es vs e₀ v₀ : List ℤ) where
     pub within : k < length os
 
   -- no ends: nothing is written
-  none-shown : (a : ℕ) (ps : List ℕ) → length es ≡ 0 → shown (map runs (sequencesFrom a ps es vs)) ≡ []
-  unfolding shown sequencesFrom dense denseFrom runsOf
+  none-shown : (a : ℕ) (ps : List ℕ) → length es ≡ 0 → shown (map runs (sequencesOf (partsFrom a ps es) (partsFrom a ps vs))) ≡ []
+  unfolding shown sequencesOf partsFrom dense denseFrom runsOf
   none-shown a [] z = refl
   none-shown a (b ∷ ps) z = rw (part-past a b es (omega arith)) (none-shown b ps z)
 
@@ -136,8 +136,8 @@ module _ (os : List ℕ) (es vs e₀ v₀ : List ℤ) where
         next-fits : length (i .xs) + lengthOf (runsOf pe pv) + total (map lengthOf (columnsAt (k + 1) os es vs)) < 2 ^ 63
         next-fits = omega (arith, rw next-column at (i .fitting))
 
-        next-size : {x : ℤ} → x ≡ lengthOfEnds pe → magnitude x ≡ lengthOf (runsOf pe pv)
-        next-size ex = ap magnitude (ex ∙ length-of-ends pe pv next-valid next-paired)
+        next-size : {x : ℤ} → x ≡ lengthOfEnds pe → toNat x ≡ lengthOf (runsOf pe pv)
+        next-size ex = ap toNat (ex ∙ length-of-ends pe pv next-valid next-paired)
 
         join-movable : Movable 0 offset pe pv
         unfolding lengthOfEnds
@@ -162,10 +162,10 @@ module _ (os : List ℕ) (es vs e₀ v₀ : List ℤ) where
         pub join-appendable : Appendable 0 offset pe pv e v w
         join-appendable = record { movable = join-movable; done = encode (i .xs); first = getD vs 0 (pos 0); e₀ = e₀; v₀ = v₀; behind = join-behind }
 
-        pub join-fits : {x : ℤ} {n : ℕ} → n ≡ magnitude x → x ≡ lengthOfEnds pe → offset + n < 2 ^ 64
+        pub join-fits : {x : ℤ} {n : ℕ} → n ≡ toNat x → x ≡ lengthOfEnds pe → offset + n < 2 ^ 64
         join-fits en ex = omega (arith, en, next-size ex, next-fits, i .so-far)
 
-        pub join-next : {e′ v′ : List ℤ} {next : Writer} {x : ℤ} {n : ℕ} → Appended 0 offset pe pv e e′ v v′ w next → n ≡ magnitude x → x ≡ lengthOfEnds pe
+        pub join-next : {e′ v′ : List ℤ} {next : Writer} {x : ℤ} {n : ℕ} → Appended 0 offset pe pv e e′ v v′ w next → n ≡ toNat x → x ≡ lengthOfEnds pe
             → Joining e′ v′ next (offset + n) (k + 1)
         unfolding shown dense
         join-next {e′} {v′} {next} a en ex =
@@ -199,7 +199,7 @@ module _ (os : List ℕ) (es vs e₀ v₀ : List ℤ) where
 -- ---- the sum of the lengths, by the ends
 
 abbrev lengths : List (List ℤ) → List ℕ
-lengths ess = map (λ (es : List ℤ). magnitude (lengthOfEnds es)) ess
+lengths ess = map (λ (es : List ℤ). toNat (lengthOfEnds es)) ess
 
 module _ (os : List ℕ) (es : List ℤ) where
   -- n so far
@@ -211,7 +211,7 @@ module _ (os : List ℕ) (es : List ℤ) where
   total-start = record { whole = rw (parts-start os es) (omega arith); small = omega arith }
 
   module _ {n k : ℕ} (t : Totalling n k) where
-    pub total-next : {pe : List ℤ} {x : ℤ} {m n′ : ℕ} → k + 1 < length os → n′ ≡ saturated (n + m) → m ≡ magnitude x → x ≡ lengthOfEnds pe
+    pub total-next : {pe : List ℤ} {x : ℤ} {m n′ : ℕ} → k + 1 < length os → n′ ≡ saturated (n + m) → m ≡ toNat x → x ≡ lengthOfEnds pe
         → pe ≡ part (getD os k 0) (getD os (k + 1) 0) es → Totalling n′ (k + 1)
     total-next {m = m} h en em ex ep =
         let rest = total (lengths (partsAt (k + 1) os es)) in
@@ -235,7 +235,7 @@ fits-saturated n =
 module _ (os : List ℕ) (es vs : List ℤ) where
   total-columns : length es ≡ length vs → AllValid (parts os es) → total (lengths (parts os es)) ≡ total (map lengthOf (columns (flat os es vs)))
   total-columns l v =
-      ap total (sym (columns-by-ends lengthOf (λ (x : List ℤ). magnitude (lengthOfEnds x)) (λ x y u p. sym (ap magnitude (length-of-ends x y u p))) os es vs l v))
+      ap total (sym (columns-by-ends lengthOf (λ (x : List ℤ). toNat (lengthOfEnds x)) (λ x y u p. sym (ap toNat (length-of-ends x y u p))) os es vs l v))
 
   pub concat-asked : (e v : ℕ) {r a b c d : Question} {n : ℕ} → r ≡ firstNo (a ∷ b ∷ []) → a ≡ firstNo (flatAsked (flat os es vs))
       → b ≡ firstNo (c ∷ d ∷ []) → c ≡ fits n → n ≡ saturated (total (lengths (parts os es))) → d ≡ room (both (length es)) (e ∷ v ∷ [])

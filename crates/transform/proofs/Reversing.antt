@@ -9,7 +9,7 @@ use lib.IntN.{ℤ, pos}
 use lib.ListN.{length, getD, drop, set, replicate, length-append, length-set, length-drop, length-reverse, drop-of-length-le}
 use lib.Seq.{drop-cons}
 use Rattle.column.specs.Questions.{endsValid}
-use Rattle.column.specs.Runs.{Run, Runs, magnitude, endBefore, runsOf, lengthOfEnds, endsOf, valuesOf, lastEnd, lengthOf, denseFrom, dense, over, Filled}
+use Rattle.column.specs.Runs.{Run, Runs, toNat, endBefore, runsOf, lengthOfEnds, endsOf, valuesOf, lastEnd, lengthOf, denseFrom, dense, over, Filled}
 use Rattle.column.proofs.Appending.{rising-at}
 use Rattle.column.proofs.Buffer.{over-next}
 use Rattle.column.proofs.Cover.{last-end, last-above}
@@ -27,8 +27,8 @@ unfolding reverseFrom runsOf turnedFrom endsOf
 ends-turned n p [] vs l = refl
 ends-turned n p (e ∷ es) [] l = let z : ⊥ = omega arith in absurd z
 ends-turned n p (e ∷ es) (v ∷ vs) l =
-    ends-append (reverseFrom n (magnitude e) (runsOf es vs)) (record { end = n - p; value = v } ∷ [])
-    ∙ ap (λ (xs : List ℤ). xs ++ pos (n - p) ∷ []) (ends-turned n (magnitude e) es vs (omega arith))
+    ends-append (reverseFrom n (toNat e) (runsOf es vs)) (record { end = n - p; value = v } ∷ [])
+    ∙ ap (λ (xs : List ℤ). xs ++ pos (n - p) ∷ []) (ends-turned n (toNat e) es vs (omega arith))
 
 values-turned : (n p : ℕ) (es vs : List ℤ) → length es ≡ length vs → valuesOf (reverseFrom n p (runsOf es vs)) ≡ reverse vs
 unfolding reverseFrom runsOf valuesOf
@@ -36,14 +36,14 @@ values-turned n p [] [] l = refl
 values-turned n p [] (v ∷ vs) l = let z : ⊥ = omega arith in absurd z
 values-turned n p (e ∷ es) [] l = let z : ⊥ = omega arith in absurd z
 values-turned n p (e ∷ es) (v ∷ vs) l =
-    values-append (reverseFrom n (magnitude e) (runsOf es vs)) (record { end = n - p; value = v } ∷ [])
-    ∙ ap (λ (xs : List ℤ). xs ++ v ∷ []) (values-turned n (magnitude e) es vs (omega arith))
+    values-append (reverseFrom n (toNat e) (runsOf es vs)) (record { end = n - p; value = v } ∷ [])
+    ∙ ap (λ (xs : List ℤ). xs ++ v ∷ []) (values-turned n (toNat e) es vs (omega arith))
     ∙ sym (reverse-cons v vs)
 
 length-turned : (n p : ℕ) (es : List ℤ) → length (turnedFrom n p es) ≡ length es
 unfolding turnedFrom
 length-turned n p [] = refl
-length-turned n p (e ∷ es) = simp length-append (omega (arith, length-turned n (magnitude e) es))
+length-turned n p (e ∷ es) = simp length-append (omega (arith, length-turned n (toNat e) es))
 
 -- as many runs
 from-count : (n p : ℕ) (rs : Runs) → length (reverseFrom n p rs) ≡ length rs
@@ -66,7 +66,7 @@ pub reversed-filled : (es vs : List ℤ) {e₀ e v₀ v : List ℤ} → endsVali
 unfolding reverseRuns
 reversed-filled es vs {e₀ = e₀} {v₀ = v₀} valid l he hv =
     let n = lengthOf (runsOf es vs) in
-    let m : magnitude (lengthOfEnds es) ≡ n = ap magnitude (length-of-ends es vs valid l) in
+    let m : toNat (lengthOfEnds es) ≡ n = ap toNat (length-of-ends es vs valid l) in
     let t = ends-turned n 0 es vs l in
     record {
       count = sym (sym (length-ends (reverseFrom n 0 (runsOf es vs))) ∙ ap length t ∙ length-turned n 0 es);
@@ -78,7 +78,7 @@ reversed-filled es vs {e₀ = e₀} {v₀ = v₀} valid l he hv =
 
 module _ (es e₀ : List ℤ) where
   abbrev turnedAt : ℕ → ℕ → List ℤ
-  turnedAt n i = turnedFrom n (magnitude (endBefore es i)) (drop i es)
+  turnedAt n i = turnedFrom n (toNat (endBefore es i)) (drop i es)
 
   pub record TurningEnds (n : ℕ) (e : List ℤ) (t : ℕ) : Type 0 where
     pub within : t < length es
@@ -89,26 +89,26 @@ module _ (es e₀ : List ℤ) where
   unfolding turnedFrom over
   ends-start n h = record { within = h; ends = rw (drop-of-length-le es {i = length es - 0} (omega arith)); long = refl }
 
-  turned-next : (n i : ℕ) → i < length es → turnedAt n i ≡ turnedAt n (suc i) ++ pos (n - magnitude (endBefore es i)) ∷ []
+  turned-next : (n i : ℕ) → i < length es → turnedAt n i ≡ turnedAt n (suc i) ++ pos (n - toNat (endBefore es i)) ∷ []
   unfolding turnedFrom
   turned-next n i h = rw (drop-cons es i (pos 0) h)
 
   module _ {n : ℕ} {e : List ℤ} {t : ℕ} (r : TurningEnds n e t) where
     -- at the run i
-    written-at : {x : ℤ} (i : ℕ) → i + t + 1 ≡ length es → length es ≤ length e₀ → x ≡ pos (n - magnitude (endBefore es i)) → set e t x ≡ over (turnedAt n i) e₀
+    written-at : {x : ℤ} (i : ℕ) → i + t + 1 ≡ length es → length es ≤ length e₀ → x ≡ pos (n - toNat (endBefore es i)) → set e t x ≡ over (turnedAt n i) e₀
     written-at i h room ex =
         let now : length es - t ≡ suc i = omega arith in
-        let c : length (turnedAt n (suc i)) ≡ t = length-turned n (magnitude (getD es i (pos 0))) (drop (suc i) es) ∙ length-drop (suc i) es ∙ (let z : length es - suc i ≡ t = omega arith in z) in
-        rw (turned-next n i (omega arith), ex, r .ends, now) (over-next (turnedAt n (suc i)) e₀ t (pos (n - magnitude (endBefore es i))) (sym c) (omega arith))
+        let c : length (turnedAt n (suc i)) ≡ t = length-turned n (toNat (getD es i (pos 0))) (drop (suc i) es) ∙ length-drop (suc i) es ∙ (let z : length es - suc i ≡ t = omega arith in z) in
+        rw (turned-next n i (omega arith), ex, r .ends, now) (over-next (turnedAt n (suc i)) e₀ t (pos (n - toNat (endBefore es i))) (sym c) (omega arith))
 
     -- before the run at j + 1
-    pub ends-more : {x : ℤ} (j : ℕ) → x ≡ pos (n - magnitude (getD es j (pos 0))) → length es ≤ length e₀ → j + t + 2 ≡ length es → TurningEnds n (set e t x) (t + 1)
+    pub ends-more : {x : ℤ} (j : ℕ) → x ≡ pos (n - toNat (getD es j (pos 0))) → length es ≤ length e₀ → j + t + 2 ≡ length es → TurningEnds n (set e t x) (t + 1)
     ends-more j ex room h =
         let later : length es - (t + 1) ≡ suc j = omega arith in
         record { within = omega arith; ends = rw later (written-at (suc j) (omega arith) room ex); long = rw length-set (r .long) }
 
     -- and at the first run
-    pub ends-end : {x : ℤ} {k : ℕ} → x ≡ pos n → length es ≤ length e₀ → k ≡ t → t + 1 ≡ length es → n ≡ magnitude (lengthOfEnds es) → set e k x ≡ over (turnedEnds es) e₀
+    pub ends-end : {x : ℤ} {k : ℕ} → x ≡ pos n → length es ≤ length e₀ → k ≡ t → t + 1 ≡ length es → n ≡ toNat (lengthOfEnds es) → set e k x ≡ over (turnedEnds es) e₀
     ends-end ex room hk h l =
         let z : n - 0 ≡ n = omega arith in
         rw (hk, ← l) (written-at 0 (omega arith) room (rw z ex))
@@ -145,11 +145,11 @@ module _ (vs v₀ : List ℤ) where
 
 module _ (es : List ℤ) (valid : endsValid es ≡ none) where
   -- the last is the length
-  pub length-read : 0 < length es → getD es (length es - 1) (pos 0) ≡ pos (magnitude (lengthOfEnds es))
-  length-read h = sym (length-last es (λ z. let f : ⊥ = omega arith in f)) ∙ (let k = length-of-ends es es valid refl in k ∙ ap pos (sym (ap magnitude k)))
+  pub length-read : 0 < length es → getD es (length es - 1) (pos 0) ≡ pos (toNat (lengthOfEnds es))
+  length-read h = sym (length-last es (λ z. let f : ⊥ = omega arith in f)) ∙ (let k = length-of-ends es es valid refl in k ∙ ap pos (sym (ap toNat k)))
 
   -- and each is a natural number up to that
-  pub end-read : {i : ℕ} {x : ℤ} → x ≡ getD es i (pos 0) → i < length es → (x ≡ pos (magnitude (getD es i (pos 0)))) × (magnitude (getD es i (pos 0)) ≤ magnitude (lengthOfEnds es))
+  pub end-read : {i : ℕ} {x : ℤ} → x ≡ getD es i (pos 0) → i < length es → (x ≡ pos (toNat (getD es i (pos 0)))) × (toNat (getD es i (pos 0)) ≤ toNat (lengthOfEnds es))
   unfolding lengthOfEnds
   end-read {i} ex h = let k = rising-at 0 es i (rising es valid) h in (ex ∙ k .0, k .2)
 

@@ -7,7 +7,7 @@ use lib.IntN.{ℤ, pos}
 use lib.ListN.{length}
 use Rattle.column.specs.Flat.{Flat, columns, offsetsFlat, endsFlat}
 use Rattle.column.specs.Lists.{total}
-use Rattle.column.specs.Runs.{magnitude, lengthOf, lengthOfEnds}
+use Rattle.column.specs.Runs.{toNat, lengthOf, lengthOfEnds}
 
 -- every question of concat answered "yes"
 pub record Joinable (f : Flat) (e v : List ℤ) : Type 0 where
@@ -23,7 +23,7 @@ pub record Joinable (f : Flat) (e v : List ℤ) : Type 0 where
 -- how far it is from the start of each run to n, the last run first, the first of them from p on
 unfoldable pub turnedFrom : ℕ → ℕ → List ℤ → List ℤ
 turnedFrom n p [] = []
-turnedFrom n p (e ∷ es) = turnedFrom n (magnitude e) es ++ pos (n - p) ∷ []
+turnedFrom n p (e ∷ es) = turnedFrom n (toNat e) es ++ pos (n - p) ∷ []
 
 abbrev pub turnedEnds : List ℤ → List ℤ
-turnedEnds es = turnedFrom (magnitude (lengthOfEnds es)) 0 es
+turnedEnds es = turnedFrom (toNat (lengthOfEnds es)) 0 es

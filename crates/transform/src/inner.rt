@@ -37,7 +37,7 @@ pub fn concat(
         let part = sequence::part(ends, from, to);
         let shown = sequence::part(values, from, to);
         writer = column::inner::append_merged(writer, part, shown, 0, offset, out_ends, out_values);
-        offset += sequence::magnitude(sequence::length(part));
+        offset += sequence::to_nat(sequence::length(part));
         k += 1;
     }
     writer.at + 1

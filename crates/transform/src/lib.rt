@@ -10,13 +10,13 @@ ghost use Rattle.column.specs.Asking.{shownAsked};
 ghost use Rattle.column.specs.Flat.{givenFlat};
 ghost use Rattle.column.specs.Lists.{total, parts};
 ghost use Rattle.column.specs.Paper.{WritesRuns};
-ghost use Rattle.column.specs.Runs.{magnitude, lengthOfEnds, givenSequence};
+ghost use Rattle.column.specs.Runs.{toNat, lengthOfEnds, givenSequence};
 ghost use Rattle.transform.specs.Calls as calls;
 ghost use Rattle.column.specs.Lent.{given};
 
 // The lengths of all sequences together; at most usize::MAX is told.
 fn total_length(offsets: &[usize], ends: &[i64]) -> usize
-    ensures { λ r. ⌜ r ≡ saturated (total (map (λ es. magnitude (lengthOfEnds es)) (parts (given offsets) (given ends)))) ⌝ }
+    ensures { λ r. ⌜ r ≡ saturated (total (map (λ es. toNat (lengthOfEnds es)) (parts (given offsets) (given ends)))) ⌝ }
 {
     let mut total: usize = 0;
     let mut k = 0;
@@ -24,7 +24,7 @@ fn total_length(offsets: &[usize], ends: &[i64]) -> usize
         let from = offsets[k];
         let to = offsets[k + 1];
         let length = sequence::length(sequence::part(ends, from, to));
-        total = num::saturating_add(total, sequence::magnitude(length));
+        total = num::saturating_add(total, sequence::to_nat(length));
         k += 1;
     }
     total

@@ -10,7 +10,7 @@ use lib.ListN.{length, getD}
 use Rattle.column.specs.declared.answer.Fill.{Fill}
 use Rattle.column.specs.declared.answer.Fill.the-variants.{Value}
 use Rattle.column.specs.Combine.{Column, many, valueOf, valueAt, greatestLength, folded, rowAt, table, combined}
-use Rattle.column.specs.Flat.{flat, sequencesFrom, columns}
+use Rattle.column.specs.Flat.{flat, sequencesOf, columns}
 use Rattle.column.specs.Lists.{total, part, partsFrom, parts}
 use Rattle.column.specs.Questions.{sequencesValid}
 use Rattle.column.specs.Runs.{Runs, runs, encode, Filled}
@@ -30,8 +30,8 @@ module _ (os : List ℕ) (es vs : List ℤ) (l : length es ≡ length vs) (v : s
   ends-many = map-map (λ (c : Column). endsIn (c .runs)) (λ (c : Runs). record { fill = fill; runs = c }) (columns (flat os es vs)) ∙ ends-columns os es vs l v
 
 values-from : (fill : Fill) (a : ℕ) (os : List ℕ) (es vs : List ℤ) (is : List ℕ) → length es ≡ length vs
-    → valuesFor (many fill (map runs (sequencesFrom a os es vs))) is ≡ valuesAt is (partsFrom a os vs) (valueOf fill)
-unfolding sequencesFrom partsFrom
+    → valuesFor (many fill (map runs (sequencesOf (partsFrom a os es) (partsFrom a os vs)))) is ≡ valuesAt is (partsFrom a os vs) (valueOf fill)
+unfolding sequencesOf partsFrom
 values-from fill a [] es vs [] l = refl
 values-from fill a [] es vs (i ∷ is) l = refl
 values-from fill a (b ∷ os) es vs [] l = refl

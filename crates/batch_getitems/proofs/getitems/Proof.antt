@@ -5,9 +5,9 @@ use denote.Ref.{now}
 use lib.ListN.{length}
 use Rattle.column.specs.Asking.{shownAsked}
 use Rattle.column.proofs.Promised.{asked-yes, asked-no}
-use Rattle.slice.proofs.Items.{flat-written, flat-refused}
+use Rattle.column.proofs.Laying.{flat-written, flat-refused}
 use Rattle.batch.specs.Batch.{batch}
-use Rattle.batch.proofs.Slices.{items-many}
+use Rattle.batch_intervals.proofs.Slices.{items-many}
 use Rattle.batch_getitems.specs.Calls.{getitemsAsked, getitems}
 use Rattle.batch_getitems.proofs.Asks.{items-told, roomAsked, room-asked, first-refused, then-room, gettable}
 use borrow.Author.Needs.{needs}

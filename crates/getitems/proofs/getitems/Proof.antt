@@ -9,7 +9,7 @@ use Rattle.column.proofs.Promised.{asked-yes, asked-no}
 use Rattle.getitems.specs.Calls.{getitemsAsked, getitems}
 use Rattle.getitems.proofs.Asks.{getitems-yes}
 use Rattle.getitems.proofs.Items.{length-items}
-use Rattle.slice.proofs.Items.{flat-written, flat-refused}
+use Rattle.column.proofs.Laying.{flat-written, flat-refused}
 use borrow.Author.Needs.{needs}
 use Rattle.getitems.proofs.getitems.Statement.{statement}
 use Rattle.getitems.proofs.getitems.Tie as tie

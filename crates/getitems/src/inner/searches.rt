@@ -16,8 +16,8 @@ pub const BLOCK: usize = 16;
 fn place(ends: &[i64], position: i64, back: usize) -> usize
     ensures { λ r. ⌜ (r ≡ sought (given ends) back position) × (r < 2 ^ 63) ⌝ }
 {
-    let length = sequence::magnitude(sequence::length(ends));
-    let clamped = num::smaller_count(sequence::magnitude(position), length);
+    let length = sequence::to_nat(sequence::length(ends));
+    let clamped = num::smaller_count(sequence::to_nat(position), length);
     if clamped < back { 0 } else { clamped - back }
 }
 

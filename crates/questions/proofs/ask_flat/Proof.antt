@@ -1,33 +1,30 @@
-use Rattle.column.proofs.Flattened.{flat-asked}
+use Rattle.column.specs.Questions.{paired}
+use Rattle.column.proofs.FirstNo.{asks-first, asks-then}
 use borrow.Author.Needs.{needs}
 use Rattle.questions.proofs.ask_flat.Statement.{statement}
 use Rattle.questions.proofs.ask_flat.Tie as tie
 
+ask-lengths-requires : tie.Need-ask-lengths-requires
+ask-lengths-requires c κs = search needs
+
 ask-offsets-requires : tie.Need-ask-offsets-requires
 ask-offsets-requires c κs = search needs
+
+and-requires : tie.Need-and-requires
+and-requires c κs = search needs
 
 ask-sequences-requires : tie.Need-ask-sequences-requires
 ask-sequences-requires c κs = search needs
 
-first-no-requires : tie.Need-first-no-requires
-first-no-requires c κs = search needs
-
-ask-lengths-requires : tie.Need-ask-lengths-requires
-ask-lengths-requires c κs = search needs
-
-first-no-requires-2 : tie.Need-first-no-requires-2
-first-no-requires-2 c κs = search needs
+and-requires-2 : tie.Need-and-requires-2
+and-requires-2 c κs = search needs
 
 returns : tie.Need-returns
-returns c = flat-asked _ _ _ (c .first-no2 .ensures) (c .before .ask-lengths .ensures) (c .before .before .first-no .ensures) (c .before .before .before .before .ask-offsets .ensures) (c .before .before .before .ask-sequences .ensures)
+unfolding paired
+returns c = let offsets = c .before .before in
+    let lengths = offsets .before .before in
+    let asked = asks-then (asks-first (lengths .ask-lengths .ensures)) (offsets .and .ensures) (λ y. offsets .before .ask-offsets .ensures) in
+    asks-then asked (c .and2 .ensures) (λ y. c .before .ask-sequences .ensures) .told
 
 pub ask-flat-spec : {M : Type 1} → statement M
-ask-flat-spec =
-    tie.close
-    (tie.spec
-    ask-offsets-requires
-    ask-sequences-requires
-    first-no-requires
-    ask-lengths-requires
-    first-no-requires-2
-    returns)
+ask-flat-spec = tie.close (tie.spec ask-lengths-requires ask-offsets-requires and-requires ask-sequences-requires and-requires-2 returns)

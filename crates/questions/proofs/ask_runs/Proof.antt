@@ -1,7 +1,7 @@
 use Prim.Native.Nat.{_≤_, _<_, _-_, _^_}
 use mir.Syntax.{w64}
 use mir.Val.{SFits}
-use Rattle.column.proofs.Naturals.{magnitude-cast, magnitude-nat, magnitude-below}
+use Rattle.column.proofs.Naturals.{to-nat-cast, to-nat-abs, to-nat-below}
 use native.Mathlib.Omega.{arith}
 use mathlib.Core.Path.{_≡_, refl, sym, _∙_}
 use lib.ListN.{length, getD, drop}
@@ -38,13 +38,13 @@ returns c = let l = c .before .before .before .before in let e = back (getD (now
 cast-next : tie.Need-cast-next Inv-loop μ-loop
 cast-next c = let l = c .before .before .before in
     let z = getD (now (l .before .args .runs)) (l .loop .i) (pos 0) in
-    magnitude-cast z (record { sfits = c .before .run .given }) (rw (back z (c .before .run .given)) at (c .if1 .left))
+    to-nat-cast z (record { sfits = c .before .run .given }) (rw (back z (c .before .run .given)) at (c .if1 .left))
 
 add-next : tie.Need-add-next Inv-loop μ-loop
 add-next c = let l = c .before .before .before in
     let z = getD (now (l .before .args .runs)) (l .loop .i) (pos 0) in
     let f : SFits w64 z = record { sfits = c .before .run .given } in
-    rw (magnitude-nat z f (rw (back z (f .sfits)) at (c .if1 .left))) (record { fits = omega (arith, magnitude-below z f, l .loop .inv .1) })
+    rw (to-nat-abs z f (rw (back z (f .sfits)) at (c .if1 .left))) (record { fits = omega (arith, to-nat-below z f, l .loop .inv .1) })
 
 no-requires-2 : tie.Need-no-requires-2 Inv-loop μ-loop
 no-requires-2 c κs = search needs
@@ -54,7 +54,7 @@ returns-2 c = let l = c .before .before .before .before .before in
     let z = getD (now (l .before .args .runs)) (l .loop .i) (pos 0) in
     let f : SFits w64 z = record { sfits = c .before .before .before .run .given } in
     let t = rw (back z (f .sfits)) at (c .before .before .if1 .left) in
-    c .no2 .ensures ∙ sym (l .loop .inv .2 ∙ runs-overflow _ _ _ (c .before .before .before .before .loop-test .taken) t (rw (magnitude-nat z f t) at (c .before .if2 .taken)))
+    c .no2 .ensures ∙ sym (l .loop .inv .2 ∙ runs-overflow _ _ _ (c .before .before .before .before .loop-test .taken) t (rw (to-nat-abs z f t) at (c .before .if2 .taken)))
 
 add-i : tie.Need-add-i Inv-loop μ-loop
 add-i c = search needs
@@ -67,8 +67,8 @@ loop-again c = let l = c .before .before .before .before in
     let z = getD (now (l .before .args .runs)) (l .loop .i) (pos 0) in
     let f : SFits w64 z = record { sfits = c .before .before .run .given } in
     let t = rw (back z (f .sfits)) at (c .before .if1 .left) in
-    let k = rw (magnitude-nat z f t) at (c .if2 .left) in
-    rw (magnitude-nat z f t) (omega (arith, c .before .before .before .loop-test .taken), k, l .loop .inv .2 ∙ runs-next _ _ _ (c .before .before .before .loop-test .taken) t k)
+    let k = rw (to-nat-abs z f t) at (c .if2 .left) in
+    rw (to-nat-abs z f t) (omega (arith, c .before .before .before .loop-test .taken), k, l .loop .inv .2 ∙ runs-next _ _ _ (c .before .before .before .loop-test .taken) t k)
 
 returns-3 : tie.Need-returns-3 Inv-loop μ-loop
 returns-3 c = sym (c .before .loop .inv .2 ∙ runs-end _ _ _ (c .loop-test .left))

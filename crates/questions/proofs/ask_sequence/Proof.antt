@@ -10,13 +10,12 @@ ask-lengths-requires c κs = search needs
 ask-ends-requires : tie.Need-ask-ends-requires
 ask-ends-requires c κs = search needs
 
-first-no-requires : tie.Need-first-no-requires
-first-no-requires c κs = search needs
+and-requires : tie.Need-and-requires
+and-requires c κs = search needs
 
 returns : tie.Need-returns
 unfolding paired
-returns c = asked-last _ (c .first-no .ensures) (c .before .before .ask-lengths .ensures) (λ e. c .before .ask-ends .ensures)
+returns c = asked-last _ (c .and .ensures) (c .before .before .ask-lengths .ensures) (λ e. c .before .ask-ends .ensures)
 
 pub ask-sequence-spec : {M : Type 1} → statement M
-ask-sequence-spec =
-    tie.close (tie.spec ask-lengths-requires ask-ends-requires first-no-requires returns)
+ask-sequence-spec = tie.close (tie.spec ask-lengths-requires ask-ends-requires and-requires returns)

@@ -41,8 +41,8 @@ part-requires c κs = search needs
 length-requires : tie.Need-length-requires Inv-loop μ-loop
 length-requires c κs = search needs
 
-magnitude-requires : tie.Need-magnitude-requires Inv-loop μ-loop
-magnitude-requires c κs = search needs
+to-nat-requires : tie.Need-to-nat-requires Inv-loop μ-loop
+to-nat-requires c κs = search needs
 
 saturating-add-requires : tie.Need-saturating-add-requires Inv-loop μ-loop
 saturating-add-requires c κs = search needs
@@ -54,7 +54,7 @@ loop-less : tie.Need-loop-less Inv-loop μ-loop
 loop-less c = search needs
 
 loop-again : tie.Need-loop-again Inv-loop μ-loop
-loop-again c = let l = c .before .before .before .before .before .before .before in let t = c .before .before .before .before .before .before in (omega (arith, t .loop-test .taken), total-next _ _ (l .loop .inv .1) (t .loop-test .taken) (c .saturating-add .ensures) (c .before .magnitude .ensures) (back _ (c .before .before .length .ok) ∙ c .before .before .length .ensures) (c .before .before .before .part .ensures))
+loop-again c = let l = c .before .before .before .before .before .before .before in let t = c .before .before .before .before .before .before in (omega (arith, t .loop-test .taken), total-next _ _ (l .loop .inv .1) (t .loop-test .taken) (c .saturating-add .ensures) (c .before .to-nat .ensures) (back _ (c .before .before .length .ok) ∙ c .before .before .length .ensures) (c .before .before .before .part .ensures))
 
 returns : tie.Need-returns Inv-loop μ-loop
 returns c = total-end _ _ (c .before .loop .inv .1) (c .loop-test .left)
@@ -74,7 +74,7 @@ total-length-spec =
     shared-slice-read-to
     part-requires
     length-requires
-    magnitude-requires
+    to-nat-requires
     saturating-add-requires
     add-k
     loop-less

@@ -6,8 +6,8 @@ use Rattle.num.proofs.Bits.{back}
 use Rattle.batch_keys.specs.Workers.{Kept}
 use Rattle.batch_keys.proofs.Blocks.{kept-start}
 use Rattle.batch.specs.Batch.{batch, entries}
-use Rattle.batch.specs.Slices.{itemRuns}
-use Rattle.batch.proofs.Slices.{items-many}
+use Rattle.batch_intervals.specs.Calls.{itemRuns}
+use Rattle.batch_intervals.proofs.Slices.{items-many}
 use Rattle.batch_getitems.proofs.Keyed.{item-count, Counting, counting-start, counting-next, counting-end}
 use borrow.Author.Needs.{needs}
 use Rattle.batch_getitems.proofs.inner.count_items_by.Statement.{statement}

@@ -8,9 +8,9 @@ use Rattle.num.proofs.Bits.{back}
 use Rattle.column.specs.Runs.{Filled}
 use Rattle.batch_keys.specs.Workers.{Kept}
 use Rattle.batch_keys.proofs.Blocks.{kept-start}
-use Rattle.slice.proofs.Items.{Laying}
+use Rattle.column.proofs.Laying.{Laying}
 use Rattle.batch.specs.Batch.{batch, entries}
-use Rattle.batch.specs.Slices.{itemRuns}
+use Rattle.batch_intervals.specs.Calls.{itemRuns}
 use Rattle.batch_getitems.proofs.Keyed.{item-touches, item-filled, laid-start, laid-room, laid-next, laid-end}
 use borrow.Author.Needs.{needs}
 use Rattle.batch_getitems.proofs.inner.getitems_by.Statement.{statement}

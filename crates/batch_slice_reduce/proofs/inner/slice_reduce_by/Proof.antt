@@ -12,8 +12,8 @@ use Rattle.batch_keys.proofs.Blocks.{kept-start}
 use Rattle.reduce.specs.Calls.{reduction}
 use Rattle.reduce.proofs.Intervals.{Filling, filling-start, filling-next, filling-end}
 use Rattle.batch.specs.Batch.{batch, entries}
-use Rattle.batch.specs.Slices.{itemRuns}
-use Rattle.batch.proofs.Slices.{item-asked}
+use Rattle.batch_intervals.specs.Calls.{itemRuns}
+use Rattle.batch_intervals.proofs.Slices.{item-asked}
 use Rattle.batch_slice_reduce.proofs.Reducing.{item-reduced, reductions-many}
 use borrow.Author.Needs.{needs}
 use Rattle.batch_slice_reduce.proofs.inner.slice_reduce_by.Statement.{statement}

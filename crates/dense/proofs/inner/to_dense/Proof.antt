@@ -7,7 +7,7 @@ use lib.IntN.{ℤ, pos}
 use lib.ListN.{length, getD, take, drop, length-drop, drop-of-length-le}
 use lib.Seq.{drop-cons, take-all, length-take-le}
 use Rattle.num.proofs.Bits.{back, end-nat, end-cast}
-use Rattle.column.specs.Runs.{magnitude, runsOf, denseFrom, dense, over}
+use Rattle.column.specs.Runs.{toNat, runsOf, denseFrom, dense, over}
 use Rattle.column.proofs.Buffer.{stretched, over-stretch}
 use Rattle.column.proofs.Dense.{Stretch, stretch}
 use Rattle.column.proofs.Ends.{rising}
@@ -44,33 +44,33 @@ module _ {es vs out₀ out : List ℤ} {p r : ℕ} (n : Inv es vs out₀ out p r
 
   module _ (h : r < length es) (same : length es ≡ length vs) where
     -- the run at r, and the stretch that it shows
-    at-run : (getD es r (pos 0) ≡ pos (magnitude (getD es r (pos 0)))) × (p < magnitude (getD es r (pos 0))) × RisingEnds (magnitude (getD es r (pos 0))) (drop (r + 1) es)
+    at-run : (getD es r (pos 0) ≡ pos (toNat (getD es r (pos 0)))) × (p < toNat (getD es r (pos 0))) × RisingEnds (toNat (getD es r (pos 0))) (drop (r + 1) es)
     at-run = rw add-one (rw (drop-cons es r (pos 0)) at (n .rises))
 
-    run-stretch : Stretch (whole es vs out₀) p (magnitude (getD es r (pos 0)) - p) (getD vs r (pos 0))
-        (denseFrom (magnitude (getD es r (pos 0))) (runsOf (drop (r + 1) es) (drop (r + 1) vs)))
+    run-stretch : Stretch (whole es vs out₀) p (toNat (getD es r (pos 0)) - p) (getD vs r (pos 0))
+        (denseFrom (toNat (getD es r (pos 0))) (runsOf (drop (r + 1) es) (drop (r + 1) vs)))
     unfolding runsOf denseFrom
     run-stretch =
         stretch (whole es vs out₀) p _ _ _ (n .inside)
         (n .left ∙ rw (add-one, drop-cons es r (pos 0) h, drop-cons vs r (pos 0) (omega arith)))
 
     -- the run's end is inside the whole
-    inv-inside : magnitude (getD es r (pos 0)) ≤ length (dense (runsOf es vs))
+    inv-inside : toNat (getD es r (pos 0)) ≤ length (dense (runsOf es vs))
     unfolding whole
     inv-inside = omega (arith, run-stretch .inside, at-run .1)
 
-    inv-more : {x : ℤ} {e : ℕ} {out′ : List ℤ} → e ≡ magnitude (getD es r (pos 0)) → x ≡ getD vs r (pos 0) → length out′ ≡ length out → out′ ≡ stretched out p e x
+    inv-more : {x : ℤ} {e : ℕ} {out′ : List ℤ} → e ≡ toNat (getD es r (pos 0)) → x ≡ getD vs r (pos 0) → length out′ ≡ length out → out′ ≡ stretched out p e x
         → Inv es vs out₀ out′ e (r + 1)
     inv-more {e} ee ex el eo =
         let st = run-stretch in
-        let q : p + (magnitude (getD es r (pos 0)) - p) ≡ magnitude (getD es r (pos 0)) = omega (arith, at-run .1) in
+        let q : p + (toNat (getD es r (pos 0)) - p) ≡ toNat (getD es r (pos 0)) = omega (arith, at-run .1) in
         rw ee (record {
           within = omega arith;
           rises = at-run .2;
           inside = omega (arith, st .inside);
           left = ap (λ (k : ℕ). drop k (whole es vs out₀)) (sym q) ∙ st .back;
           written = eo ∙ rw (ee, ex, n .written)
-              (over-stretch (take p (whole es vs out₀)) out₀ p (magnitude (getD es r (pos 0))) (getD vs r (pos 0))
+              (over-stretch (take p (whole es vs out₀)) out₀ p (toNat (getD es r (pos 0))) (getD vs r (pos 0))
               (sym (length-take-le p (whole es vs out₀) (n .inside))) (omega (arith, at-run .1))
               ∙ ap (λ (l : List ℤ). over l out₀) (sym (st .front) ∙ ap (λ (k : ℕ). take k (whole es vs out₀)) q));
           long = el ∙ n .long;

@@ -10,7 +10,7 @@ use mir.Val.{toZ, SFits}
 use mir.Facts.{toZ-ofZ}
 use Rattle.num.proofs.Bits.{back}
 use Rattle.column.specs.Questions.{runByRun}
-use Rattle.column.specs.Runs.{Runs, magnitude, Filled}
+use Rattle.column.specs.Runs.{Runs, toNat, Filled}
 use Rattle.column.proofs.Merging.{fill-none}
 use Rattle.column.proofs.Naturals.{natural}
 use Rattle.column.proofs.Told.{run-natural, run-fits, runs-yes}
@@ -57,10 +57,10 @@ module _ {runs values e₀ v₀ e v : List ℤ} {end : ℤ} {n i : ℕ} (m : Inv
 
   module _ (h : i < length runs) where
     -- the run that comes next is a natural number, and the new end fits
-    inv-run : getD runs i (pos 0) ≡ pos (magnitude (getD runs i (pos 0)))
+    inv-run : getD runs i (pos 0) ≡ pos (toNat (getD runs i (pos 0)))
     inv-run = natural (getD runs i (pos 0)) (run-natural (m .p) i runs h (m .yes))
 
-    inv-sum : {run : ℤ} → run ≡ getD runs i (pos 0) → end +ℤ run ≡ pos (m .p + magnitude (getD runs i (pos 0)))
+    inv-sum : {run : ℤ} → run ≡ getD runs i (pos 0) → end +ℤ run ≡ pos (m .p + toNat (getD runs i (pos 0)))
     inv-sum er = rw (er, m .reached, inv-run)
 
     inv-fits : {run : ℤ} → run ≡ getD runs i (pos 0) → SFits w64 (end +ℤ run)
@@ -70,7 +70,7 @@ module _ {runs values e₀ v₀ e v : List ℤ} {end : ℤ} {n i : ℕ} (m : Inv
         → run ≡ getD runs i (pos 0) → value ≡ getD values i (pos 0) → end′ ≡ end +ℤ run
         → PutRun e e′ v v′ n run end′ value n′ → Inv runs values e₀ v₀ e′ v′ end′ n′ (i + 1)
     inv-more same le lv er ev ee d =
-        let k = magnitude (getD runs i (pos 0)) in
+        let k = toNat (getD runs i (pos 0)) in
         let q = ee ∙ inv-sum er in
         let f = put-filled (m .filled) (m .p) k _ (er ∙ inv-run) q d (omega (arith, m .few)) (omega (arith, m .few)) in
         record {

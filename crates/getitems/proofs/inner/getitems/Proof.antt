@@ -7,7 +7,7 @@ use lib.ListN.{getD, take, drop, length-set, length}
 use Rattle.num.proofs.Bits.{back}
 use Rattle.column.specs.Runs.{runsOf, Filled}
 use Rattle.getitems.specs.Calls.{intervalRuns}
-use Rattle.slice.proofs.Items.{Laying, laying-start, laying-room, laying-next, laying-end}
+use Rattle.column.proofs.Laying.{Laying, laying-start, laying-room, laying-next, laying-end}
 use Rattle.getitems.specs.Workers.{Kept}
 use Rattle.getitems.proofs.Items.{length-items, item-sliceable, item-filled}
 use Rattle.getitems.proofs.Searches.{kept-start}

@@ -2,7 +2,7 @@ use lib.ListN.{getD}
 use lib.IntN.{pos}
 use denote.Ref.{now}
 use Rattle.num.proofs.Bits.{end-cast, end-nat}
-use Rattle.column.proofs.Naturals.{magnitude-below}
+use Rattle.column.proofs.Naturals.{to-nat-below}
 use Rattle.column.proofs.Ends.{natural-end}
 use Rattle.plan.proofs.Step.{ahead-some, ahead-none, end-some, end-none}
 use borrow.Author.Needs.{needs}
@@ -20,7 +20,7 @@ cast-result c = let s = c .before .before in end-cast (natural-end (now (s .args
 
 returns : tie.Need-returns
 returns c = let s = c .before .before in let n = natural-end (now (s .args .ends)) (s .args .index) (s .pre) (c .before .if1 .taken) in
-    end-some _ (ahead-some (now (s .args .ends)) (s .args .index) (c .before .if1 .taken)) (end-nat n (c .end .given)) (magnitude-below (getD (now (s .args .ends)) (s .args .index) (pos 0)) (record { sfits = c .end .given }))
+    end-some _ (ahead-some (now (s .args .ends)) (s .args .index) (c .before .if1 .taken)) (end-nat n (c .end .given)) (to-nat-below (getD (now (s .args .ends)) (s .args .index) (pos 0)) (record { sfits = c .end .given }))
 
 returns-2 : tie.Need-returns-2
 returns-2 c = end-none (ahead-none _ _ (c .if1 .left))

@@ -4,7 +4,7 @@ use lib.Signed.{leZ}
 use mir.Facts.{toZ-ofZ}
 use Rattle.num.specs.Numbers.{wrap, largerOf}
 use Rattle.num.proofs.Bits.{back, told-le}
-use Rattle.column.proofs.Naturals.{magnitude-below}
+use Rattle.column.proofs.Naturals.{to-nat-below}
 use Rattle.reduce.specs.Workers.{divisorOf}
 use Rattle.reduce.proofs.Divisor.{divisor-none, divisor-some}
 use borrow.Author.Needs.{needs}
@@ -28,7 +28,7 @@ returns-2 c = let o = c .before .before in
     let m = c .before .wrapping-sub in
     back _ (c .larger .ok) ∙ c .larger .ensures
     ∙ ap (λ (z : ℤ). largerOf z (pos 0)) (back _ (m .ok) ∙ m .ensures ∙ ap₂ (λ (a b : ℤ). wrap (a -ℤ b)) (toZ-ofZ (s .fits .length) ∙ s .pre) (toZ-ofZ (s .fits .ddof)))
-    ∙ divisor-some _ (s .args .ddof) (magnitude-below _ (s .fits .length)) (s .fits .ddof) (ap (λ (z : ℤ). leZ z (s .args .ddof)) (sym (s .pre)) ∙ told-le (s .fits .length) (s .fits .ddof) (o .if1 .left))
+    ∙ divisor-some _ (s .args .ddof) (to-nat-below _ (s .fits .length)) (s .fits .ddof) (ap (λ (z : ℤ). leZ z (s .args .ddof)) (sym (s .pre)) ∙ told-le (s .fits .length) (s .fits .ddof) (o .if1 .left))
     ∙ ap (λ (z : ℤ). divisorOf z (s .args .ddof)) (sym (s .pre))
 
 pub divisor-spec : {M : Type 1} → statement M

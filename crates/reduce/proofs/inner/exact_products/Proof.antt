@@ -9,7 +9,7 @@ use mir.Facts.{toZ-ofZ}
 use mir.Syntax.{w64}
 use mir.Val.{toZ, ofZ}
 use Rattle.num.proofs.Bits.{back}
-use Rattle.column.specs.Runs.{magnitude}
+use Rattle.column.specs.Runs.{toNat}
 use Rattle.reduce.specs.Workers.{ExactProducts, ExactRun}
 use Rattle.reduce.proofs.Terms.{product-kept}
 use Rattle.reduce.proofs.Walking.{end-natural, run-fits, run-held, run-small, walked-start, walked-next, exact-next}
@@ -19,7 +19,7 @@ use Rattle.reduce.proofs.inner.exact_products.Statement.{statement}
 use Rattle.reduce.proofs.inner.exact_products.Tie as tie
 
 abbrev Inv-loop : tie.InvT-loop
-Inv-loop ends values start total₀ before₀ i₀ total before i = ExactProducts (magnitude (toZ w64 start)) ends values i (toZ w64 before) total
+Inv-loop ends values start total₀ before₀ i₀ total before i = ExactProducts (toNat (toZ w64 start)) ends values i (toZ w64 before) total
 
 abbrev μ-loop : tie.MeasureT-loop
 μ-loop ends values start total₀ before₀ i₀ total before i = length ends - i

@@ -11,7 +11,7 @@ use mir.Facts.{toZ-ofZ}
 use mir.Syntax.{w64}
 use mir.Val.{toZ, ofZ}
 use Rattle.num.proofs.Bits.{back}
-use Rattle.column.specs.Runs.{magnitude, lastFrom}
+use Rattle.column.specs.Runs.{toNat, lastFrom}
 use Rattle.reduce.specs.Workers.{WalkedSquares, ExactRun}
 use Rattle.reduce.proofs.Terms.{square-kept}
 use Rattle.reduce.proofs.Walking.{end-natural, run-fits, run-held, run-small, rising-at, walked-start, walked-next}
@@ -20,7 +20,7 @@ use Rattle.reduce.proofs.inner.exact_squares.Statement.{statement}
 use Rattle.reduce.proofs.inner.exact_squares.Tie as tie
 
 abbrev Inv-loop : tie.InvT-loop
-Inv-loop ends values start mean exact total₀ before₀ i₀ total before i = WalkedSquares mean (magnitude (toZ w64 start)) ends values i (toZ w64 before) total
+Inv-loop ends values start mean exact total₀ before₀ i₀ total before i = WalkedSquares mean (toNat (toZ w64 start)) ends values i (toZ w64 before) total
 
 abbrev μ-loop : tie.MeasureT-loop
 μ-loop ends values start mean exact total₀ before₀ i₀ total before i = exact - i
@@ -33,8 +33,8 @@ rises : (c : tie.After-end Inv-loop μ-loop) → let l = c .before .before in lt
 rises c = let n = c .before in
     let l = n .before in
     let s = l .before in
-    ap₂ ltZ (l .loop .inv .last ∙ ap (λ (z : ℤ). lastFrom (pos (magnitude z)) (take (l .loop .i) (now (s .args .ends)))) (toZ-ofZ (s .fits .start))) (back _ (c .end .given))
-    ∙ (rising-at (magnitude (s .args .start)) (now (s .args .ends)) (l .loop .i) (s .pre .1 .rising) (omega (arith, n .loop-test .taken, s .pre .1 .inside)))
+    ap₂ ltZ (l .loop .inv .last ∙ ap (λ (z : ℤ). lastFrom (pos (toNat z)) (take (l .loop .i) (now (s .args .ends)))) (toZ-ofZ (s .fits .start))) (back _ (c .end .given))
+    ∙ (rising-at (toNat (s .args .start)) (now (s .args .ends)) (l .loop .i) (s .pre .1 .rising) (omega (arith, n .loop-test .taken, s .pre .1 .inside)))
 
 exact-run : (c : tie.After-add-exact-square-arg Inv-loop μ-loop) → let l = c .before .before .before in
     ExactRun (toZ w64 (l .loop .before)) (toZ w64 (ofZ w64 (getD (now (l .before .args .ends)) (l .loop .i) (pos 0)))) (toZ w64 (ofZ w64 (getD (now (l .before .args .values)) (l .loop .i) (pos 0))))
@@ -42,7 +42,7 @@ exact-run c = let e = c .before in
     let n = e .before in
     let l = n .before in
     let s = l .before in
-    let d : toZ w64 (l .loop .before) ≡ lastFrom (pos (magnitude (s .args .start))) (take (l .loop .i) (now (s .args .ends))) = l .loop .inv .last ∙ ap (λ (z : ℤ). lastFrom (pos (magnitude z)) (take (l .loop .i) (now (s .args .ends)))) (toZ-ofZ (s .fits .start)) in
+    let d : toZ w64 (l .loop .before) ≡ lastFrom (pos (toNat (s .args .start))) (take (l .loop .i) (now (s .args .ends))) = l .loop .inv .last ∙ ap (λ (z : ℤ). lastFrom (pos (toNat z)) (take (l .loop .i) (now (s .args .ends)))) (toZ-ofZ (s .fits .start)) in
     let x = back (getD (now (s .args .ends)) (l .loop .i) (pos 0)) (e .end .given) in
     let y = back (getD (now (s .args .values)) (l .loop .i) (pos 0)) (c .add-exact-square-arg .given) in
     rw (d, x, y) (s .pre .1 .exactly (l .loop .i) (n .loop-test .taken))

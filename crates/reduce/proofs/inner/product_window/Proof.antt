@@ -11,7 +11,7 @@ use mir.Syntax.{w64}
 use mir.Val.{SFits, toZ, ofZ}
 use Rattle.num.proofs.Bits.{back}
 use Rattle.float.specs.Float.{Within}
-use Rattle.column.specs.Runs.{magnitude}
+use Rattle.column.specs.Runs.{toNat}
 use Rattle.column.proofs.Naturals.{le-lt}
 use Rattle.reduce.specs.Workers.{AllProducts, ProductsOf, Totalled, bodyOf}
 use Rattle.reduce.specs.Calls.{addProduct, plusZero}
@@ -37,7 +37,7 @@ before-back c = search needs
 
 -- all but the last run
 body : (c : tie.After-products) → let a = c .before .before .before .before .before .before .args in
-    AllProducts (magnitude (a .window .start)) (bodyOf (a .window) (now (a .ends))) (bodyOf (a .window) (now (a .values))) (c .products .result .runs) (c .products .result .end) (c .products .result .total) (c .products .result .exact)
+    AllProducts (toNat (a .window .start)) (bodyOf (a .window) (now (a .ends))) (bodyOf (a .window) (now (a .values))) (c .products .result .runs) (c .products .result .end) (c .products .result .total) (c .products .result .exact)
 body c = let o = c .before .before .before .before .before in
     let a = o .before .args in
     rw (start-back o, body-is (a .window) (now (a .ends)), body-is (a .window) (now (a .values))) at (c .products .ensures)

@@ -10,7 +10,7 @@ use mir.Facts.{toZ-ofZ}
 use mir.Syntax.{w64}
 use mir.Val.{toZ, ofZ}
 use Rattle.num.proofs.Bits.{back}
-use Rattle.column.specs.Runs.{magnitude}
+use Rattle.column.specs.Runs.{toNat}
 use Rattle.column.proofs.Naturals.{le-lt}
 use Rattle.reduce.specs.Workers.{WalkedProducts, StoppedProducts, AllProducts}
 use Rattle.reduce.proofs.Terms.{product-kept}
@@ -20,7 +20,7 @@ use Rattle.reduce.proofs.inner.products.Statement.{statement}
 use Rattle.reduce.proofs.inner.products.Tie as tie
 
 abbrev Inv-loop : tie.InvT-loop
-Inv-loop ends values start exact total₀ before₀ i₀ total before i = WalkedProducts (magnitude (toZ w64 start)) ends values i (toZ w64 before) total
+Inv-loop ends values start exact total₀ before₀ i₀ total before i = WalkedProducts (toNat (toZ w64 start)) ends values i (toZ w64 before) total
 
 abbrev μ-loop : tie.MeasureT-loop
 μ-loop ends values start exact total₀ before₀ i₀ total before i = length ends - i
@@ -41,11 +41,11 @@ before-back c = search needs
 
 -- with the exact runs
 all : (c : tie.After-struct-told Inv-loop μ-loop) → let s = c .before .before in (i : ℕ) (end : ℤ) (total : Float)
-    → StoppedProducts (magnitude (toZ w64 (ofZ w64 (s .args .start)))) (now (s .args .ends)) (now (s .args .values)) i end total
-    → AllProducts (magnitude (s .args .start)) (now (s .args .ends)) (now (s .args .values)) i end total (c .before .exact-products .result .runs)
+    → StoppedProducts (toNat (toZ w64 (ofZ w64 (s .args .start)))) (now (s .args .ends)) (now (s .args .values)) i end total
+    → AllProducts (toNat (s .args .start)) (now (s .args .ends)) (now (s .args .values)) i end total (c .before .exact-products .result .runs)
 all c i end total x = let s = c .before .before in
     let e = c .before .exact-products .ensures in
-    let x : AllProducts (magnitude (toZ w64 (ofZ w64 (s .args .start)))) (now (s .args .ends)) (now (s .args .values)) i end total (c .before .exact-products .result .runs) =
+    let x : AllProducts (toNat (toZ w64 (ofZ w64 (s .args .start)))) (now (s .args .ends)) (now (s .args .values)) i end total (c .before .exact-products .result .runs) =
     record { stopped = x; inside = e .walked .inside; exactly = e .exact } in
     rw (toZ-ofZ (s .fits .start)) at x
 

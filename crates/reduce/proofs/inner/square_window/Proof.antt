@@ -11,7 +11,7 @@ use mir.Facts.{toZ-ofZ}
 use mir.Syntax.{w64}
 use mir.Val.{SFits, toZ, ofZ}
 use Rattle.num.proofs.Bits.{back}
-use Rattle.column.specs.Runs.{magnitude}
+use Rattle.column.specs.Runs.{toNat}
 use Rattle.reduce.specs.Workers.{WalkedSquares, AroundMean, bodyOf}
 use Rattle.reduce.proofs.Terms.{square-kept}
 use Rattle.reduce.proofs.Totals.{body-is, body-long, bodies-paired, body-walked, body-rises, last-end, last-value, walked-paired, walked-inside, total-passed}
@@ -38,7 +38,7 @@ some c e = let h = c .pre .some in omega arith
 
 -- all but the last run
 body : (c : tie.After-squares) → let a = c .before .before .before .before .before .args in
-    WalkedSquares (a .mean) (magnitude (a .window .start)) (bodyOf (a .window) (now (a .ends))) (bodyOf (a .window) (now (a .values))) (length (bodyOf (a .window) (now (a .ends)))) (c .squares .result .end) (c .squares .result .total)
+    WalkedSquares (a .mean) (toNat (a .window .start)) (bodyOf (a .window) (now (a .ends))) (bodyOf (a .window) (now (a .values))) (length (bodyOf (a .window) (now (a .ends)))) (c .squares .result .end) (c .squares .result .total)
 body c = let o = c .before .before .before .before in
     let a = o .before .args in
     rw (start-back o, body-is (a .window) (now (a .ends)), body-is (a .window) (now (a .values))) at (c .squares .ensures)
@@ -92,7 +92,7 @@ squares-requires c κs = let o = c .before .before .before in
     let a = s .args in
     let p = s .pre in
     let l = body-long (a .window) (now (a .ends)) (p .window .inside) in
-    let m : AroundMean (magnitude (a .window .start)) (bodyOf (a .window) (now (a .ends))) (bodyOf (a .window) (now (a .values))) (a .mean) (a .exact) = record {
+    let m : AroundMean (toNat (a .window .start)) (bodyOf (a .window) (now (a .ends))) (bodyOf (a .window) (now (a .values))) (a .mean) (a .exact) = record {
       paired = bodies-paired _ _ _ (p .window) (some s);
       rising = body-rises _ _ _ (p .window) (some s) (p .rising) .0;
       bounded = p .bounded;

@@ -10,7 +10,7 @@ use mir.Facts.{toZ-ofZ}
 use mir.Syntax.{w64}
 use mir.Val.{toZ, ofZ}
 use Rattle.num.proofs.Bits.{back}
-use Rattle.column.specs.Runs.{magnitude, lastFrom}
+use Rattle.column.specs.Runs.{toNat, lastFrom}
 use Rattle.reduce.specs.Workers.{WalkedSquares}
 use Rattle.reduce.proofs.Terms.{square-kept}
 use Rattle.reduce.proofs.Walking.{end-natural, run-fits, run-held, run-small, rising-at, walked-next}
@@ -19,7 +19,7 @@ use Rattle.reduce.proofs.inner.squares.Statement.{statement}
 use Rattle.reduce.proofs.inner.squares.Tie as tie
 
 abbrev Inv-loop : tie.InvT-loop
-Inv-loop ends values start mean exact total₀ before₀ i₀ total before i = WalkedSquares mean (magnitude (toZ w64 start)) ends values i (toZ w64 before) total
+Inv-loop ends values start mean exact total₀ before₀ i₀ total before i = WalkedSquares mean (toNat (toZ w64 start)) ends values i (toZ w64 before) total
 
 abbrev μ-loop : tie.MeasureT-loop
 μ-loop ends values start mean exact total₀ before₀ i₀ total before i = length ends - i
@@ -32,8 +32,8 @@ rises : (c : tie.After-end Inv-loop μ-loop) → let l = c .before .before in lt
 rises c = let n = c .before in
     let l = n .before in
     let s = l .before .before .before in
-    ap₂ ltZ (l .loop .inv .last ∙ ap (λ (z : ℤ). lastFrom (pos (magnitude z)) (take (l .loop .i) (now (s .args .ends)))) (toZ-ofZ (s .fits .start))) (back _ (c .end .given))
-    ∙ (rising-at (magnitude (s .args .start)) (now (s .args .ends)) (l .loop .i) (s .pre .1 .rising) (omega (arith, n .loop-test .taken, s .pre .1 .inside)))
+    ap₂ ltZ (l .loop .inv .last ∙ ap (λ (z : ℤ). lastFrom (pos (toNat z)) (take (l .loop .i) (now (s .args .ends)))) (toZ-ofZ (s .fits .start))) (back _ (c .end .given))
+    ∙ (rising-at (toNat (s .args .start)) (now (s .args .ends)) (l .loop .i) (s .pre .1 .rising) (omega (arith, n .loop-test .taken, s .pre .1 .inside)))
 
 exact-squares-requires : tie.Need-exact-squares-requires Inv-loop μ-loop
 exact-squares-requires c κs = rw (toZ-ofZ (c .fits .start)) (c .pre)

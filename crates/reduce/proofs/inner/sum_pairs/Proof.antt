@@ -10,7 +10,7 @@ use mir.Facts.{toZ-ofZ}
 use mir.Syntax.{w64}
 use mir.Val.{toZ, ofZ}
 use Rattle.num.proofs.Bits.{back}
-use Rattle.column.specs.Runs.{magnitude}
+use Rattle.column.specs.Runs.{toNat}
 use Rattle.column.proofs.Told.{both-true}
 use Rattle.reduce.specs.Workers.{WalkedSum}
 use Rattle.reduce.proofs.Walking.{end-natural, run-fits, run-held, walked-start, walked-next}
@@ -20,7 +20,7 @@ use Rattle.reduce.proofs.inner.sum_pairs.Statement.{statement}
 use Rattle.reduce.proofs.inner.sum_pairs.Tie as tie
 
 abbrev Inv-loop : tie.InvT-loop
-Inv-loop ends values start total₀ before₀ i₀ total before i = WalkedSum (magnitude (toZ w64 start)) ends values i (toZ w64 before) (toZ w64 total)
+Inv-loop ends values start total₀ before₀ i₀ total before i = WalkedSum (toNat (toZ w64 start)) ends values i (toZ w64 before) (toZ w64 total)
 
 abbrev μ-loop : tie.MeasureT-loop
 μ-loop ends values start total₀ before₀ i₀ total before i = length ends - i
@@ -41,7 +41,7 @@ rise c = both-true _ _ (sym (c .before .both-rise .ensures) ∙ not-false _ (c .
 -- the first of the two is passed
 one : (c : tie.After-add-weight Inv-loop μ-loop) → let l = c .before .before .before .before .before .before .before in
     let s = l .before in
-    WalkedSum (magnitude (toZ w64 (ofZ w64 (s .args .start)))) (now (s .args .ends)) (now (s .args .values)) (l .loop .i + 1)
+    WalkedSum (toNat (toZ w64 (ofZ w64 (s .args .start)))) (now (s .args .ends)) (now (s .args .values)) (l .loop .i + 1)
     (toZ w64 (ofZ w64 (getD (now (s .args .ends)) (l .loop .i) (pos 0)))) (toZ w64 (ofZ w64 (c .add-weight .result)))
 one c = let o = c .before .before in
     let l = o .before .before .before .before .before in

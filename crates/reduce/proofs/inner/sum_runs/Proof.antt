@@ -9,7 +9,7 @@ use mir.Facts.{toZ-ofZ}
 use mir.Syntax.{w64}
 use mir.Val.{toZ, ofZ}
 use Rattle.num.proofs.Bits.{back}
-use Rattle.column.specs.Runs.{magnitude}
+use Rattle.column.specs.Runs.{toNat}
 use Rattle.column.proofs.Naturals.{le-lt}
 use Rattle.reduce.specs.Workers.{WalkedSum}
 use Rattle.reduce.proofs.Walking.{end-natural, run-fits, run-held, walked-next, stopped-here, stopped-end}
@@ -18,7 +18,7 @@ use Rattle.reduce.proofs.inner.sum_runs.Statement.{statement}
 use Rattle.reduce.proofs.inner.sum_runs.Tie as tie
 
 abbrev Inv-loop : tie.InvT-loop
-Inv-loop ends values start total₀ before₀ i₀ total before i = WalkedSum (magnitude (toZ w64 start)) ends values i (toZ w64 before) (toZ w64 total)
+Inv-loop ends values start total₀ before₀ i₀ total before i = WalkedSum (toNat (toZ w64 start)) ends values i (toZ w64 before) (toZ w64 total)
 
 abbrev μ-loop : tie.MeasureT-loop
 μ-loop ends values start total₀ before₀ i₀ total before i = length ends - i

@@ -9,7 +9,7 @@ use mir.Facts.{toZ-ofZ}
 use mir.Syntax.{w64}
 use mir.Val.{SFits, toZ, ofZ}
 use Rattle.num.proofs.Bits.{back}
-use Rattle.column.specs.Runs.{magnitude}
+use Rattle.column.specs.Runs.{toNat}
 use Rattle.column.proofs.Naturals.{le-lt}
 use Rattle.reduce.specs.Workers.{StoppedSum, bodyOf}
 use Rattle.reduce.proofs.Totals.{body-is, body-long, bodies-paired, body-walked, end-in-body, last-end, last-value, walked-paired, walked-inside, total-none, total-refused, total-passed}
@@ -36,7 +36,7 @@ total-back c = search needs
 
 -- all but the last run
 body : (c : tie.After-sum-runs) → let a = c .before .before .before .before .before .before .args in
-    StoppedSum (magnitude (a .window .start)) (bodyOf (a .window) (now (a .ends))) (bodyOf (a .window) (now (a .values))) (c .sum-runs .result .runs) (c .sum-runs .result .end) (c .sum-runs .result .total)
+    StoppedSum (toNat (a .window .start)) (bodyOf (a .window) (now (a .ends))) (bodyOf (a .window) (now (a .values))) (c .sum-runs .result .runs) (c .sum-runs .result .end) (c .sum-runs .result .total)
 body c = let o = c .before .before .before .before .before in
     let a = o .before .args in
     rw (start-back o, body-is (a .window) (now (a .ends)), body-is (a .window) (now (a .values))) at (c .sum-runs .ensures)

@@ -53,11 +53,11 @@ append-merged-requires c κs = let s = c .before .before .before .before .before
 length-requires : tie.Need-length-requires Inv-loop μ-loop
 length-requires c κs = search needs
 
-magnitude-requires : tie.Need-magnitude-requires Inv-loop μ-loop
-magnitude-requires c κs = search needs
+to-nat-requires : tie.Need-to-nat-requires Inv-loop μ-loop
+to-nat-requires c κs = search needs
 
 add-offset : tie.Need-add-offset Inv-loop μ-loop
-add-offset c = let s = c .before .before .before .before .before .before .before .before .before .before .before .before .before .before .before .before in let l = c .before .before .before .before .before .before .before .before .before .before .before .before in let t = c .before .before .before .before .before .before .before .before .before .before .before in omega (arith, join-fits _ _ _ _ _ (s .pre) (l .loop .inv) (t .loop-test .taken) (c .before .before .before .before .before .before .before .before .part .ensures) (c .before .before .before .before .before .before .before .part2 .ensures) (c .magnitude .ensures) (back _ (c .before .length .ok) ∙ c .before .length .ensures))
+add-offset c = let s = c .before .before .before .before .before .before .before .before .before .before .before .before .before .before .before .before in let l = c .before .before .before .before .before .before .before .before .before .before .before .before in let t = c .before .before .before .before .before .before .before .before .before .before .before in omega (arith, join-fits _ _ _ _ _ (s .pre) (l .loop .inv) (t .loop-test .taken) (c .before .before .before .before .before .before .before .before .part .ensures) (c .before .before .before .before .before .before .before .part2 .ensures) (c .to-nat .ensures) (back _ (c .before .length .ok) ∙ c .before .length .ensures))
 
 add-k : tie.Need-add-k Inv-loop μ-loop
 add-k c = search needs
@@ -66,7 +66,7 @@ loop-less : tie.Need-loop-less Inv-loop μ-loop
 loop-less c = search needs
 
 loop-again : tie.Need-loop-again Inv-loop μ-loop
-loop-again c = let s = c .before .before .before .before .before .before .before .before .before .before .before .before .before .before .before .before in let l = c .before .before .before .before .before .before .before .before .before .before .before .before in let t = c .before .before .before .before .before .before .before .before .before .before .before in join-next _ _ _ _ _ (s .pre) (l .loop .inv) (t .loop-test .taken) (c .before .before .before .before .before .before .before .before .part .ensures) (c .before .before .before .before .before .before .before .part2 .ensures) (c .before .before .before .before .append-merged .ensures) (c .magnitude .ensures) (back _ (c .before .length .ok) ∙ c .before .length .ensures)
+loop-again c = let s = c .before .before .before .before .before .before .before .before .before .before .before .before .before .before .before .before in let l = c .before .before .before .before .before .before .before .before .before .before .before .before in let t = c .before .before .before .before .before .before .before .before .before .before .before in join-next _ _ _ _ _ (s .pre) (l .loop .inv) (t .loop-test .taken) (c .before .before .before .before .before .before .before .before .part .ensures) (c .before .before .before .before .before .before .before .part2 .ensures) (c .before .before .before .before .append-merged .ensures) (c .to-nat .ensures) (back _ (c .before .length .ok) ∙ c .before .length .ensures)
 
 add-result : tie.Need-add-result Inv-loop μ-loop
 add-result c = let i = c .before .before .loop .inv in omega (arith, i .few, i .entries, i .fitting, i .merging .at-last)
@@ -99,7 +99,7 @@ concat-spec =
     part-requires-2
     append-merged-requires
     length-requires
-    magnitude-requires
+    to-nat-requires
     add-offset
     add-k
     loop-less

@@ -4,7 +4,7 @@ use mathlib.Core.Path.{refl}
 use native.Mathlib.Omega.{arith}
 use lib.ListN.{length}
 use Rattle.num.proofs.Bits.{back}
-use Rattle.column.specs.Runs.{magnitude, lengthOfEnds}
+use Rattle.column.specs.Runs.{toNat, lengthOfEnds}
 use Rattle.slice.proofs.Difference.{difference-of, difference-fits}
 use Rattle.transform.proofs.Natural.{natural-below, natural-back}
 use Rattle.transform.proofs.Reversing.{TurningEnds, ends-start, ends-more, ends-end, length-read, end-read}
@@ -13,7 +13,7 @@ use Rattle.transform.proofs.inner.reverse_ends.Statement.{statement}
 use Rattle.transform.proofs.inner.reverse_ends.Tie as tie
 
 abbrev Inv-loop : tie.InvT-loop
-Inv-loop ends out-ends₀ n length t₀ out-ends t = TurningEnds ends out-ends₀ (magnitude (lengthOfEnds ends)) out-ends t
+Inv-loop ends out-ends₀ n length t₀ out-ends t = TurningEnds ends out-ends₀ (toNat (lengthOfEnds ends)) out-ends t
 
 abbrev μ-loop : tie.MeasureT-loop
 μ-loop ends out-ends₀ n length t₀ out-ends t = n - t

@@ -1,7 +1,7 @@
 use mathlib.Core.Path.{_≡_, ap, _∙_}
 use denote.Ref.{now}
 use mir.Facts.{toZ-ofZ}
-use Rattle.column.specs.Runs.{magnitude, lengthOfEnds}
+use Rattle.column.specs.Runs.{toNat, lengthOfEnds}
 use Rattle.num.proofs.Bits.{back}
 use Rattle.getitems.proofs.Searches.{place-low, place-high}
 use borrow.Author.Needs.{needs}
@@ -11,20 +11,20 @@ use Rattle.getitems.proofs.inner.searches.place.Tie as tie
 length-requires : tie.Need-length-requires
 length-requires c κs = search needs
 
-magnitude-requires : tie.Need-magnitude-requires
-magnitude-requires c κs = search needs
+to-nat-requires : tie.Need-to-nat-requires
+to-nat-requires c κs = search needs
 
-magnitude-requires-2 : tie.Need-magnitude-requires-2
-magnitude-requires-2 c κs = search needs
+to-nat-requires-2 : tie.Need-to-nat-requires-2
+to-nat-requires-2 c κs = search needs
 
 smaller-count-requires : tie.Need-smaller-count-requires
 smaller-count-requires c κs = search needs
 
-position-is : (c : tie.After-smaller-count) → c .before .magnitude2 .result ≡ magnitude (c .before .before .before .before .args .position)
-position-is c = c .before .magnitude2 .ensures ∙ ap magnitude (toZ-ofZ (c .before .before .before .before .fits .position))
+position-is : (c : tie.After-smaller-count) → c .before .to-nat2 .result ≡ toNat (c .before .before .before .before .args .position)
+position-is c = c .before .to-nat2 .ensures ∙ ap toNat (toZ-ofZ (c .before .before .before .before .fits .position))
 
-length-is : (c : tie.After-smaller-count) → c .before .before .magnitude .result ≡ magnitude (lengthOfEnds (now (c .before .before .before .before .args .ends)))
-length-is c = c .before .before .magnitude .ensures ∙ ap magnitude (back _ (c .before .before .before .length .ok) ∙ c .before .before .before .length .ensures)
+length-is : (c : tie.After-smaller-count) → c .before .before .to-nat .result ≡ toNat (lengthOfEnds (now (c .before .before .before .before .args .ends)))
+length-is c = c .before .before .to-nat .ensures ∙ ap toNat (back _ (c .before .before .before .length .ok) ∙ c .before .before .before .length .ensures)
 
 returns : tie.Need-returns
 returns c = place-low _ _ _ (position-is (c .before)) (length-is (c .before)) (c .before .smaller-count .ensures) (c .if1 .taken)
@@ -37,8 +37,8 @@ place-spec =
     tie.close
     (tie.spec
     length-requires
-    magnitude-requires
-    magnitude-requires-2
+    to-nat-requires
+    to-nat-requires-2
     smaller-count-requires
     returns
     returns-2)

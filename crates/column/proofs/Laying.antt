@@ -1,4 +1,4 @@
--- Sequences laid flat one behind another.
+-- Sequences laid flat one after another.
 -- Assumes nothing.
 use Prim.Native.Nat.{ℕ, zero, suc, _+_, _-_, _≤_, _<_}
 use mathlib.Core.Option.{none, some}
@@ -10,17 +10,17 @@ use borrow.Rule.Slice.PartMut.{putMid}
 use lib.IntN.{ℤ}
 use lib.ListN.{length, getD, take, drop, set, length-append, length-set}
 use lib.Seq.{take-suc, take-all, length-take-le}
 use Rattle.column.specs.declared.answer.Batched.{Batched}
 use Rattle.column.specs.declared.error.Refusal.{Refusal}
 use Rattle.column.specs.Asking.{Question, _otherwise_}
 use Rattle.column.specs.Flat.{offsetsFrom, flatOffsets, flatEnds, flatValues, WrittenFlat}
 use Rattle.column.specs.Lists.{total}
 use Rattle.column.specs.Paper.{paper}
 use Rattle.column.specs.Runs.{Runs, endsOf, valuesOf, over, Filled}
 use Rattle.column.proofs.Buffer.{over-next, over-over, length-over}
 use Rattle.column.proofs.Rest.{fill-behind}
 use Rattle.column.proofs.Sequences.{length-ends, length-values, ends-append, values-append}
-use Rattle.slice.specs.Workers.{FilledFlat}
+use Rattle.column.specs.Workers.{FilledFlat}
 
 -- ---- sequences laid flat, as the runs of all of them
 

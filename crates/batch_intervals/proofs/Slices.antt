@@ -12,11 +12,11 @@ use Rattle.column.specs.Questions.{endsValid}
 use Rattle.column.specs.Runs.{Runs, runsOf}
 use Rattle.batch_index.specs.Calls.{lowest}
 use Rattle.slice.specs.Calls.{sliceRuns}
 use Rattle.batch.specs.Batch.{batch, Entry, entries, find}
-use Rattle.batch.specs.Slices.{itemRuns}
-use Rattle.batch.specs.Workers.{Intervals}
+use Rattle.batch_intervals.specs.Calls.{itemRuns}
+use Rattle.batch_intervals.specs.Workers.{Intervals}
 use Rattle.batch.proofs.Entries.{part-valid, parts-paired}
 use Rattle.batch.proofs.Getting.{found}
 
 many : (gs : List ℕ) (ss ts : List ℤ) (b : List Entry) → length gs ≡ length ss → length ss ≡ length ts → length (itemRuns gs ss ts b) ≡ length ss
 unfolding itemRuns

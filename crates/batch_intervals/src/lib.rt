@@ -1,0 +1,1 @@
+// The slices of intervals, each of a key: definitions and laws alone.
