@@ -80,7 +80,7 @@ at-columns-from a (b ∷ os) es vs zero = refl
 at-columns-from a (b ∷ os) es vs (suc k) = at-columns-from b os es vs k
 
 at-columns : (os : List ℕ) (es vs : List ℤ) (k : ℕ) → getD (columns (flat os es vs)) k [] ≡ runsOf (getD (parts os es) k []) (getD (parts os vs) k [])
-unfolding columns runsOf
+unfolding columns sequencesOf runsOf
 at-columns [] es vs k = refl
 at-columns (a ∷ os) es vs k = at-columns-from a os es vs k
 

@@ -43,7 +43,7 @@ values-from fill a (b ∷ os) es vs (i ∷ is) l =
 -- their values where they stand
 pub values-columns : (fill : Fill) (os : List ℕ) (es vs : List ℤ) (is : List ℕ) → length es ≡ length vs
     → valuesFor (many fill (columns (flat os es vs))) is ≡ valuesAt is (parts os vs) (valueOf fill)
-unfolding columns
+unfolding columns sequencesOf
 values-columns fill [] es vs [] l = refl
 values-columns fill [] es vs (i ∷ is) l = refl
 values-columns fill (a ∷ os) es vs is l = values-from fill a os es vs is l

@@ -17,7 +17,7 @@ abbrev μ-loop : tie.MeasureT-loop
 μ-loop ends position place low₀ size₀ low size = size
 
 -- the position, which is not negative
-place-is : (c : tie.After-magnitude Inv-loop μ-loop) → c .to-nat .result ≡ toNat (c .before .before .args .position)
+place-is : (c : tie.After-to-nat Inv-loop μ-loop) → c .to-nat .result ≡ toNat (c .before .before .args .position)
 place-is c = c .to-nat .ensures ∙ ap toNat (toZ-ofZ (c .before .before .fits .position))
 
 returns : tie.Need-returns Inv-loop μ-loop
