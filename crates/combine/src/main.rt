@@ -6,6 +6,7 @@
 //
 // CODE is a name or a number of document 01: 0 add, 1 subtract, 2 multiply, 3 smaller, 4 larger, 5 first, 6 second, 7 equal, 8 less,
 // 9 midpoint. Where a job is refused, nothing is written to standard output, and a message to standard error.
+mod colours;
 mod refusal;
 mod seams;
 mod svg;

@@ -1,6 +1,7 @@
 // Columns and their combination as strips, one above the other, as SVG. A position has the same x in every strip. A run narrower than a
 // unit is left out; where columns break at several positions on one x, the line there says so, and a drawing of fewer positions shows
 // them apart.
+use crate::colours;
 use crate::seams;
 use crate::seams::Seam;
 use crate::seams::Window;
@@ -12,19 +13,10 @@ use job::inner::output::put_form;
 use job::inner::output::put_named;
 use job::inner::values_of;
 
-// How many colours there are for values, c0 to c10 of the style.
-const COLOURS: u64 = 11;
-
 // Where the first strip starts, and how far it is to the next one.
 const TOP: i64 = 92;
 
 const PITCH: i64 = 46;
-
-// Which colour a value has. The product spreads values that lie close, or apart by a round number, over all colours.
-fn colour_of(value: i64) -> i64 {
-    let spread = num::as_unsigned(num::wrapping_mul(value, 0x1e37_79b9_7f4a_7c15));
-    num::as_signed(spread / 0x1_0000_0000 % COLOURS)
-}
 
 // Half of a width, which is not negative.
 fn half(width: i64) -> i64 {
@@ -81,6 +73,7 @@ fn draw_run(
     buffer: &mut [u8],
     window: Window,
     marks: &[i64],
+    known: &[i64],
     form: &[u8],
     name: &[u8],
     run: Run,
@@ -91,7 +84,14 @@ fn draw_run(
         return out;
     }
     let value = run.value;
-    let numbers = [x, width, colour_of(value), run.start, run.end, value];
+    let numbers = [
+        x,
+        width,
+        colours::colour_of(known, value),
+        run.start,
+        run.end,
+        value,
+    ];
     let drawn = put_named(out, buffer, form, name, numbers);
     let valued = draw_value(drawn, buffer, x, width, value);
     if run.start <= window.from {
@@ -105,6 +105,7 @@ fn draw_runs(
     buffer: &mut [u8],
     window: Window,
     marks: &[i64],
+    known: &[i64],
     name: &[u8],
     ends: &[i64],
     values: &[i64],
@@ -119,7 +120,7 @@ fn draw_runs(
             end: sequence::entry_or(ends, r, 0),
             value: sequence::entry_or(values, r, 0),
         };
-        next = draw_run(next, buffer, window, marks, form, name, run);
+        next = draw_run(next, buffer, window, marks, known, form, name, run);
         r += 1;
     }
     next
@@ -131,6 +132,7 @@ fn draw_fill(
     buffer: &mut [u8],
     window: Window,
     marks: &[i64],
+    known: &[i64],
     name: &[u8],
     length: i64,
     fill: i64,
@@ -142,7 +144,7 @@ fn draw_fill(
         end: window.to,
         value: fill,
     };
-    draw_run(out, buffer, window, marks, form, name, run)
+    draw_run(out, buffer, window, marks, known, form, name, run)
 }
 
 // A strip: its name, its runs and the fill behind them. Each strip is a group, and ends the group before it.
@@ -151,6 +153,7 @@ fn draw_strip(
     buffer: &mut [u8],
     window: Window,
     marks: &[i64],
+    known: &[i64],
     y: i64,
     name: &[u8],
     ends: &[i64],
@@ -160,12 +163,13 @@ fn draw_strip(
     let form =
         b"</g>\n<g transform=\"translate(0,@)\">\n<text x=\"-12\" y=\"21\" class=\"name\">$</text>\n";
     let named = put_named(out, buffer, form, name, [y, 0, 0, 0, 0, 0]);
-    let runs = draw_runs(named, buffer, window, marks, name, ends, values);
+    let runs = draw_runs(named, buffer, window, marks, known, name, ends, values);
     draw_fill(
         runs,
         buffer,
         window,
         marks,
+        known,
         name,
         sequence::length(ends),
         fill,
@@ -177,6 +181,7 @@ fn draw_columns(
     buffer: &mut [u8],
     window: Window,
     marks: &[i64],
+    known: &[i64],
     table: &[i64],
     bytes: &[u8],
     columns: usize,
@@ -193,6 +198,7 @@ fn draw_columns(
             buffer,
             window,
             marks,
+            known,
             strip_y(c),
             name,
             ends,
@@ -342,15 +348,8 @@ fn draw_seams(out: usize, buffer: &mut [u8], marks: &[i64], bottom: i64) -> usiz
     next
 }
 
-// The start of the drawing, up to the group of its seams.
-fn draw_head(
-    out: usize,
-    buffer: &mut [u8],
-    window: Window,
-    code: &[u8],
-    columns: usize,
-    bottom: i64,
-) -> usize {
+// The start of a drawing.
+fn draw_head(out: usize, buffer: &mut [u8], height: i64) -> usize {
     let form =
         b"<svg xmlns=\"http://www.w3.org/2000/svg\" width=\"1320\" height=\"@\" viewBox=\"0 0 1320 @\">
 <style>
@@ -373,13 +372,50 @@ rect.fill { fill: #fff; stroke: #888; stroke-dasharray: 4 3 }
 </style>
 <rect width=\"100%\" height=\"100%\" fill=\"#fff\"/>
 <g transform=\"translate(250,0)\">
-<text y=\"32\" class=\"head\">$ of @ columns, positions @ up to @</text>
-<g>
 ";
-    let height = num::wrapping_add(bottom, 76);
+    put_form(out, buffer, form, [height, height, 0, 0, 0, 0])
+}
+
+// What is drawn, and the start of the group of its seams.
+fn draw_heading(
+    out: usize,
+    buffer: &mut [u8],
+    window: Window,
+    code: &[u8],
+    columns: usize,
+) -> usize {
+    let form = b"<text y=\"32\" class=\"head\">$ of @ columns, positions @ up to @</text>\n<g>\n";
     let count = num::as_signed(columns as u64);
-    let numbers = [height, height, count, window.from, window.to, 0];
+    let numbers = [count, window.from, window.to, 0, 0, 0];
     put_named(out, buffer, form, code, numbers)
+}
+
+// A drawing with no position, which says why it has none.
+fn draw_nothing(
+    out: usize,
+    buffer: &mut [u8],
+    window: Window,
+    code: &[u8],
+    columns: usize,
+    length: i64,
+) -> usize {
+    let begun = draw_head(out, buffer, 60);
+    let count = num::as_signed(columns as u64);
+    if window.from < length {
+        let form =
+            b"<text y=\"32\" class=\"head\">$ of @ columns: no position from @ up to @</text>\n</g>\n</svg>\n";
+        let numbers = [count, window.from, window.to, 0, 0, 0];
+        return put_named(begun, buffer, form, code, numbers);
+    }
+    let form =
+        b"<text y=\"32\" class=\"head\">$ of @ columns: no position from @ on, as the columns end at @</text>\n</g>\n</svg>\n";
+    put_named(
+        begun,
+        buffer,
+        form,
+        code,
+        [count, window.from, length, 0, 0, 0],
+    )
 }
 
 // What the lines mean, and the end of the drawing.
@@ -418,10 +454,33 @@ fn draw_strips(
     let fill = job.fill;
     let mut marks = [0i64; seams::MARKS];
     seams::mark_columns(&mut marks, window, table, columns);
+    let mut known = [i64::MAX; colours::ENTRIES];
+    colours::take_all(&mut known, job, table, values);
     let seamed = draw_seams(out, buffer, &marks, bottom);
-    let drawn = draw_columns(seamed, buffer, window, &marks, table, bytes, columns, fill);
+    let drawn = draw_columns(
+        seamed,
+        buffer,
+        window,
+        &marks,
+        &known,
+        table,
+        bytes,
+        columns,
+        fill,
+    );
     let y = result_y(columns);
-    draw_strip(drawn, buffer, window, &marks, y, code, ends, values, 0)
+    draw_strip(
+        drawn,
+        buffer,
+        window,
+        &marks,
+        &known,
+        y,
+        code,
+        ends,
+        values,
+        0,
+    )
 }
 
 // The columns of a job, and the combination by a code below them.
@@ -436,10 +495,15 @@ pub fn draw(
     ends: &[i64],
     values: &[i64],
 ) -> usize {
-    let bottom = num::wrapping_add(result_y(job.columns), 40);
-    let begun = draw_head(out, buffer, window, code, job.columns, bottom);
+    let columns = job.columns;
+    if window.to <= window.from {
+        return draw_nothing(out, buffer, window, code, columns, sequence::length(ends));
+    }
+    let bottom = num::wrapping_add(result_y(columns), 40);
+    let begun = draw_head(out, buffer, num::wrapping_add(bottom, 76));
+    let headed = draw_heading(begun, buffer, window, code, columns);
     let drawn = draw_strips(
-        begun,
+        headed,
         buffer,
         window,
         job,

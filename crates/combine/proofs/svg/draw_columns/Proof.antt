@@ -6,10 +6,10 @@ use Rattle.combine.proofs.svg.draw_columns.Statement.{statement}
 use Rattle.combine.proofs.svg.draw_columns.Tie as tie
 
 abbrev Inv-loop : tie.InvT-loop
-Inv-loop out buffer₀ window marks table bytes columns fill next₀ c₀ buffer next c = length buffer ≡ length buffer₀
+Inv-loop out buffer₀ window marks known table bytes columns fill next₀ c₀ buffer next c = length buffer ≡ length buffer₀
 
 abbrev μ-loop : tie.MeasureT-loop
-μ-loop out buffer₀ window marks table bytes columns fill next₀ c₀ buffer next c = columns - c
+μ-loop out buffer₀ window marks known table bytes columns fill next₀ c₀ buffer next c = columns - c
 
 loop-holds : tie.Need-loop-holds Inv-loop μ-loop
 loop-holds c = search needs

@@ -6,10 +6,10 @@ use Rattle.combine.proofs.svg.draw_runs.Statement.{statement}
 use Rattle.combine.proofs.svg.draw_runs.Tie as tie
 
 abbrev Inv-loop : tie.InvT-loop
-Inv-loop out buffer₀ window marks name ends values form next₀ r₀ buffer next r = length buffer ≡ length buffer₀
+Inv-loop out buffer₀ window marks known name ends values form next₀ r₀ buffer next r = length buffer ≡ length buffer₀
 
 abbrev μ-loop : tie.MeasureT-loop
-μ-loop out buffer₀ window marks name ends values form next₀ r₀ buffer next r = length ends - r
+μ-loop out buffer₀ window marks known name ends values form next₀ r₀ buffer next r = length ends - r
 
 loop-holds : tie.Need-loop-holds Inv-loop μ-loop
 loop-holds c = search needs
