@@ -47,7 +47,7 @@ fine-from a (b ∷ os) es vs l v =
     ((agree-yes 3 (length (part a b es)) (length (part a b vs)) (part-paired a b es vs l), v .0), fine-from b os es vs l (v .1))
 
 fine-at : (os : List ℕ) (es vs : List ℤ) → paired (record { ends = es; values = vs }) ≡ none → endsFlat (record { offsets = os; ends = es; values = vs }) ≡ none → All Fine (sequencesOf (parts os es) (parts os vs))
-unfolding paired
+unfolding paired sequencesOf
 fine-at [] es vs p e = tt
 fine-at (a ∷ os) es vs p e = fine-from a os es vs (agree-told 3 (length es) (length vs) p) (sequences-told (a ∷ os) es e)
 

@@ -15,12 +15,12 @@ use Rattle.column.specs.Asking.{eachFrom}
 use Rattle.column.specs.Paper.{Outcome, answers, counts}
 use Rattle.column.specs.Flat.{sequencesOf, columns, offsetsFrom, flatOffsets, flatEnds, flatValues}
 use Rattle.column.specs.Lists.{partsFrom, parts}
-use Rattle.column.specs.Questions.{listed, maskListed, agree, paired, offsetsValid, endsFrom, endsValid, sequencesValid, fits, filled, roomAt, roomFrom, room, sequenceAsked}
+use Rattle.column.specs.Questions.{listed, maskListed, agree, paired, offsetsValid, endsFrom, endsValid, sequencesValid, fits, filled, roomAt, roomFrom, room, sequenceAsked, maskAgrees}
 use Rattle.column.specs.Runs.{Sequence, sequence, Runs, runs, runsOf, endsOf, valuesOf, lengthOf, denseFrom, dense, joined, encodeFrom, encode}
 use Rattle.column.proofs.Rows.{Lines, Row, row, Hold, refused, asRuns, asEntries}
 use Rattle.float.specs.Float.{converted}
 use Rattle.merge_plan.specs.Calls.{mergePlanAsked, mergePlan, groupEnds, pastEach, groupOffsets}
-use Rattle.merge_mask.specs.Calls.{Group, groupsFrom, groups, maskAgrees}
+use Rattle.merge_mask.specs.Calls.{Group, groupsFrom, groups}
 use Rattle.ops.specs.Calls.{zipAsked}
 use Rattle.ops.specs.Calls as ops
 use Rattle.plan.specs.Calls.{Segment, segmentsFrom, segments, segmentEnds, indexesOf, planAsked, plan}
