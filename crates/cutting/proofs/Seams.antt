@@ -14,7 +14,7 @@ use Rattle.column.specs.Combine.{valueAt, greatestLength, allFilled, rowAt, eac
 use Rattle.column.specs.Asking.{eachFrom}
 use Rattle.column.specs.Paper.{Outcome, answers, counts}
 use Rattle.column.specs.Flat.{sequencesOf, columns, offsetsFrom, flatOffsets, flatEnds, flatValues}
-use Rattle.column.specs.Lists.{partsFrom, parts}
+use Rattle.column.specs.Lists.{partsFrom}
 use Rattle.column.specs.Questions.{listed, maskListed, agree, paired, offsetsValid, endsFrom, endsValid, sequencesValid, fits, filled, roomAt, roomFrom, room, sequenceAsked, maskAgrees}
 use Rattle.column.specs.Runs.{Sequence, sequence, Runs, runs, runsOf, endsOf, valuesOf, lengthOf, denseFrom, dense, joined, encodeFrom, encode}
 use Rattle.column.proofs.Rows.{Lines, Row, row, Hold, refused, asRuns, asEntries}
