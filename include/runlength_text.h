@@ -15,6 +15,7 @@ extern "C" {
 static inline const char *rl_what_text(uint64_t what)
 {
     switch (what) {
+    /* Written by bindings/generate, up to the next mark. */
     case RL_WHAT_RUNS_VALUES:
         return "runs, values";
     case RL_WHAT_OFFSETS_KEYS:
@@ -31,6 +32,7 @@ static inline const char *rl_what_text(uint64_t what)
         return "keys, starts";
     case RL_WHAT_STARTS_ENDS:
         return "starts, ends";
+    /* Up to here. */
     default:
         return "unknown lengths";
     }
@@ -40,39 +42,45 @@ static inline const char *rl_what_text(uint64_t what)
  * the length of the whole text. */
 static inline int rl_refusal_text(rl_refusal refusal, char *text, size_t size)
 {
-    uint64_t a = refusal.first, b = refusal.second, c = refusal.third;
-    char at[40] = ""; /* the position that 4 and 10 may carry */
+    char at[40] = ""; /* the position of a key or a sequence, where the refusal carries it */
     if (refusal.in_key) {
         snprintf(at, sizeof at, ", position %" PRIu64, refusal.position);
     }
     switch (refusal.number) {
     case RL_ANSWERED:
         return snprintf(text, size, "answered");
+    /* Written by bindings/generate, up to the next mark. */
     case RL_UNKNOWN_CODE:
-        return snprintf(text, size, "1 UnknownCode: code %" PRIu64, a);
+        return snprintf(text, size, "1 UnknownCode: code %" PRIu64 "%s", refusal.first, at);
     case RL_LENGTH_MISMATCH:
-        return snprintf(text, size, "2 LengthMismatch: %s: left %" PRIu64 ", right %" PRIu64, rl_what_text(a), b, c);
+        return snprintf(text, size, "2 LengthMismatch: %s: left %" PRIu64 ", right %" PRIu64 "%s", rl_what_text(refusal.first),
+                        refusal.second, refusal.third, at);
     case RL_INVALID_OFFSETS:
-        return snprintf(text, size, "3 InvalidOffsets");
+        return snprintf(text, size, "3 InvalidOffsets%s", at);
     case RL_INVALID_ENDS:
-        return snprintf(text, size, "4 InvalidEnds: index %" PRIu64 "%s", a, at);
+        return snprintf(text, size, "4 InvalidEnds: index %" PRIu64 "%s", refusal.first, at);
     case RL_TOO_MANY:
-        return snprintf(text, size, "5 TooMany: number %" PRIu64, a);
+        return snprintf(text, size, "5 TooMany: number %" PRIu64 "%s", refusal.first, at);
     case RL_NEGATIVE_RUN:
-        return snprintf(text, size, "6 NegativeRun: index %" PRIu64 ", run %" PRId64, a, (int64_t)b);
+        return snprintf(text, size, "6 NegativeRun: index %" PRIu64 ", run %" PRId64 "%s", refusal.first, (int64_t)refusal.second,
+                        at);
     case RL_OVERFLOW:
-        return snprintf(text, size, "7 Overflow");
+        return snprintf(text, size, "7 Overflow%s", at);
     case RL_DUPLICATE_KEY:
-        return snprintf(text, size, "8 DuplicateKey: position %" PRIu64, a);
+        return snprintf(text, size, "8 DuplicateKey: position %" PRIu64 "%s", refusal.first, at);
     case RL_INVALID_INTERVAL:
-        return snprintf(text, size, "9 InvalidInterval: index %" PRIu64 ", start %" PRId64 ", end %" PRId64, a, (int64_t)b,
-                        (int64_t)c);
+        return snprintf(text, size, "9 InvalidInterval: index %" PRIu64 ", start %" PRId64 ", end %" PRId64 "%s", refusal.first,
+                        (int64_t)refusal.second, (int64_t)refusal.third, at);
     case RL_UNEQUAL_LENGTH:
-        return snprintf(text, size, "10 UnequalLength: left %" PRId64 ", right %" PRId64 "%s", (int64_t)a, (int64_t)b, at);
+        return snprintf(text, size, "10 UnequalLength: left %" PRId64 ", right %" PRId64 "%s", (int64_t)refusal.first,
+                        (int64_t)refusal.second, at);
     case RL_LENGTH_TOO_SHORT:
-        return snprintf(text, size, "11 LengthTooShort: requested %" PRId64 ", required %" PRId64, (int64_t)a, (int64_t)b);
+        return snprintf(text, size, "11 LengthTooShort: requested %" PRId64 ", required %" PRId64 "%s", (int64_t)refusal.first,
+                        (int64_t)refusal.second, at);
     case RL_SHORT_BUFFER:
-        return snprintf(text, size, "12 ShortBuffer: which %" PRIu64 ", needed %" PRIu64 ", given %" PRIu64, a, b, c);
+        return snprintf(text, size, "12 ShortBuffer: which %" PRIu64 ", needed %" PRIu64 ", given %" PRIu64 "%s", refusal.first,
+                        refusal.second, refusal.third, at);
+    /* Up to here. */
     default:
         return snprintf(text, size, "%" PRIu64 " is no refusal of this library", refusal.number);
     }

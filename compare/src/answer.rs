@@ -1,23 +1,10 @@
 //! What a call gives back, as the C interface gives it.
 
-use std::fmt;
+mod refusals;
 
-/// The numbers of document 01's refusals.
-#[derive(Clone, Copy)]
-pub enum Error {
-    UnknownCode = 1,
-    LengthMismatch,
-    InvalidOffsets,
-    InvalidEnds,
-    TooMany,
-    NegativeRun,
-    Overflow,
-    DuplicateKey,
-    InvalidInterval,
-    UnequalLength,
-    LengthTooShort,
-    ShortBuffer,
-}
+pub use refusals::Error;
+use refusals::SIGNED;
+use std::fmt;
 
 impl Error {
     /// The refusal with these values, in document 01's order.
@@ -57,13 +44,7 @@ impl Refusal {
 
     /// Every field as the number that it stands for: some values are signed.
     pub fn numbers(&self) -> [i128; 6] {
-        let lengths = self.is(Error::UnequalLength) || self.is(Error::LengthTooShort);
-        let interval = self.is(Error::InvalidInterval);
-        let signed = [
-            lengths,
-            lengths || interval || self.is(Error::NegativeRun),
-            interval,
-        ];
+        let signed = SIGNED.get(self.number as usize).unwrap_or(&SIGNED[0]);
         let value = |i: usize| match signed[i] {
             true => self.values[i] as i64 as i128,
             false => self.values[i] as i128,

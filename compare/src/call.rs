@@ -36,6 +36,11 @@ pub enum Arg {
 }
 
 impl Arg {
+    pub fn is_list(&self) -> bool {
+        use Arg::*;
+        matches!(self, List(_) | Places(_) | Keys(_) | Bytes(_) | Bits(_))
+    }
+
     /// A buffer after these entries have been written to its front.
     fn written_to(self, buffer: &Arg) -> Arg {
         match (self, buffer) {
@@ -399,9 +404,9 @@ fn wrong_number() -> ! {
 macro_rules! calls {
     ($($number:literal $name:ident(
         $($(&$lent:tt)? $input:ident: $role:ident),*; $($output:ident: $room:ident),*
-    ) -> $counts:literal, $refusals:tt;)*) => {
-        /// Every call, with its inputs, then its outputs, how many counts it answers, and the refusals
-        /// that it gives. The original takes inputs alone.
+    ) -> $counts:literal, $refusals:tt $($alone:ident)?;)*) => {
+        /// Every call, with its inputs, then its outputs, how many counts it answers, the refusals that it
+        /// gives, and whether the original is without it. That takes inputs alone.
         pub const CALLS: &[Call] = &[$(Call {
             number: $number,
             name: stringify!($name),
@@ -422,10 +427,7 @@ macro_rules! calls {
                     $(calls!(@pass $(&$lent)? $input),)* $($output.into()),*
                 ).into()
             },
-            original: |args| {
-                let [$($input,)* $(calls!(@unused $output),)*] = args else { wrong_number() };
-                original::$name($($input.into()),*)
-            },
+            original: calls!(@original $($alone)? $name [$($input)*] [$($output)*]),
             naive: |args| {
                 let [$($input,)* $($output,)*] = args else { wrong_number() };
                 naive::$name($($input.into(),)* $($output.into()),*)
@@ -434,125 +436,16 @@ macro_rules! calls {
     };
     (@pass $input:ident) => { (&*$input).into() };
     (@pass &mut $lent:ident) => { $lent.into() };
+    (@original $name:ident [$($input:ident)*] [$($output:ident)*]) => {
+        |args| {
+            let [$($input,)* $(calls!(@unused $output),)*] = args else { wrong_number() };
+            original::$name($($input.into()),*)
+        }
+    };
+    (@original alone $name:ident $inputs:tt $outputs:tt) => { |_| None };
     (@unused $output:ident) => { _ };
 }
 
-calls! {
-    1 empty(;) -> 1, [];
-    2 from_runs(runs: Runs, values: Values; out_ends: Room, out_values: Room) -> 1, [2, 6, 7, 12];
-    3 from_ends(ends: Ends, values: Values;) -> 1, [2, 4];
-    4 repeat(value: Value, length: Length; out_ends: Room, out_values: Room) -> 1, [6, 12];
-    5 push_run(&mut ends: Ends, &mut values: Values, used: Used, run: Run, value: Value;) -> 1, [2, 4, 6, 7, 12];
-    6 extend_to(
-        &mut ends: Ends, &mut values: Values, used: Used, length: Length, value: Value;
-    ) -> 1, [2, 4, 11, 12];
-    7 from_dense(values: Dense; out_ends: Room, out_values: Room) -> 1, [12];
-    8 to_dense(ends: Ends, values: Values; out: Room) -> 1, [2, 4, 12];
-    9 equals(a_ends: EndsA, a_values: ValuesA, b_ends: EndsB, b_values: ValuesB;) -> 1, [2, 4];
-    10 plan(
-        a: EndsA, b: EndsB; out_ends: Room, out_idx_a: IndexRoom, out_idx_b: IndexRoom
-    ) -> 1, [4, 12];
-    11 zip_with(
-        a_ends: EndsA, a_values: ValuesA, b_ends: EndsB, b_values: ValuesB,
-        fill_a: Fill, fill_b: Fill, code: Code; out_ends: Room, out_values: Room
-    ) -> 1, [1, 2, 4, 10, 12];
-    12 zip_with_raw(
-        a_ends: EndsA, a_values: ValuesA, b_ends: EndsB, b_values: ValuesB,
-        fill_a: Fill, fill_b: Fill, code: Code; out_ends: Room, out_values: Room
-    ) -> 1, [1, 2, 4, 10, 12];
-    13 plan_many(
-        offsets: Offsets, ends: FlatEnds, values: FlatValues; out_ends: Room, out_idx: IndexRoom
-    ) -> 2, [2, 3, 4, 5, 12];
-    14 zip_many(
-        offsets: Offsets, ends: FlatEnds, values: FlatValues, fill: Fill, code: Code;
-        out_ends: Room, out_values: Room
-    ) -> 1, [1, 2, 3, 4, 5, 10, 12];
-    15 run_index(ends: Ends, pos: Position;) -> 2, [4];
-    16 slice(
-        ends: EndsA, values: ValuesA, start: Position, end: Position;
-        out_ends: Room, out_values: Room
-    ) -> 1, [2, 4, 12];
-    17 slice_view(ends: EndsA, values: ValuesA, start: Position, end: Position;) -> 3, [2, 4];
-    18 slice_view_values(ends: EndsA, values: ValuesA, start: Position, end: Position;) -> 2, [];
-    42 getitems(
-        ends: EndsA, values: ValuesA, starts: Starts, stops: Stops;
-        out_offsets: IndexRoom, out_ends: Room, out_values: Room
-    ) -> 2, [2, 4, 9, 12];
-    19 concat(
-        offsets: Offsets, ends: FlatEnds, values: FlatValues; out_ends: Room, out_values: Room
-    ) -> 1, [2, 3, 4, 7, 12];
-    20 shift(
-        ends: EndsA, values: ValuesA, distance: Distance, fill: Value;
-        out_ends: Room, out_values: Room
-    ) -> 1, [2, 4, 12];
-    21 reversed(ends: EndsA, values: ValuesA; out_ends: Room, out_values: Room) -> 1, [2, 4, 12];
-    22 ranges_where(
-        ends: EndsA, values: ValuesA, code: Comparison, number: Value;
-        out_starts: Room, out_ends: Room
-    ) -> 1, [1, 2, 4, 12];
-    23 merge(ends: EndsA, values: ValuesA; out_ends: Room, out_values: Room) -> 1, [2, 4, 12];
-    24 merged(ends: EndsA, values: ValuesA; out_ends: Room, out_values: Room) -> 1, [2, 4, 12];
-    25 merge_mask(
-        ends: EndsA, values: ValuesA, mask: Mask, keep: Keep; out_ends: Room, out_values: Room
-    ) -> 1, [1, 2, 4, 12];
-    26 merge_by(
-        ends: EndsA, values: ValuesA, code: Comparison; out_ends: Room, out_values: Room
-    ) -> 1, [1, 2, 4, 12];
-    27 merge_plan(ends: Ends, mask: Mask; out_ends: Room, out_offsets: IndexRoom) -> 1, [1, 2, 4, 12];
-    28 group_ids(offsets: GroupOffsets; out_ids: IndexRoom) -> 1, [3, 12];
-    29 sum(ends: EndsA, values: ValuesA;) -> 1, [2, 4];
-    30 reduce(ends: EndsA, values: ValuesA, code: Reduction, ddof: Ddof;) -> 4, [1, 2, 4];
-    43 slice_reduce(
-        ends: EndsA, values: ValuesA, starts: Starts, stops: Stops, code: Reduction, ddof: Ddof;
-        out_kinds: KindRoom, out_bits: BitRoom
-    ) -> 1, [1, 2, 4, 9, 12];
-    31 batch_from_parts(
-        keys: Keys, offsets: Offsets, ends: FlatEnds, values: FlatValues;
-    ) -> 1, [2, 3, 4, 8];
-    32 batch_position(keys: Keys, key: Key;) -> 2, [];
-    33 batch_get(
-        keys: Keys, offsets: Offsets, ends: FlatEnds, values: FlatValues, key: Key;
-        out_ends: Room, out_values: Room
-    ) -> 2, [2, 3, 4, 12];
-    34 batch_getitems(
-        keys: Keys, offsets: Offsets, ends: FlatEnds, values: FlatValues,
-        get_keys: GetKeys, starts: Starts, stops: Stops;
-        out_offsets: IndexRoom, out_ends: Room, out_values: Room
-    ) -> 2, [2, 3, 4, 9, 12];
-    35 batch_slice_reduce(
-        keys: Keys, offsets: Offsets, ends: FlatEnds, values: FlatValues,
-        get_keys: GetKeys, starts: Starts, stops: Stops, code: Reduction, ddof: Ddof;
-        out_kinds: KindRoom, out_bits: BitRoom
-    ) -> 1, [1, 2, 3, 4, 9, 12];
-    36 batch_shift(
-        keys: Keys, offsets: Offsets, ends: FlatEnds, values: FlatValues,
-        distance: Distance, fill: Value;
-        out_keys: KeyRoom, out_offsets: IndexRoom, out_ends: Room, out_values: Room
-    ) -> 2, [2, 3, 4, 12];
-    37 batch_reversed(
-        keys: Keys, offsets: Offsets, ends: FlatEnds, values: FlatValues;
-        out_keys: KeyRoom, out_offsets: IndexRoom, out_ends: Room, out_values: Room
-    ) -> 2, [2, 3, 4, 12];
-    38 batch_map_rles_slice(
-        keys: Keys, offsets: Offsets, ends: FlatEnds, values: FlatValues,
-        start: Position, end: Position;
-        out_keys: KeyRoom, out_offsets: IndexRoom, out_ends: Room, out_values: Room
-    ) -> 2, [2, 3, 4, 12];
-    39 batch_collapse(
-        keys: Keys, offsets: Offsets, ends: FlatEnds, values: FlatValues,
-        new_keys: NewKeys, fill: Fill, code: Code;
-        out_keys: KeyRoom, out_offsets: IndexRoom, out_ends: Room, out_values: Room,
-        scratch_ends: Scratch, scratch_values: Scratch
-    ) -> 2, [1, 2, 3, 4, 10, 12];
-    40 batch_concat(
-        a_keys: Keys, a_offsets: Offsets, a_ends: FlatEnds, a_values: FlatValues,
-        b_keys: KeysB, b_offsets: OffsetsB, b_ends: FlatEndsB, b_values: FlatValuesB;
-        out_keys: KeyRoom, out_offsets: IndexRoom, out_ends: Room, out_values: Room
-    ) -> 2, [2, 3, 4, 7, 12];
-    41 batch_zip_with(
-        a_keys: Keys, a_offsets: Offsets, a_ends: FlatEnds, a_values: FlatValues,
-        b_keys: KeysB, b_offsets: OffsetsB, b_ends: FlatEndsB, b_values: FlatValuesB,
-        how: How, fill_a: Fill, fill_b: Fill, code: Code;
-        out_keys: KeyRoom, out_offsets: IndexRoom, out_ends: Room, out_values: Room
-    ) -> 2, [1, 2, 3, 4, 10, 12];
-}
+mod table;
+
+pub use table::CALLS;

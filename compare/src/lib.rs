@@ -1,7 +1,8 @@
 //! Three readings of every call, to be compared: librunlength.a, the Rust original, and document 01
-//! read naively. A call is one row of the table in [`call`], and a function of its name in each of
-//! `library`, [`original`] and [`naive`]; [`inputs`] makes arguments for what its parameters stand
-//! for. `cutting` does jobs of several calls, whole and in pieces.
+//! read naively. A call is one row of the table in [`call`], which bindings/generate writes from its
+//! export and its row in compare/roles, and a function of its name in [`naive`] and, where the Rust has
+//! the call, in [`original`]; `library` is written from the exports. [`inputs`] makes arguments for what
+//! its parameters stand for. `cutting` does jobs of several calls, whole and in pieces.
 
 // A call takes as many as it takes.
 #![allow(clippy::too_many_arguments)]

@@ -6,7 +6,7 @@ use crate::error::{Error, Result, answer};
 use crate::ops::Op;
 use crate::reduce::{self, Reduced, Reduction};
 use crate::rle::{Rle, RleLike, RleRef};
-use crate::sys::{self, Answer, Counts};
+use crate::sys::{self, Answer, RlBatched};
 
 /// Which keys a combination of two batches has.
 #[derive(Clone, Copy, Debug, Default, PartialEq, Eq)]
@@ -107,7 +107,7 @@ impl RleBatch<usize> {
     /// The slices that a call writes, which needs as many entries as they have runs: without any it says how many.
     pub(crate) fn of_slices(
         slices: usize,
-        call: impl Fn(&mut [usize], &mut Rle) -> Answer<Counts>,
+        call: impl Fn(&mut [usize], &mut Rle) -> Answer<RlBatched>,
     ) -> Result<Self> {
         let mut offsets = buffer(slices + 1);
         let room = call(&mut offsets, &mut Rle::new()).needed();
@@ -195,7 +195,15 @@ impl RleBatch {
     /// that of an absent key is empty.
     pub fn getitems(&self, keys: &[u32], starts: &[i64], ends: &[i64]) -> Result<RleBatch<usize>> {
         RleBatch::of_slices(starts.len(), |offsets, out| {
-            sys::rl_batch_getitems(self, keys, starts, ends, offsets, out)
+            sys::rl_batch_getitems(
+                self,
+                keys,
+                starts,
+                ends,
+                offsets,
+                &mut out.ends,
+                &mut out.values,
+            )
         })
     }
 
@@ -301,7 +309,7 @@ impl RleBatch {
     fn written(
         keys: usize,
         runs: usize,
-        call: impl FnOnce(&mut RleBatch) -> Answer<Counts>,
+        call: impl FnOnce(&mut RleBatch) -> Answer<RlBatched>,
     ) -> Result<Self> {
         let mut out = RleBatch::lent(keys, runs);
         let counts = call(&mut out).check()?;

@@ -1,6 +1,6 @@
 use std::fmt;
 
-use crate::sys::Refusal;
+use crate::sys::RlRefusal;
 
 /// Why a call was refused. A refused call has changed nothing.
 ///
@@ -94,7 +94,7 @@ pub enum Error {
 pub type Result<T> = std::result::Result<T, Error>;
 
 /// What [`Error::LengthMismatch`] says, by the library's number less 1.
-const WHAT: [&str; 8] = [
+pub(crate) const WHAT: [&str; 8] = [
     "runs and values",
     "offsets and keys + 1",
     "ends and values",
@@ -169,7 +169,7 @@ impl std::error::Error for Error {
     }
 }
 
-impl Refusal {
+impl RlRefusal {
     /// Nothing with an answer, else the error that the refusal's number and values say.
     pub(crate) fn check(self) -> Result<()> {
         if self.number == 0 {
@@ -184,52 +184,6 @@ impl Refusal {
                 source: Box::new(error),
             }
         })
-    }
-
-    fn error(&self) -> Error {
-        let (first, second, third) = (self.first, self.second, self.third);
-        match self.number {
-            1 => Error::UnknownCode { code: first },
-            2 => Error::LengthMismatch {
-                what: WHAT[first as usize - 1],
-                left: second as usize,
-                right: third as usize,
-            },
-            3 => Error::InvalidOffsets,
-            4 => Error::InvalidEnds {
-                index: first as usize,
-            },
-            5 => Error::TooMany {
-                number: first as usize,
-            },
-            6 => Error::NegativeRun {
-                index: first as usize,
-                run: second as i64,
-            },
-            7 => Error::Overflow,
-            8 => Error::DuplicateKey {
-                position: first as usize,
-            },
-            9 => Error::InvalidInterval {
-                index: first as usize,
-                start: second as i64,
-                end: third as i64,
-            },
-            10 => Error::UnequalLength {
-                left: first as i64,
-                right: second as i64,
-            },
-            11 => Error::LengthTooShort {
-                requested: first as i64,
-                required: second as i64,
-            },
-            12 => Error::ShortBuffer {
-                which: first as usize,
-                needed: second as usize,
-                given: third as usize,
-            },
-            number => unreachable!("the library has no refusal {number}"),
-        }
     }
 }
 

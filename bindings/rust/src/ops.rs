@@ -2,7 +2,7 @@ use std::ops::{Add, Mul, Sub};
 
 use crate::error::{Result, answer};
 use crate::rle::{Rle, RleLike, RleRef};
-use crate::sys::{self, Answer, Fill};
+use crate::sys::{self, Answer, RlFill};
 
 /// What is done with two values, x and y, at each position: the library's codes, in place of the original's functions.
 #[derive(Clone, Copy, Debug, PartialEq, Eq)]
@@ -78,7 +78,7 @@ pub fn zip_with_raw(
 }
 
 fn zipped(
-    call: impl FnOnce(RleRef, RleRef, Fill, Fill, u8, &mut Rle) -> Answer<usize>,
+    call: impl FnOnce(RleRef, RleRef, RlFill, RlFill, u8, &mut Rle) -> Answer<usize>,
     a: RleRef<'_>,
     b: RleRef<'_>,
     fill_a: Option<&i64>,

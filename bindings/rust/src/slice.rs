@@ -18,7 +18,7 @@ pub(crate) fn slice(rle: RleRef<'_>, start: i64, end: i64) -> Rle {
 
 pub(crate) fn getitems(rle: RleRef<'_>, starts: &[i64], ends: &[i64]) -> Result<RleBatch<usize>> {
     RleBatch::of_slices(starts.len(), |offsets, out| {
-        sys::rl_getitems(rle, starts, ends, offsets, out)
+        sys::rl_getitems(rle, starts, ends, offsets, &mut out.ends, &mut out.values)
     })
 }
 

@@ -1,4 +1,5 @@
 // A case: a call, and what a row says of it.
+use crate::calls;
 use column::sequence;
 use replay_case::inner::Outcome;
 use replay_case::inner::agreement;
@@ -6,14 +7,10 @@ use replay_case::inner::shape;
 use replay_case::inner::shape::Places;
 
 fn outcome(row: &[i64], call: usize, places: Places) -> Outcome {
-    let lists = sequence::part(row, 1, places.numbers);
+    let lists = sequence::part(row, places.lists, places.numbers);
     let numbers = sequence::part(row, places.numbers, places.lent);
-    let lent = sequence::part(row, places.lent, places.behind);
-    let behind = sequence::part(row, places.behind, places.answer);
-    match call {
-        31..=41 => replay_batches::inner::outcome(call, lists, numbers, lent),
-        _ => replay_columns::inner::outcome(call, lists, numbers, lent, behind),
-    }
+    let lent = sequence::part(row, places.lent, places.left);
+    calls::outcome(call, lists, numbers, lent)
 }
 
 // Whether a row agrees. One that has a list too long, or a number too few or too many, does not.
@@ -21,7 +18,7 @@ pub fn agrees(row: &[i64], call: usize) -> bool {
     if call == 0 {
         return false;
     }
-    let places = shape::places_in(row, call);
+    let places = shape::places_in(row);
     if places.end != row.len() {
         return false;
     }

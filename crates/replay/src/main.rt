@@ -1,14 +1,12 @@
 // Replays stored answers. Each line of standard input, up to 64 KiB in all, is a call with its arguments and what must come of it, in
 // decimal numbers. Each line that does not agree is written; then, for each call, how many cases there were and how many agreed.
+mod calls;
 mod case;
 
+use calls::CALLS;
 use column::sequence;
 use libc::STDIN_FILENO;
 use libc::STDOUT_FILENO;
-use replay_case::inner::shape;
-
-// One more than the last call's number.
-const CALLS: usize = 44;
 
 // The most numbers that are read of a line, more than any case has.
 const NUMBERS: usize = 128;
@@ -22,7 +20,7 @@ fn count(counts: &mut [u64; CALLS], call: usize) {
 // The call of a line's numbers; 0 if it is not known.
 fn call_of(row: &[i64], valid: bool) -> usize {
     if valid {
-        shape::known(sequence::entry_or(row, 0, -1))
+        calls::known(sequence::entry_or(row, 0, -1))
     } else {
         0
     }
@@ -74,8 +72,8 @@ fn count_of(counts: &[u64; CALLS], call: usize) -> u64 {
     if call < CALLS { counts[call] } else { 0 }
 }
 
-// A line for each call, from number 2 on. Each name has a line.
-fn report_all(names: &[u8], cases: &[u64; CALLS], agreed: &[u64; CALLS]) {
+// A line for each call, from number 2 on: empty has no case. Each name has a line.
+pub fn report_all(names: &[u8], cases: &[u64; CALLS], agreed: &[u64; CALLS]) {
     let mut call = 2;
     let mut at = 0;
     while at < names.len() {
@@ -91,19 +89,12 @@ fn report_all(names: &[u8], cases: &[u64; CALLS], agreed: &[u64; CALLS]) {
 }
 
 fn main() {
-    let names =
-        b"from_runs\nfrom_ends\nrepeat\npush_run\nextend_to\nfrom_dense\nto_dense\nequals\nplan\nzip_with\n\
-        zip_with_raw\nplan_many\nzip_many\nrun_index\nslice\nslice_view\nslice_view_values\nconcat\nshift\n\
-        reversed\nranges_where\nmerge\nmerged\nmerge_mask\nmerge_by\nmerge_plan\ngroup_ids\nsum\nreduce\n\
-        RleBatch from_parts\nRleBatch position\nRleBatch get\nRleBatch getitems\nRleBatch slice_reduce\n\
-        RleBatch shift\nRleBatch reversed\nRleBatch map_rles_slice\nRleBatch collapse\nRleBatch concat\n\
-        RleBatch zip_with\ngetitems\nslice_reduce\n";
     let mut buffer = io::large_buffer();
     let n = io::read_full(STDIN_FILENO, &mut buffer);
     let mut cases = [0u64; CALLS];
     let mut agreed = [0u64; CALLS];
     let lines = replay(&buffer[..n], &mut cases, &mut agreed);
-    report_all(names, &cases, &agreed);
+    calls::report(&cases, &agreed);
     if cases[0] > 0 {
         io::write_all(STDOUT_FILENO, b"unknown ");
         write_count(cases[0], b" cases\n");

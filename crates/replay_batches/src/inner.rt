@@ -1,210 +1,316 @@
-// The calls of batch.rs on a case's lists and numbers and on the buffers that it lends.
+// The calls on batches, each on the lists and the numbers of a case and on the buffers that it lends.
+// Written by bindings/generate from the exports.
 use column::sequence;
-use ffi::RlBatched;
+use replay_case::inner;
 use replay_case::inner::LONGEST;
 use replay_case::inner::Outcome;
-use replay_case::inner::answered;
-use replay_case::inner::bits;
-use replay_case::inner::bits_lent;
-use replay_case::inner::bytes;
-use replay_case::inner::bytes_lent;
-use replay_case::inner::code;
-use replay_case::inner::entries;
-use replay_case::inner::entries_lent;
-use replay_case::inner::fill_at;
-use replay_case::inner::from_keys;
-use replay_case::inner::from_places;
-use replay_case::inner::key;
-use replay_case::inner::keys;
-use replay_case::inner::keys_lent;
-use replay_case::inner::list;
-use replay_case::inner::listed;
-use replay_case::inner::numbers_of;
-use replay_case::inner::outcome_of;
-use replay_case::inner::places;
-use replay_case::inner::places_lent;
-use replay_case::inner::reduced;
 
-// The outcome of a call that makes a batch.
-fn batched(
-    answer: RlBatched,
-    keys: [u32; LONGEST],
-    offsets: [usize; LONGEST],
-    ends: [i64; LONGEST],
-    values: [i64; LONGEST],
-    scratch_ends: [i64; LONGEST],
-    scratch_values: [i64; LONGEST],
-) -> Outcome {
-    Outcome {
-        numbers: numbers_of(answer.refusal, answer.keys as u64, answer.runs as u64, 0, 0),
-        first: from_keys(keys),
-        second: from_places(offsets),
-        third: ends,
-        fourth: values,
-        fifth: scratch_ends,
-        sixth: scratch_values,
-    }
-}
-
-// from_parts and position.
-fn look(call: usize, lists: &[i64], numbers: &[i64], keys: &[u32], offsets: &[usize]) -> Outcome {
-    match call {
-        31 => {
-            let ends = list(lists, 2);
-            let refusal = runlength::rl_batch_from_parts(keys, offsets, ends, list(lists, 3));
-            answered(refusal, 0, 0, 0, 0)
-        }
-        _ => {
-            let found = runlength::rl_batch_position(keys, key(numbers, 0));
-            answered(found.refusal, found.found, found.index as u64, 0, 0)
-        }
-    }
-}
-
-fn get(lists: &[i64], numbers: &[i64], lent: &[i64], keys: &[u32], offsets: &[usize]) -> Outcome {
-    let mut out_ends = entries(lent, 0);
-    let mut out_values = entries(lent, 1);
-    let e = entries_lent(lent, 0, out_ends);
-    let v = entries_lent(lent, 1, out_values);
-    let got = runlength::rl_batch_get(
-        keys,
-        offsets,
-        list(lists, 2),
-        list(lists, 3),
-        key(numbers, 0),
-        &mut out_ends[..e],
-        &mut out_values[..v],
+fn batch_from_parts(lists: &[i64]) -> Outcome {
+    let keys = inner::keys(lists, 0);
+    let offsets = inner::places(lists, 1);
+    let keys_len = inner::keys_lent(lists, 0, keys);
+    let offsets_len = inner::places_lent(lists, 1, offsets);
+    let answer = runlength::rl_batch_from_parts(
+        &keys[..keys_len],
+        &offsets[..offsets_len],
+        inner::list(lists, 2),
+        inner::list(lists, 3),
     );
-    let answer = numbers_of(got.refusal, got.found, got.count as u64, 0, 0);
-    outcome_of(answer, out_ends, out_values, [0i64; LONGEST])
+    inner::answered(answer, 0, 0, 0, 0)
 }
 
-fn getitems(
-    lists: &[i64],
-    lent: &[i64],
-    keys: &[u32],
-    offsets: &[usize],
-    get_keys: &[u32],
-) -> Outcome {
-    let mut out_offsets = places(lent, 0);
-    let mut out_ends = entries(lent, 1);
-    let mut out_values = entries(lent, 2);
-    let o = places_lent(lent, 0, out_offsets);
-    let e = entries_lent(lent, 1, out_ends);
-    let v = entries_lent(lent, 2, out_values);
-    let answer = runlength::rl_batch_getitems(
-        keys,
-        offsets,
-        list(lists, 2),
-        list(lists, 3),
-        get_keys,
-        list(lists, 5),
-        list(lists, 6),
-        &mut out_offsets[..o],
-        &mut out_ends[..e],
-        &mut out_values[..v],
-    );
-    listed(answer, out_offsets, out_ends, out_values)
+fn batch_position(lists: &[i64], numbers: &[i64]) -> Outcome {
+    let keys = inner::keys(lists, 0);
+    let keys_len = inner::keys_lent(lists, 0, keys);
+    let answer = runlength::rl_batch_position(&keys[..keys_len], inner::key(numbers, 0));
+    inner::answered(answer.refusal, answer.found, answer.index as u64, 0, 0)
 }
 
-fn slice_reduce(
-    lists: &[i64],
-    numbers: &[i64],
-    lent: &[i64],
-    keys: &[u32],
-    offsets: &[usize],
-    get_keys: &[u32],
-) -> Outcome {
-    let mut out_kinds = bytes(lent, 0);
-    let mut out_bits = bits(lent, 1);
-    let k = bytes_lent(lent, 0, out_kinds);
-    let b = bits_lent(lent, 1, out_bits);
-    let answer = runlength::rl_batch_slice_reduce(
-        keys,
-        offsets,
-        list(lists, 2),
-        list(lists, 3),
-        get_keys,
-        list(lists, 5),
-        list(lists, 6),
-        code(numbers, 0),
-        sequence::entry_or(numbers, 1, 0),
-        &mut out_kinds[..k],
-        &mut out_bits[..b],
-    );
-    reduced(answer, out_kinds, out_bits)
-}
-
-// shift, reversed and map_rles_slice.
-fn map_each(
-    call: usize,
+fn batch_get_lent(
     lists: &[i64],
     numbers: &[i64],
     lent: &[i64],
     keys: &[u32],
     offsets: &[usize],
 ) -> Outcome {
-    let ends = list(lists, 2);
-    let values = list(lists, 3);
-    let x = sequence::entry_or(numbers, 0, 0);
-    let y = sequence::entry_or(numbers, 1, 0);
-    let mut out_keys = replay_case::inner::keys(lent, 0);
-    let mut out_offsets = places(lent, 1);
-    let mut out_ends = entries(lent, 2);
-    let mut out_values = entries(lent, 3);
-    let k = keys_lent(lent, 0, out_keys);
-    let o = places_lent(lent, 1, out_offsets);
-    let e = entries_lent(lent, 2, out_ends);
-    let v = entries_lent(lent, 3, out_values);
-    let answer = match call {
-        36 => runlength::rl_batch_shift(
-            keys,
-            offsets,
-            ends,
-            values,
-            x,
-            y,
-            &mut out_keys[..k],
-            &mut out_offsets[..o],
-            &mut out_ends[..e],
-            &mut out_values[..v],
-        ),
-        37 => runlength::rl_batch_reversed(
-            keys,
-            offsets,
-            ends,
-            values,
-            &mut out_keys[..k],
-            &mut out_offsets[..o],
-            &mut out_ends[..e],
-            &mut out_values[..v],
-        ),
-        _ => runlength::rl_batch_map_rles_slice(
-            keys,
-            offsets,
-            ends,
-            values,
-            x,
-            y,
-            &mut out_keys[..k],
-            &mut out_offsets[..o],
-            &mut out_ends[..e],
-            &mut out_values[..v],
-        ),
-    };
-    let none = [0i64; LONGEST];
-    batched(
-        answer,
-        out_keys,
-        out_offsets,
-        out_ends,
-        out_values,
-        none,
-        none,
+    let mut out_ends = inner::entries(lent, 0);
+    let mut out_values = inner::entries(lent, 1);
+    let out_ends_len = inner::entries_lent(lent, 0, out_ends);
+    let out_values_len = inner::entries_lent(lent, 1, out_values);
+    let answer = runlength::rl_batch_get(
+        keys,
+        offsets,
+        inner::list(lists, 2),
+        inner::list(lists, 3),
+        inner::key(numbers, 0),
+        &mut out_ends[..out_ends_len],
+        &mut out_values[..out_values_len],
+    );
+    let numbers = inner::numbers_of(answer.refusal, answer.found, answer.count as u64, 0, 0);
+    inner::outcome_of(numbers, out_ends, out_values, [0i64; LONGEST])
+}
+
+fn batch_get(lists: &[i64], numbers: &[i64], lent: &[i64]) -> Outcome {
+    let keys = inner::keys(lists, 0);
+    let offsets = inner::places(lists, 1);
+    let keys_len = inner::keys_lent(lists, 0, keys);
+    let offsets_len = inner::places_lent(lists, 1, offsets);
+    batch_get_lent(
+        lists,
+        numbers,
+        lent,
+        &keys[..keys_len],
+        &offsets[..offsets_len],
     )
 }
 
-fn collapse(
+fn batch_getitems_lent(
+    lists: &[i64],
+    lent: &[i64],
+    keys: &[u32],
+    offsets: &[usize],
+    get_keys: &[u32],
+) -> Outcome {
+    let mut out_offsets = inner::places(lent, 0);
+    let mut out_ends = inner::entries(lent, 1);
+    let mut out_values = inner::entries(lent, 2);
+    let out_offsets_len = inner::places_lent(lent, 0, out_offsets);
+    let out_ends_len = inner::entries_lent(lent, 1, out_ends);
+    let out_values_len = inner::entries_lent(lent, 2, out_values);
+    let answer = runlength::rl_batch_getitems(
+        keys,
+        offsets,
+        inner::list(lists, 2),
+        inner::list(lists, 3),
+        get_keys,
+        inner::list(lists, 5),
+        inner::list(lists, 6),
+        &mut out_offsets[..out_offsets_len],
+        &mut out_ends[..out_ends_len],
+        &mut out_values[..out_values_len],
+    );
+    let numbers = inner::numbers_of(answer.refusal, answer.keys as u64, answer.runs as u64, 0, 0);
+    inner::outcome_of(
+        numbers,
+        inner::from_places(out_offsets),
+        out_ends,
+        out_values,
+    )
+}
+
+fn batch_getitems(lists: &[i64], lent: &[i64]) -> Outcome {
+    let keys = inner::keys(lists, 0);
+    let offsets = inner::places(lists, 1);
+    let get_keys = inner::keys(lists, 4);
+    let keys_len = inner::keys_lent(lists, 0, keys);
+    let offsets_len = inner::places_lent(lists, 1, offsets);
+    let get_keys_len = inner::keys_lent(lists, 4, get_keys);
+    batch_getitems_lent(
+        lists,
+        lent,
+        &keys[..keys_len],
+        &offsets[..offsets_len],
+        &get_keys[..get_keys_len],
+    )
+}
+
+fn batch_slice_reduce_lent(
+    lists: &[i64],
+    numbers: &[i64],
+    lent: &[i64],
+    keys: &[u32],
+    offsets: &[usize],
+    get_keys: &[u32],
+) -> Outcome {
+    let mut out_kinds = inner::bytes(lent, 0);
+    let mut out_bits = inner::bits(lent, 1);
+    let out_kinds_len = inner::bytes_lent(lent, 0, out_kinds);
+    let out_bits_len = inner::bits_lent(lent, 1, out_bits);
+    let answer = runlength::rl_batch_slice_reduce(
+        keys,
+        offsets,
+        inner::list(lists, 2),
+        inner::list(lists, 3),
+        get_keys,
+        inner::list(lists, 5),
+        inner::list(lists, 6),
+        inner::code(numbers, 0),
+        sequence::entry_or(numbers, 1, 0),
+        &mut out_kinds[..out_kinds_len],
+        &mut out_bits[..out_bits_len],
+    );
+    let numbers = inner::numbers_of(answer.refusal, answer.count as u64, 0, 0, 0);
+    inner::outcome_of(
+        numbers,
+        inner::from_bytes(out_kinds),
+        inner::from_bits(out_bits),
+        [0i64; LONGEST],
+    )
+}
+
+fn batch_slice_reduce(lists: &[i64], numbers: &[i64], lent: &[i64]) -> Outcome {
+    let keys = inner::keys(lists, 0);
+    let offsets = inner::places(lists, 1);
+    let get_keys = inner::keys(lists, 4);
+    let keys_len = inner::keys_lent(lists, 0, keys);
+    let offsets_len = inner::places_lent(lists, 1, offsets);
+    let get_keys_len = inner::keys_lent(lists, 4, get_keys);
+    batch_slice_reduce_lent(
+        lists,
+        numbers,
+        lent,
+        &keys[..keys_len],
+        &offsets[..offsets_len],
+        &get_keys[..get_keys_len],
+    )
+}
+
+fn batch_shift_lent(
+    lists: &[i64],
+    numbers: &[i64],
+    lent: &[i64],
+    keys: &[u32],
+    offsets: &[usize],
+) -> Outcome {
+    let mut out_keys = inner::keys(lent, 0);
+    let mut out_offsets = inner::places(lent, 1);
+    let mut out_ends = inner::entries(lent, 2);
+    let mut out_values = inner::entries(lent, 3);
+    let out_keys_len = inner::keys_lent(lent, 0, out_keys);
+    let out_offsets_len = inner::places_lent(lent, 1, out_offsets);
+    let out_ends_len = inner::entries_lent(lent, 2, out_ends);
+    let out_values_len = inner::entries_lent(lent, 3, out_values);
+    let answer = runlength::rl_batch_shift(
+        keys,
+        offsets,
+        inner::list(lists, 2),
+        inner::list(lists, 3),
+        sequence::entry_or(numbers, 0, 0),
+        sequence::entry_or(numbers, 1, 0),
+        &mut out_keys[..out_keys_len],
+        &mut out_offsets[..out_offsets_len],
+        &mut out_ends[..out_ends_len],
+        &mut out_values[..out_values_len],
+    );
+    let numbers = inner::numbers_of(answer.refusal, answer.keys as u64, answer.runs as u64, 0, 0);
+    Outcome {
+        numbers,
+        first: inner::from_keys(out_keys),
+        second: inner::from_places(out_offsets),
+        third: out_ends,
+        fourth: out_values,
+        fifth: [0i64; LONGEST],
+        sixth: [0i64; LONGEST],
+    }
+}
+
+fn batch_shift(lists: &[i64], numbers: &[i64], lent: &[i64]) -> Outcome {
+    let keys = inner::keys(lists, 0);
+    let offsets = inner::places(lists, 1);
+    let keys_len = inner::keys_lent(lists, 0, keys);
+    let offsets_len = inner::places_lent(lists, 1, offsets);
+    batch_shift_lent(
+        lists,
+        numbers,
+        lent,
+        &keys[..keys_len],
+        &offsets[..offsets_len],
+    )
+}
+
+fn batch_reversed_lent(lists: &[i64], lent: &[i64], keys: &[u32], offsets: &[usize]) -> Outcome {
+    let mut out_keys = inner::keys(lent, 0);
+    let mut out_offsets = inner::places(lent, 1);
+    let mut out_ends = inner::entries(lent, 2);
+    let mut out_values = inner::entries(lent, 3);
+    let out_keys_len = inner::keys_lent(lent, 0, out_keys);
+    let out_offsets_len = inner::places_lent(lent, 1, out_offsets);
+    let out_ends_len = inner::entries_lent(lent, 2, out_ends);
+    let out_values_len = inner::entries_lent(lent, 3, out_values);
+    let answer = runlength::rl_batch_reversed(
+        keys,
+        offsets,
+        inner::list(lists, 2),
+        inner::list(lists, 3),
+        &mut out_keys[..out_keys_len],
+        &mut out_offsets[..out_offsets_len],
+        &mut out_ends[..out_ends_len],
+        &mut out_values[..out_values_len],
+    );
+    let numbers = inner::numbers_of(answer.refusal, answer.keys as u64, answer.runs as u64, 0, 0);
+    Outcome {
+        numbers,
+        first: inner::from_keys(out_keys),
+        second: inner::from_places(out_offsets),
+        third: out_ends,
+        fourth: out_values,
+        fifth: [0i64; LONGEST],
+        sixth: [0i64; LONGEST],
+    }
+}
+
+fn batch_reversed(lists: &[i64], lent: &[i64]) -> Outcome {
+    let keys = inner::keys(lists, 0);
+    let offsets = inner::places(lists, 1);
+    let keys_len = inner::keys_lent(lists, 0, keys);
+    let offsets_len = inner::places_lent(lists, 1, offsets);
+    batch_reversed_lent(lists, lent, &keys[..keys_len], &offsets[..offsets_len])
+}
+
+fn batch_map_rles_slice_lent(
+    lists: &[i64],
+    numbers: &[i64],
+    lent: &[i64],
+    keys: &[u32],
+    offsets: &[usize],
+) -> Outcome {
+    let mut out_keys = inner::keys(lent, 0);
+    let mut out_offsets = inner::places(lent, 1);
+    let mut out_ends = inner::entries(lent, 2);
+    let mut out_values = inner::entries(lent, 3);
+    let out_keys_len = inner::keys_lent(lent, 0, out_keys);
+    let out_offsets_len = inner::places_lent(lent, 1, out_offsets);
+    let out_ends_len = inner::entries_lent(lent, 2, out_ends);
+    let out_values_len = inner::entries_lent(lent, 3, out_values);
+    let answer = runlength::rl_batch_map_rles_slice(
+        keys,
+        offsets,
+        inner::list(lists, 2),
+        inner::list(lists, 3),
+        sequence::entry_or(numbers, 0, 0),
+        sequence::entry_or(numbers, 1, 0),
+        &mut out_keys[..out_keys_len],
+        &mut out_offsets[..out_offsets_len],
+        &mut out_ends[..out_ends_len],
+        &mut out_values[..out_values_len],
+    );
+    let numbers = inner::numbers_of(answer.refusal, answer.keys as u64, answer.runs as u64, 0, 0);
+    Outcome {
+        numbers,
+        first: inner::from_keys(out_keys),
+        second: inner::from_places(out_offsets),
+        third: out_ends,
+        fourth: out_values,
+        fifth: [0i64; LONGEST],
+        sixth: [0i64; LONGEST],
+    }
+}
+
+fn batch_map_rles_slice(lists: &[i64], numbers: &[i64], lent: &[i64]) -> Outcome {
+    let keys = inner::keys(lists, 0);
+    let offsets = inner::places(lists, 1);
+    let keys_len = inner::keys_lent(lists, 0, keys);
+    let offsets_len = inner::places_lent(lists, 1, offsets);
+    batch_map_rles_slice_lent(
+        lists,
+        numbers,
+        lent,
+        &keys[..keys_len],
+        &offsets[..offsets_len],
+    )
+}
+
+fn batch_collapse_lent(
     lists: &[i64],
     numbers: &[i64],
     lent: &[i64],
@@ -212,173 +318,202 @@ fn collapse(
     offsets: &[usize],
     new_keys: &[u32],
 ) -> Outcome {
-    let mut out_keys = replay_case::inner::keys(lent, 0);
-    let mut out_offsets = places(lent, 1);
-    let mut out_ends = entries(lent, 2);
-    let mut out_values = entries(lent, 3);
-    let mut scratch_ends = entries(lent, 4);
-    let mut scratch_values = entries(lent, 5);
-    let k = keys_lent(lent, 0, out_keys);
-    let o = places_lent(lent, 1, out_offsets);
-    let e = entries_lent(lent, 2, out_ends);
-    let v = entries_lent(lent, 3, out_values);
-    let s = entries_lent(lent, 4, scratch_ends);
-    let t = entries_lent(lent, 5, scratch_values);
+    let mut out_keys = inner::keys(lent, 0);
+    let mut out_offsets = inner::places(lent, 1);
+    let mut out_ends = inner::entries(lent, 2);
+    let mut out_values = inner::entries(lent, 3);
+    let mut scratch_ends = inner::entries(lent, 4);
+    let mut scratch_values = inner::entries(lent, 5);
+    let out_keys_len = inner::keys_lent(lent, 0, out_keys);
+    let out_offsets_len = inner::places_lent(lent, 1, out_offsets);
+    let out_ends_len = inner::entries_lent(lent, 2, out_ends);
+    let out_values_len = inner::entries_lent(lent, 3, out_values);
+    let scratch_ends_len = inner::entries_lent(lent, 4, scratch_ends);
+    let scratch_values_len = inner::entries_lent(lent, 5, scratch_values);
     let answer = runlength::rl_batch_collapse(
         keys,
         offsets,
-        list(lists, 2),
-        list(lists, 3),
+        inner::list(lists, 2),
+        inner::list(lists, 3),
         new_keys,
-        fill_at(numbers, 0),
-        code(numbers, 2),
-        &mut out_keys[..k],
-        &mut out_offsets[..o],
-        &mut out_ends[..e],
-        &mut out_values[..v],
-        &mut scratch_ends[..s],
-        &mut scratch_values[..t],
+        inner::fill_at(numbers, 0),
+        inner::code(numbers, 2),
+        &mut out_keys[..out_keys_len],
+        &mut out_offsets[..out_offsets_len],
+        &mut out_ends[..out_ends_len],
+        &mut out_values[..out_values_len],
+        &mut scratch_ends[..scratch_ends_len],
+        &mut scratch_values[..scratch_values_len],
     );
-    batched(
-        answer,
-        out_keys,
-        out_offsets,
-        out_ends,
-        out_values,
-        scratch_ends,
-        scratch_values,
-    )
-}
-
-fn concat(
-    lists: &[i64],
-    lent: &[i64],
-    keys: &[u32],
-    offsets: &[usize],
-    b_keys: &[u32],
-    b_offsets: &[usize],
-) -> Outcome {
-    let mut out_keys = replay_case::inner::keys(lent, 0);
-    let mut out_offsets = places(lent, 1);
-    let mut out_ends = entries(lent, 2);
-    let mut out_values = entries(lent, 3);
-    let k = keys_lent(lent, 0, out_keys);
-    let o = places_lent(lent, 1, out_offsets);
-    let e = entries_lent(lent, 2, out_ends);
-    let v = entries_lent(lent, 3, out_values);
-    let answer = runlength::rl_batch_concat(
-        keys,
-        offsets,
-        list(lists, 2),
-        list(lists, 3),
-        b_keys,
-        b_offsets,
-        list(lists, 6),
-        list(lists, 7),
-        &mut out_keys[..k],
-        &mut out_offsets[..o],
-        &mut out_ends[..e],
-        &mut out_values[..v],
-    );
-    let none = [0i64; LONGEST];
-    batched(
-        answer,
-        out_keys,
-        out_offsets,
-        out_ends,
-        out_values,
-        none,
-        none,
-    )
-}
-
-fn zip_with(
-    lists: &[i64],
-    numbers: &[i64],
-    lent: &[i64],
-    keys: &[u32],
-    offsets: &[usize],
-    b_keys: &[u32],
-    b_offsets: &[usize],
-) -> Outcome {
-    let mut out_keys = replay_case::inner::keys(lent, 0);
-    let mut out_offsets = places(lent, 1);
-    let mut out_ends = entries(lent, 2);
-    let mut out_values = entries(lent, 3);
-    let k = keys_lent(lent, 0, out_keys);
-    let o = places_lent(lent, 1, out_offsets);
-    let e = entries_lent(lent, 2, out_ends);
-    let v = entries_lent(lent, 3, out_values);
-    let answer = runlength::rl_batch_zip_with(
-        keys,
-        offsets,
-        list(lists, 2),
-        list(lists, 3),
-        b_keys,
-        b_offsets,
-        list(lists, 6),
-        list(lists, 7),
-        code(numbers, 0),
-        fill_at(numbers, 1),
-        fill_at(numbers, 3),
-        code(numbers, 5),
-        &mut out_keys[..k],
-        &mut out_offsets[..o],
-        &mut out_ends[..e],
-        &mut out_values[..v],
-    );
-    let none = [0i64; LONGEST];
-    batched(
-        answer,
-        out_keys,
-        out_offsets,
-        out_ends,
-        out_values,
-        none,
-        none,
-    )
-}
-
-// A call on the batch of the first four lists. The fifth list as keys and the sixth as offsets are another batch's.
-fn called(
-    call: usize,
-    lists: &[i64],
-    numbers: &[i64],
-    lent: &[i64],
-    keys: &[u32],
-    offsets: &[usize],
-    b_keys: &[u32],
-    b_offsets: &[usize],
-) -> Outcome {
-    match call {
-        31..=32 => look(call, lists, numbers, keys, offsets),
-        33 => get(lists, numbers, lent, keys, offsets),
-        34 => getitems(lists, lent, keys, offsets, b_keys),
-        35 => slice_reduce(lists, numbers, lent, keys, offsets, b_keys),
-        36..=38 => map_each(call, lists, numbers, lent, keys, offsets),
-        39 => collapse(lists, numbers, lent, keys, offsets, b_keys),
-        40 => concat(lists, lent, keys, offsets, b_keys, b_offsets),
-        _ => zip_with(lists, numbers, lent, keys, offsets, b_keys, b_offsets),
+    let numbers = inner::numbers_of(answer.refusal, answer.keys as u64, answer.runs as u64, 0, 0);
+    Outcome {
+        numbers,
+        first: inner::from_keys(out_keys),
+        second: inner::from_places(out_offsets),
+        third: out_ends,
+        fourth: out_values,
+        fifth: scratch_ends,
+        sixth: scratch_values,
     }
 }
 
-pub fn outcome(call: usize, lists: &[i64], numbers: &[i64], lent: &[i64]) -> Outcome {
-    let batch_keys = keys(lists, 0);
-    let offsets = places(lists, 1);
-    let b_keys = keys(lists, 4);
-    let b_offsets = places(lists, 5);
-    let k = keys_lent(lists, 0, batch_keys);
-    let o = places_lent(lists, 1, offsets);
-    let l = keys_lent(lists, 4, b_keys);
-    let p = places_lent(lists, 5, b_offsets);
-    called(
-        call,
+fn batch_collapse(lists: &[i64], numbers: &[i64], lent: &[i64]) -> Outcome {
+    let keys = inner::keys(lists, 0);
+    let offsets = inner::places(lists, 1);
+    let new_keys = inner::keys(lists, 4);
+    let keys_len = inner::keys_lent(lists, 0, keys);
+    let offsets_len = inner::places_lent(lists, 1, offsets);
+    let new_keys_len = inner::keys_lent(lists, 4, new_keys);
+    batch_collapse_lent(
         lists,
         numbers,
         lent,
-        &batch_keys[..k],
-        &offsets[..o],
-        &b_keys[..l],
-        &b_offsets[..p],
+        &keys[..keys_len],
+        &offsets[..offsets_len],
+        &new_keys[..new_keys_len],
     )
+}
+
+fn batch_concat_lent(
+    lists: &[i64],
+    lent: &[i64],
+    a_keys: &[u32],
+    a_offsets: &[usize],
+    b_keys: &[u32],
+    b_offsets: &[usize],
+) -> Outcome {
+    let mut out_keys = inner::keys(lent, 0);
+    let mut out_offsets = inner::places(lent, 1);
+    let mut out_ends = inner::entries(lent, 2);
+    let mut out_values = inner::entries(lent, 3);
+    let out_keys_len = inner::keys_lent(lent, 0, out_keys);
+    let out_offsets_len = inner::places_lent(lent, 1, out_offsets);
+    let out_ends_len = inner::entries_lent(lent, 2, out_ends);
+    let out_values_len = inner::entries_lent(lent, 3, out_values);
+    let answer = runlength::rl_batch_concat(
+        a_keys,
+        a_offsets,
+        inner::list(lists, 2),
+        inner::list(lists, 3),
+        b_keys,
+        b_offsets,
+        inner::list(lists, 6),
+        inner::list(lists, 7),
+        &mut out_keys[..out_keys_len],
+        &mut out_offsets[..out_offsets_len],
+        &mut out_ends[..out_ends_len],
+        &mut out_values[..out_values_len],
+    );
+    let numbers = inner::numbers_of(answer.refusal, answer.keys as u64, answer.runs as u64, 0, 0);
+    Outcome {
+        numbers,
+        first: inner::from_keys(out_keys),
+        second: inner::from_places(out_offsets),
+        third: out_ends,
+        fourth: out_values,
+        fifth: [0i64; LONGEST],
+        sixth: [0i64; LONGEST],
+    }
+}
+
+fn batch_concat(lists: &[i64], lent: &[i64]) -> Outcome {
+    let a_keys = inner::keys(lists, 0);
+    let a_offsets = inner::places(lists, 1);
+    let b_keys = inner::keys(lists, 4);
+    let b_offsets = inner::places(lists, 5);
+    let a_keys_len = inner::keys_lent(lists, 0, a_keys);
+    let a_offsets_len = inner::places_lent(lists, 1, a_offsets);
+    let b_keys_len = inner::keys_lent(lists, 4, b_keys);
+    let b_offsets_len = inner::places_lent(lists, 5, b_offsets);
+    batch_concat_lent(
+        lists,
+        lent,
+        &a_keys[..a_keys_len],
+        &a_offsets[..a_offsets_len],
+        &b_keys[..b_keys_len],
+        &b_offsets[..b_offsets_len],
+    )
+}
+
+fn batch_zip_with_lent(
+    lists: &[i64],
+    numbers: &[i64],
+    lent: &[i64],
+    a_keys: &[u32],
+    a_offsets: &[usize],
+    b_keys: &[u32],
+    b_offsets: &[usize],
+) -> Outcome {
+    let mut out_keys = inner::keys(lent, 0);
+    let mut out_offsets = inner::places(lent, 1);
+    let mut out_ends = inner::entries(lent, 2);
+    let mut out_values = inner::entries(lent, 3);
+    let out_keys_len = inner::keys_lent(lent, 0, out_keys);
+    let out_offsets_len = inner::places_lent(lent, 1, out_offsets);
+    let out_ends_len = inner::entries_lent(lent, 2, out_ends);
+    let out_values_len = inner::entries_lent(lent, 3, out_values);
+    let answer = runlength::rl_batch_zip_with(
+        a_keys,
+        a_offsets,
+        inner::list(lists, 2),
+        inner::list(lists, 3),
+        b_keys,
+        b_offsets,
+        inner::list(lists, 6),
+        inner::list(lists, 7),
+        inner::code(numbers, 0),
+        inner::fill_at(numbers, 1),
+        inner::fill_at(numbers, 3),
+        inner::code(numbers, 5),
+        &mut out_keys[..out_keys_len],
+        &mut out_offsets[..out_offsets_len],
+        &mut out_ends[..out_ends_len],
+        &mut out_values[..out_values_len],
+    );
+    let numbers = inner::numbers_of(answer.refusal, answer.keys as u64, answer.runs as u64, 0, 0);
+    Outcome {
+        numbers,
+        first: inner::from_keys(out_keys),
+        second: inner::from_places(out_offsets),
+        third: out_ends,
+        fourth: out_values,
+        fifth: [0i64; LONGEST],
+        sixth: [0i64; LONGEST],
+    }
+}
+
+fn batch_zip_with(lists: &[i64], numbers: &[i64], lent: &[i64]) -> Outcome {
+    let a_keys = inner::keys(lists, 0);
+    let a_offsets = inner::places(lists, 1);
+    let b_keys = inner::keys(lists, 4);
+    let b_offsets = inner::places(lists, 5);
+    let a_keys_len = inner::keys_lent(lists, 0, a_keys);
+    let a_offsets_len = inner::places_lent(lists, 1, a_offsets);
+    let b_keys_len = inner::keys_lent(lists, 4, b_keys);
+    let b_offsets_len = inner::places_lent(lists, 5, b_offsets);
+    batch_zip_with_lent(
+        lists,
+        numbers,
+        lent,
+        &a_keys[..a_keys_len],
+        &a_offsets[..a_offsets_len],
+        &b_keys[..b_keys_len],
+        &b_offsets[..b_offsets_len],
+    )
+}
+
+pub fn outcome(call: usize, lists: &[i64], numbers: &[i64], lent: &[i64]) -> Outcome {
+    match call {
+        33 => batch_from_parts(lists),
+        34 => batch_position(lists, numbers),
+        35 => batch_get(lists, numbers, lent),
+        36 => batch_getitems(lists, lent),
+        37 => batch_slice_reduce(lists, numbers, lent),
+        38 => batch_shift(lists, numbers, lent),
+        39 => batch_reversed(lists, lent),
+        40 => batch_map_rles_slice(lists, numbers, lent),
+        41 => batch_collapse(lists, numbers, lent),
+        42 => batch_concat(lists, lent),
+        _ => batch_zip_with(lists, numbers, lent),
+    }
 }

@@ -1,11 +1,9 @@
-// The lists of a stored case, and what a call makes of it. Lists stand behind each other in a row of numbers, each as its length and
+// The lists of a stored case, and what a call makes of it. Lists stand one after another in a row of numbers, each as its length and
 // its entries.
 pub mod agreement;
 pub mod shape;
 
 use column::sequence;
-use ffi::RlBatched;
-use ffi::RlCounted;
 use ffi::RlFill;
 use ffi::RlRefusal;
 ghost use mathlib.Core.Path.{_≡_};
@@ -20,7 +18,7 @@ fn bits_at(row: &[i64], at: usize) -> u64 {
     num::as_unsigned(sequence::entry_or(row, at, -1))
 }
 
-// The place behind a list. It is past the row if the list runs past it or is too long.
+// The place after a list. It is past the row if the list runs past it or is too long.
 fn list_end(row: &[i64], at: usize) -> usize {
     let n = bits_at(row, at);
     if n > LONGEST as u64 {
@@ -30,7 +28,7 @@ fn list_end(row: &[i64], at: usize) -> usize {
     }
 }
 
-// The place behind so many lists.
+// The place after so many lists.
 pub fn behind(row: &[i64], at: usize, lists: usize) -> usize {
     let mut end = at;
     let mut k = 0;
@@ -201,7 +199,7 @@ fn number(byte: u8) -> i64 {
 }
 
 // Bytes as numbers.
-fn from_bytes(bytes: [u8; LONGEST]) -> [i64; LONGEST] {
+pub fn from_bytes(bytes: [u8; LONGEST]) -> [i64; LONGEST] {
     let mut numbers = [0i64; LONGEST];
     let mut i = 0;
     while i < LONGEST {
@@ -212,7 +210,7 @@ fn from_bytes(bytes: [u8; LONGEST]) -> [i64; LONGEST] {
 }
 
 // Bits as numbers.
-fn from_bits(bits: [u64; LONGEST]) -> [i64; LONGEST] {
+pub fn from_bits(bits: [u64; LONGEST]) -> [i64; LONGEST] {
     let mut numbers = [0i64; LONGEST];
     let mut i = 0;
     while i < LONGEST {
@@ -238,6 +236,18 @@ pub struct Outcome {
     pub fourth: [i64; LONGEST],
     pub fifth: [i64; LONGEST],
     pub sixth: [i64; LONGEST],
+}
+
+// The refusal of an answer that has none.
+pub fn no_refusal() -> RlRefusal {
+    RlRefusal {
+        number: 0,
+        first: 0,
+        second: 0,
+        third: 0,
+        in_key: 0,
+        position: 0,
+    }
 }
 
 pub fn numbers_of(
@@ -289,26 +299,4 @@ pub fn answered(refusal: RlRefusal, first: u64, second: u64, third: u64, fourth:
         none,
         none,
     )
-}
-
-// Of one that lends two and answers a count.
-pub fn counted(answer: RlCounted, first: [i64; LONGEST], second: [i64; LONGEST]) -> Outcome {
-    let numbers = numbers_of(answer.refusal, answer.count as u64, 0, 0, 0);
-    outcome_of(numbers, first, second, [0i64; LONGEST])
-}
-
-// Of one that answers a batch's lists but for its keys.
-pub fn listed(
-    answer: RlBatched,
-    offsets: [usize; LONGEST],
-    ends: [i64; LONGEST],
-    values: [i64; LONGEST],
-) -> Outcome {
-    let numbers = numbers_of(answer.refusal, answer.keys as u64, answer.runs as u64, 0, 0);
-    outcome_of(numbers, from_places(offsets), ends, values)
-}
-
-// Of one that answers kinds and bits.
-pub fn reduced(answer: RlCounted, kinds: [u8; LONGEST], bits: [u64; LONGEST]) -> Outcome {
-    counted(answer, from_bytes(kinds), from_bits(bits))
 }

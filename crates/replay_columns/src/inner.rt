@@ -1,340 +1,576 @@
-// The calls on columns: on a case's lists and numbers and on the buffers that it lends. A float counts by its bits.
+// The calls on columns, each on the lists and the numbers of a case and on the buffers that it lends.
+// Written by bindings/generate from the exports.
 use column::sequence;
+use replay_case::inner;
 use replay_case::inner::LONGEST;
 use replay_case::inner::Outcome;
-use replay_case::inner::answered;
-use replay_case::inner::bits;
-use replay_case::inner::bits_lent;
-use replay_case::inner::bytes;
-use replay_case::inner::bytes_lent;
-use replay_case::inner::code;
-use replay_case::inner::counted;
-use replay_case::inner::entries;
-use replay_case::inner::entries_lent;
-use replay_case::inner::fill_at;
-use replay_case::inner::from_places;
-use replay_case::inner::list;
-use replay_case::inner::listed;
-use replay_case::inner::numbers_of;
-use replay_case::inner::outcome_of;
-use replay_case::inner::places;
-use replay_case::inner::places_lent;
-use replay_case::inner::reduced;
-use replay_case::inner::size;
 
-// The calls that lend no buffer, but for reduce.
-fn ask(call: usize, lists: &[i64], numbers: &[i64]) -> Outcome {
-    let a = list(lists, 0);
-    let b = list(lists, 1);
-    let x = sequence::entry_or(numbers, 0, 0);
-    let y = sequence::entry_or(numbers, 1, 0);
-    match call {
-        3 => answered(runlength::rl_from_ends(a, b), 0, 0, 0, 0),
-        9 => {
-            let compared = runlength::rl_equals(a, b, list(lists, 2), list(lists, 3));
-            answered(compared.refusal, compared.equal, 0, 0, 0)
-        }
-        15 => {
-            let found = runlength::rl_run_index(a, x);
-            answered(found.refusal, found.found, found.index as u64, 0, 0)
-        }
-        17 => {
-            let viewed = runlength::rl_slice_view(a, b, x, y);
-            let start = num::as_unsigned(viewed.start);
-            let length = num::as_unsigned(viewed.length);
-            answered(viewed.refusal, viewed.first as u64, start, length, 0)
-        }
-        18 => {
-            let part = runlength::rl_slice_view_values(a, b, x, y);
-            let start = num::as_signed(part.first as u64);
-            let count = num::as_signed(part.count as u64);
-            let none = [0i64; LONGEST];
-            outcome_of([0, 0, 0, 0, 0, 0, start, count, 0, 0], none, none, none)
-        }
-        _ => {
-            let summed = runlength::rl_sum(a, b);
-            answered(summed.refusal, num::as_unsigned(summed.total), 0, 0, 0)
-        }
-    }
+fn from_runs(lists: &[i64], lent: &[i64]) -> Outcome {
+    let mut out_ends = inner::entries(lent, 0);
+    let mut out_values = inner::entries(lent, 1);
+    let out_ends_len = inner::entries_lent(lent, 0, out_ends);
+    let out_values_len = inner::entries_lent(lent, 1, out_values);
+    let answer = runlength::rl_from_runs(
+        inner::list(lists, 0),
+        inner::list(lists, 1),
+        &mut out_ends[..out_ends_len],
+        &mut out_values[..out_values_len],
+    );
+    let numbers = inner::numbers_of(answer.refusal, answer.count as u64, 0, 0, 0);
+    inner::outcome_of(numbers, out_ends, out_values, [0i64; LONGEST])
 }
 
-fn reduce(lists: &[i64], numbers: &[i64]) -> Outcome {
-    let ddof = sequence::entry_or(numbers, 1, 0);
-    let answer = runlength::rl_reduce(list(lists, 0), list(lists, 1), code(numbers, 0), ddof);
-    let mean = f64::to_bits(answer.mean);
-    let variance = f64::to_bits(answer.variance);
-    let whole = num::as_unsigned(answer.whole);
-    answered(answer.refusal, answer.kind, whole, mean, variance)
+fn from_ends(lists: &[i64]) -> Outcome {
+    let answer = runlength::rl_from_ends(inner::list(lists, 0), inner::list(lists, 1));
+    inner::answered(answer, 0, 0, 0, 0)
 }
 
-// The calls that make a column of one: from_runs, reversed, merge and merged.
-fn rebuild(call: usize, lists: &[i64], lent: &[i64]) -> Outcome {
-    let a = list(lists, 0);
-    let b = list(lists, 1);
-    let mut ends = entries(lent, 0);
-    let mut values = entries(lent, 1);
-    let e = entries_lent(lent, 0, ends);
-    let v = entries_lent(lent, 1, values);
-    let answer = match call {
-        2 => runlength::rl_from_runs(a, b, &mut ends[..e], &mut values[..v]),
-        21 => runlength::rl_reversed(a, b, &mut ends[..e], &mut values[..v]),
-        23 => runlength::rl_merge(a, b, &mut ends[..e], &mut values[..v]),
-        _ => runlength::rl_merged(a, b, &mut ends[..e], &mut values[..v]),
-    };
-    counted(answer, ends, values)
+fn repeat(numbers: &[i64], lent: &[i64]) -> Outcome {
+    let mut out_ends = inner::entries(lent, 0);
+    let mut out_values = inner::entries(lent, 1);
+    let out_ends_len = inner::entries_lent(lent, 0, out_ends);
+    let out_values_len = inner::entries_lent(lent, 1, out_values);
+    let answer = runlength::rl_repeat(
+        sequence::entry_or(numbers, 0, 0),
+        sequence::entry_or(numbers, 1, 0),
+        &mut out_ends[..out_ends_len],
+        &mut out_values[..out_values_len],
+    );
+    let numbers = inner::numbers_of(answer.refusal, answer.count as u64, 0, 0, 0);
+    inner::outcome_of(numbers, out_ends, out_values, [0i64; LONGEST])
 }
 
-// Those that take numbers too: slice, shift, ranges_where and merge_by.
-fn rebuild_by(call: usize, lists: &[i64], numbers: &[i64], lent: &[i64]) -> Outcome {
-    let a = list(lists, 0);
-    let b = list(lists, 1);
-    let x = sequence::entry_or(numbers, 0, 0);
-    let y = sequence::entry_or(numbers, 1, 0);
-    let c = code(numbers, 0);
-    let mut ends = entries(lent, 0);
-    let mut values = entries(lent, 1);
-    let e = entries_lent(lent, 0, ends);
-    let v = entries_lent(lent, 1, values);
-    let answer = match call {
-        16 => runlength::rl_slice(a, b, x, y, &mut ends[..e], &mut values[..v]),
-        20 => runlength::rl_shift(a, b, x, y, &mut ends[..e], &mut values[..v]),
-        22 => runlength::rl_ranges_where(a, b, c, y, &mut ends[..e], &mut values[..v]),
-        _ => runlength::rl_merge_by(a, b, c, &mut ends[..e], &mut values[..v]),
-    };
-    counted(answer, ends, values)
+fn push_run(numbers: &[i64], lent: &[i64]) -> Outcome {
+    let mut ends = inner::entries(lent, 0);
+    let mut values = inner::entries(lent, 1);
+    let ends_len = inner::entries_lent(lent, 0, ends);
+    let values_len = inner::entries_lent(lent, 1, values);
+    let answer = runlength::rl_push_run(
+        &mut ends[..ends_len],
+        &mut values[..values_len],
+        inner::size(numbers, 0),
+        sequence::entry_or(numbers, 1, 0),
+        sequence::entry_or(numbers, 2, 0),
+    );
+    let numbers = inner::numbers_of(answer.refusal, answer.count as u64, 0, 0, 0);
+    inner::outcome_of(numbers, ends, values, [0i64; LONGEST])
 }
 
-// repeat, push_run, extend_to and from_dense. The numbers of the second and the third stand behind the buffers.
-fn build(call: usize, lists: &[i64], numbers: &[i64], lent: &[i64], behind: &[i64]) -> Outcome {
-    let mut ends = entries(lent, 0);
-    let mut values = entries(lent, 1);
-    let e = entries_lent(lent, 0, ends);
-    let v = entries_lent(lent, 1, values);
-    let value = sequence::entry_or(numbers, 0, 0);
-    let n = sequence::entry_or(numbers, 1, 0);
-    let used = size(behind, 0);
-    let x = sequence::entry_or(behind, 1, 0);
-    let y = sequence::entry_or(behind, 2, 0);
-    let answer = match call {
-        4 => runlength::rl_repeat(value, n, &mut ends[..e], &mut values[..v]),
-        5 => runlength::rl_push_run(&mut ends[..e], &mut values[..v], used, x, y),
-        6 => runlength::rl_extend_to(&mut ends[..e], &mut values[..v], used, x, y),
-        _ => runlength::rl_from_dense(list(lists, 0), &mut ends[..e], &mut values[..v]),
-    };
-    counted(answer, ends, values)
+fn extend_to(numbers: &[i64], lent: &[i64]) -> Outcome {
+    let mut ends = inner::entries(lent, 0);
+    let mut values = inner::entries(lent, 1);
+    let ends_len = inner::entries_lent(lent, 0, ends);
+    let values_len = inner::entries_lent(lent, 1, values);
+    let answer = runlength::rl_extend_to(
+        &mut ends[..ends_len],
+        &mut values[..values_len],
+        inner::size(numbers, 0),
+        sequence::entry_or(numbers, 1, 0),
+        sequence::entry_or(numbers, 2, 0),
+    );
+    let numbers = inner::numbers_of(answer.refusal, answer.count as u64, 0, 0, 0);
+    inner::outcome_of(numbers, ends, values, [0i64; LONGEST])
+}
+
+fn from_dense(lists: &[i64], lent: &[i64]) -> Outcome {
+    let mut out_ends = inner::entries(lent, 0);
+    let mut out_values = inner::entries(lent, 1);
+    let out_ends_len = inner::entries_lent(lent, 0, out_ends);
+    let out_values_len = inner::entries_lent(lent, 1, out_values);
+    let answer = runlength::rl_from_dense(
+        inner::list(lists, 0),
+        &mut out_ends[..out_ends_len],
+        &mut out_values[..out_values_len],
+    );
+    let numbers = inner::numbers_of(answer.refusal, answer.count as u64, 0, 0, 0);
+    inner::outcome_of(numbers, out_ends, out_values, [0i64; LONGEST])
 }
 
 fn to_dense(lists: &[i64], lent: &[i64]) -> Outcome {
-    let mut values = entries(lent, 0);
-    let v = entries_lent(lent, 0, values);
-    let answer = runlength::rl_to_dense(list(lists, 0), list(lists, 1), &mut values[..v]);
-    counted(answer, values, [0i64; LONGEST])
+    let mut out = inner::entries(lent, 0);
+    let out_len = inner::entries_lent(lent, 0, out);
+    let answer = runlength::rl_to_dense(
+        inner::list(lists, 0),
+        inner::list(lists, 1),
+        &mut out[..out_len],
+    );
+    let numbers = inner::numbers_of(answer.refusal, answer.count as u64, 0, 0, 0);
+    inner::outcome_of(numbers, out, [0i64; LONGEST], [0i64; LONGEST])
+}
+
+fn equals(lists: &[i64]) -> Outcome {
+    let answer = runlength::rl_equals(
+        inner::list(lists, 0),
+        inner::list(lists, 1),
+        inner::list(lists, 2),
+        inner::list(lists, 3),
+    );
+    inner::answered(answer.refusal, answer.equal, 0, 0, 0)
 }
 
 fn plan(lists: &[i64], lent: &[i64]) -> Outcome {
-    let mut ends = entries(lent, 0);
-    let mut idx_a = places(lent, 1);
-    let mut idx_b = places(lent, 2);
-    let e = entries_lent(lent, 0, ends);
-    let a = places_lent(lent, 1, idx_a);
-    let b = places_lent(lent, 2, idx_b);
+    let mut out_ends = inner::entries(lent, 0);
+    let mut out_idx_a = inner::places(lent, 1);
+    let mut out_idx_b = inner::places(lent, 2);
+    let out_ends_len = inner::entries_lent(lent, 0, out_ends);
+    let out_idx_a_len = inner::places_lent(lent, 1, out_idx_a);
+    let out_idx_b_len = inner::places_lent(lent, 2, out_idx_b);
     let answer = runlength::rl_plan(
-        list(lists, 0),
-        list(lists, 1),
-        &mut ends[..e],
-        &mut idx_a[..a],
-        &mut idx_b[..b],
+        inner::list(lists, 0),
+        inner::list(lists, 1),
+        &mut out_ends[..out_ends_len],
+        &mut out_idx_a[..out_idx_a_len],
+        &mut out_idx_b[..out_idx_b_len],
     );
-    let numbers = numbers_of(answer.refusal, answer.count as u64, 0, 0, 0);
-    outcome_of(numbers, ends, from_places(idx_a), from_places(idx_b))
+    let numbers = inner::numbers_of(answer.refusal, answer.count as u64, 0, 0, 0);
+    inner::outcome_of(
+        numbers,
+        out_ends,
+        inner::from_places(out_idx_a),
+        inner::from_places(out_idx_b),
+    )
 }
 
-// zip_with and zip_with_raw.
-fn zip(call: usize, lists: &[i64], numbers: &[i64], lent: &[i64]) -> Outcome {
-    let a = list(lists, 0);
-    let b = list(lists, 1);
-    let c = list(lists, 2);
-    let d = list(lists, 3);
-    let fill = fill_at(numbers, 0);
-    let fill_b = fill_at(numbers, 2);
-    let op = code(numbers, 4);
-    let mut ends = entries(lent, 0);
-    let mut values = entries(lent, 1);
-    let e = entries_lent(lent, 0, ends);
-    let v = entries_lent(lent, 1, values);
-    let answer = match call {
-        11 => runlength::rl_zip_with(
-            a,
-            b,
-            c,
-            d,
-            fill,
-            fill_b,
-            op,
-            &mut ends[..e],
-            &mut values[..v],
-        ),
-        _ => runlength::rl_zip_with_raw(
-            a,
-            b,
-            c,
-            d,
-            fill,
-            fill_b,
-            op,
-            &mut ends[..e],
-            &mut values[..v],
-        ),
-    };
-    counted(answer, ends, values)
+fn zip_with(lists: &[i64], numbers: &[i64], lent: &[i64]) -> Outcome {
+    let mut out_ends = inner::entries(lent, 0);
+    let mut out_values = inner::entries(lent, 1);
+    let out_ends_len = inner::entries_lent(lent, 0, out_ends);
+    let out_values_len = inner::entries_lent(lent, 1, out_values);
+    let answer = runlength::rl_zip_with(
+        inner::list(lists, 0),
+        inner::list(lists, 1),
+        inner::list(lists, 2),
+        inner::list(lists, 3),
+        inner::fill_at(numbers, 0),
+        inner::fill_at(numbers, 2),
+        inner::code(numbers, 4),
+        &mut out_ends[..out_ends_len],
+        &mut out_values[..out_values_len],
+    );
+    let numbers = inner::numbers_of(answer.refusal, answer.count as u64, 0, 0, 0);
+    inner::outcome_of(numbers, out_ends, out_values, [0i64; LONGEST])
+}
+
+fn zip_with_raw(lists: &[i64], numbers: &[i64], lent: &[i64]) -> Outcome {
+    let mut out_ends = inner::entries(lent, 0);
+    let mut out_values = inner::entries(lent, 1);
+    let out_ends_len = inner::entries_lent(lent, 0, out_ends);
+    let out_values_len = inner::entries_lent(lent, 1, out_values);
+    let answer = runlength::rl_zip_with_raw(
+        inner::list(lists, 0),
+        inner::list(lists, 1),
+        inner::list(lists, 2),
+        inner::list(lists, 3),
+        inner::fill_at(numbers, 0),
+        inner::fill_at(numbers, 2),
+        inner::code(numbers, 4),
+        &mut out_ends[..out_ends_len],
+        &mut out_values[..out_values_len],
+    );
+    let numbers = inner::numbers_of(answer.refusal, answer.count as u64, 0, 0, 0);
+    inner::outcome_of(numbers, out_ends, out_values, [0i64; LONGEST])
+}
+
+fn plan_many_lent(lists: &[i64], lent: &[i64], offsets: &[usize]) -> Outcome {
+    let mut out_ends = inner::entries(lent, 0);
+    let mut out_idx = inner::places(lent, 1);
+    let out_ends_len = inner::entries_lent(lent, 0, out_ends);
+    let out_idx_len = inner::places_lent(lent, 1, out_idx);
+    let answer = runlength::rl_plan_many(
+        offsets,
+        inner::list(lists, 1),
+        inner::list(lists, 2),
+        &mut out_ends[..out_ends_len],
+        &mut out_idx[..out_idx_len],
+    );
+    let numbers = inner::numbers_of(
+        answer.refusal,
+        answer.segments as u64,
+        answer.indexes as u64,
+        0,
+        0,
+    );
+    inner::outcome_of(
+        numbers,
+        out_ends,
+        inner::from_places(out_idx),
+        [0i64; LONGEST],
+    )
 }
 
 fn plan_many(lists: &[i64], lent: &[i64]) -> Outcome {
-    let offsets = places(lists, 0);
-    let o = places_lent(lists, 0, offsets);
-    let mut ends = entries(lent, 0);
-    let mut idx = places(lent, 1);
-    let e = entries_lent(lent, 0, ends);
-    let i = places_lent(lent, 1, idx);
-    let answer = runlength::rl_plan_many(
-        &offsets[..o],
-        list(lists, 1),
-        list(lists, 2),
-        &mut ends[..e],
-        &mut idx[..i],
-    );
-    let segments = answer.segments as u64;
-    let numbers = numbers_of(answer.refusal, segments, answer.indexes as u64, 0, 0);
-    outcome_of(numbers, ends, from_places(idx), [0i64; LONGEST])
+    let offsets = inner::places(lists, 0);
+    let offsets_len = inner::places_lent(lists, 0, offsets);
+    plan_many_lent(lists, lent, &offsets[..offsets_len])
 }
 
-// The calls on many columns that make one: zip_many and concat.
-fn join(call: usize, lists: &[i64], numbers: &[i64], lent: &[i64]) -> Outcome {
-    let offsets = places(lists, 0);
-    let o = places_lent(lists, 0, offsets);
-    let a = list(lists, 1);
-    let b = list(lists, 2);
-    let mut ends = entries(lent, 0);
-    let mut values = entries(lent, 1);
-    let e = entries_lent(lent, 0, ends);
-    let v = entries_lent(lent, 1, values);
-    let answer = match call {
-        14 => runlength::rl_zip_many(
-            &offsets[..o],
-            a,
-            b,
-            fill_at(numbers, 0),
-            code(numbers, 2),
-            &mut ends[..e],
-            &mut values[..v],
-        ),
-        _ => runlength::rl_concat(&offsets[..o], a, b, &mut ends[..e], &mut values[..v]),
-    };
-    counted(answer, ends, values)
+fn zip_many_lent(lists: &[i64], numbers: &[i64], lent: &[i64], offsets: &[usize]) -> Outcome {
+    let mut out_ends = inner::entries(lent, 0);
+    let mut out_values = inner::entries(lent, 1);
+    let out_ends_len = inner::entries_lent(lent, 0, out_ends);
+    let out_values_len = inner::entries_lent(lent, 1, out_values);
+    let answer = runlength::rl_zip_many(
+        offsets,
+        inner::list(lists, 1),
+        inner::list(lists, 2),
+        inner::fill_at(numbers, 0),
+        inner::code(numbers, 2),
+        &mut out_ends[..out_ends_len],
+        &mut out_values[..out_values_len],
+    );
+    let numbers = inner::numbers_of(answer.refusal, answer.count as u64, 0, 0, 0);
+    inner::outcome_of(numbers, out_ends, out_values, [0i64; LONGEST])
+}
+
+fn zip_many(lists: &[i64], numbers: &[i64], lent: &[i64]) -> Outcome {
+    let offsets = inner::places(lists, 0);
+    let offsets_len = inner::places_lent(lists, 0, offsets);
+    zip_many_lent(lists, numbers, lent, &offsets[..offsets_len])
+}
+
+fn run_index(lists: &[i64], numbers: &[i64]) -> Outcome {
+    let answer = runlength::rl_run_index(inner::list(lists, 0), sequence::entry_or(numbers, 0, 0));
+    inner::answered(answer.refusal, answer.found, answer.index as u64, 0, 0)
+}
+
+fn slice(lists: &[i64], numbers: &[i64], lent: &[i64]) -> Outcome {
+    let mut out_ends = inner::entries(lent, 0);
+    let mut out_values = inner::entries(lent, 1);
+    let out_ends_len = inner::entries_lent(lent, 0, out_ends);
+    let out_values_len = inner::entries_lent(lent, 1, out_values);
+    let answer = runlength::rl_slice(
+        inner::list(lists, 0),
+        inner::list(lists, 1),
+        sequence::entry_or(numbers, 0, 0),
+        sequence::entry_or(numbers, 1, 0),
+        &mut out_ends[..out_ends_len],
+        &mut out_values[..out_values_len],
+    );
+    let numbers = inner::numbers_of(answer.refusal, answer.count as u64, 0, 0, 0);
+    inner::outcome_of(numbers, out_ends, out_values, [0i64; LONGEST])
+}
+
+fn slice_view(lists: &[i64], numbers: &[i64]) -> Outcome {
+    let answer = runlength::rl_slice_view(
+        inner::list(lists, 0),
+        inner::list(lists, 1),
+        sequence::entry_or(numbers, 0, 0),
+        sequence::entry_or(numbers, 1, 0),
+    );
+    inner::answered(
+        answer.refusal,
+        answer.first as u64,
+        num::as_unsigned(answer.start),
+        num::as_unsigned(answer.length),
+        0,
+    )
+}
+
+fn slice_view_values(lists: &[i64], numbers: &[i64]) -> Outcome {
+    let answer = runlength::rl_slice_view_values(
+        inner::list(lists, 0),
+        inner::list(lists, 1),
+        sequence::entry_or(numbers, 0, 0),
+        sequence::entry_or(numbers, 1, 0),
+    );
+    inner::answered(
+        inner::no_refusal(),
+        answer.first as u64,
+        answer.count as u64,
+        0,
+        0,
+    )
 }
 
 fn getitems(lists: &[i64], lent: &[i64]) -> Outcome {
-    let mut offsets = places(lent, 0);
-    let mut ends = entries(lent, 1);
-    let mut values = entries(lent, 2);
-    let o = places_lent(lent, 0, offsets);
-    let e = entries_lent(lent, 1, ends);
-    let v = entries_lent(lent, 2, values);
+    let mut out_offsets = inner::places(lent, 0);
+    let mut out_ends = inner::entries(lent, 1);
+    let mut out_values = inner::entries(lent, 2);
+    let out_offsets_len = inner::places_lent(lent, 0, out_offsets);
+    let out_ends_len = inner::entries_lent(lent, 1, out_ends);
+    let out_values_len = inner::entries_lent(lent, 2, out_values);
     let answer = runlength::rl_getitems(
-        list(lists, 0),
-        list(lists, 1),
-        list(lists, 2),
-        list(lists, 3),
-        &mut offsets[..o],
-        &mut ends[..e],
-        &mut values[..v],
+        inner::list(lists, 0),
+        inner::list(lists, 1),
+        inner::list(lists, 2),
+        inner::list(lists, 3),
+        &mut out_offsets[..out_offsets_len],
+        &mut out_ends[..out_ends_len],
+        &mut out_values[..out_values_len],
     );
-    listed(answer, offsets, ends, values)
+    let numbers = inner::numbers_of(answer.refusal, answer.keys as u64, answer.runs as u64, 0, 0);
+    inner::outcome_of(
+        numbers,
+        inner::from_places(out_offsets),
+        out_ends,
+        out_values,
+    )
+}
+
+fn concat_lent(lists: &[i64], lent: &[i64], offsets: &[usize]) -> Outcome {
+    let mut out_ends = inner::entries(lent, 0);
+    let mut out_values = inner::entries(lent, 1);
+    let out_ends_len = inner::entries_lent(lent, 0, out_ends);
+    let out_values_len = inner::entries_lent(lent, 1, out_values);
+    let answer = runlength::rl_concat(
+        offsets,
+        inner::list(lists, 1),
+        inner::list(lists, 2),
+        &mut out_ends[..out_ends_len],
+        &mut out_values[..out_values_len],
+    );
+    let numbers = inner::numbers_of(answer.refusal, answer.count as u64, 0, 0, 0);
+    inner::outcome_of(numbers, out_ends, out_values, [0i64; LONGEST])
+}
+
+fn concat(lists: &[i64], lent: &[i64]) -> Outcome {
+    let offsets = inner::places(lists, 0);
+    let offsets_len = inner::places_lent(lists, 0, offsets);
+    concat_lent(lists, lent, &offsets[..offsets_len])
+}
+
+fn shift(lists: &[i64], numbers: &[i64], lent: &[i64]) -> Outcome {
+    let mut out_ends = inner::entries(lent, 0);
+    let mut out_values = inner::entries(lent, 1);
+    let out_ends_len = inner::entries_lent(lent, 0, out_ends);
+    let out_values_len = inner::entries_lent(lent, 1, out_values);
+    let answer = runlength::rl_shift(
+        inner::list(lists, 0),
+        inner::list(lists, 1),
+        sequence::entry_or(numbers, 0, 0),
+        sequence::entry_or(numbers, 1, 0),
+        &mut out_ends[..out_ends_len],
+        &mut out_values[..out_values_len],
+    );
+    let numbers = inner::numbers_of(answer.refusal, answer.count as u64, 0, 0, 0);
+    inner::outcome_of(numbers, out_ends, out_values, [0i64; LONGEST])
+}
+
+fn reversed(lists: &[i64], lent: &[i64]) -> Outcome {
+    let mut out_ends = inner::entries(lent, 0);
+    let mut out_values = inner::entries(lent, 1);
+    let out_ends_len = inner::entries_lent(lent, 0, out_ends);
+    let out_values_len = inner::entries_lent(lent, 1, out_values);
+    let answer = runlength::rl_reversed(
+        inner::list(lists, 0),
+        inner::list(lists, 1),
+        &mut out_ends[..out_ends_len],
+        &mut out_values[..out_values_len],
+    );
+    let numbers = inner::numbers_of(answer.refusal, answer.count as u64, 0, 0, 0);
+    inner::outcome_of(numbers, out_ends, out_values, [0i64; LONGEST])
+}
+
+fn ranges_where(lists: &[i64], numbers: &[i64], lent: &[i64]) -> Outcome {
+    let mut out_starts = inner::entries(lent, 0);
+    let mut out_ends = inner::entries(lent, 1);
+    let out_starts_len = inner::entries_lent(lent, 0, out_starts);
+    let out_ends_len = inner::entries_lent(lent, 1, out_ends);
+    let answer = runlength::rl_ranges_where(
+        inner::list(lists, 0),
+        inner::list(lists, 1),
+        inner::code(numbers, 0),
+        sequence::entry_or(numbers, 1, 0),
+        &mut out_starts[..out_starts_len],
+        &mut out_ends[..out_ends_len],
+    );
+    let numbers = inner::numbers_of(answer.refusal, answer.count as u64, 0, 0, 0);
+    inner::outcome_of(numbers, out_starts, out_ends, [0i64; LONGEST])
+}
+
+fn merge(lists: &[i64], lent: &[i64]) -> Outcome {
+    let mut out_ends = inner::entries(lent, 0);
+    let mut out_values = inner::entries(lent, 1);
+    let out_ends_len = inner::entries_lent(lent, 0, out_ends);
+    let out_values_len = inner::entries_lent(lent, 1, out_values);
+    let answer = runlength::rl_merge(
+        inner::list(lists, 0),
+        inner::list(lists, 1),
+        &mut out_ends[..out_ends_len],
+        &mut out_values[..out_values_len],
+    );
+    let numbers = inner::numbers_of(answer.refusal, answer.count as u64, 0, 0, 0);
+    inner::outcome_of(numbers, out_ends, out_values, [0i64; LONGEST])
+}
+
+fn merged(lists: &[i64], lent: &[i64]) -> Outcome {
+    let mut out_ends = inner::entries(lent, 0);
+    let mut out_values = inner::entries(lent, 1);
+    let out_ends_len = inner::entries_lent(lent, 0, out_ends);
+    let out_values_len = inner::entries_lent(lent, 1, out_values);
+    let answer = runlength::rl_merged(
+        inner::list(lists, 0),
+        inner::list(lists, 1),
+        &mut out_ends[..out_ends_len],
+        &mut out_values[..out_values_len],
+    );
+    let numbers = inner::numbers_of(answer.refusal, answer.count as u64, 0, 0, 0);
+    inner::outcome_of(numbers, out_ends, out_values, [0i64; LONGEST])
+}
+
+fn merge_mask_lent(lists: &[i64], numbers: &[i64], lent: &[i64], mask: &[u8]) -> Outcome {
+    let mut out_ends = inner::entries(lent, 0);
+    let mut out_values = inner::entries(lent, 1);
+    let out_ends_len = inner::entries_lent(lent, 0, out_ends);
+    let out_values_len = inner::entries_lent(lent, 1, out_values);
+    let answer = runlength::rl_merge_mask(
+        inner::list(lists, 0),
+        inner::list(lists, 1),
+        mask,
+        inner::code(numbers, 0),
+        &mut out_ends[..out_ends_len],
+        &mut out_values[..out_values_len],
+    );
+    let numbers = inner::numbers_of(answer.refusal, answer.count as u64, 0, 0, 0);
+    inner::outcome_of(numbers, out_ends, out_values, [0i64; LONGEST])
 }
 
 fn merge_mask(lists: &[i64], numbers: &[i64], lent: &[i64]) -> Outcome {
-    let mask = bytes(lists, 2);
-    let m = bytes_lent(lists, 2, mask);
-    let mut ends = entries(lent, 0);
-    let mut values = entries(lent, 1);
-    let e = entries_lent(lent, 0, ends);
-    let v = entries_lent(lent, 1, values);
-    let answer = runlength::rl_merge_mask(
-        list(lists, 0),
-        list(lists, 1),
-        &mask[..m],
-        code(numbers, 0),
-        &mut ends[..e],
-        &mut values[..v],
+    let mask = inner::bytes(lists, 2);
+    let mask_len = inner::bytes_lent(lists, 2, mask);
+    merge_mask_lent(lists, numbers, lent, &mask[..mask_len])
+}
+
+fn merge_by(lists: &[i64], numbers: &[i64], lent: &[i64]) -> Outcome {
+    let mut out_ends = inner::entries(lent, 0);
+    let mut out_values = inner::entries(lent, 1);
+    let out_ends_len = inner::entries_lent(lent, 0, out_ends);
+    let out_values_len = inner::entries_lent(lent, 1, out_values);
+    let answer = runlength::rl_merge_by(
+        inner::list(lists, 0),
+        inner::list(lists, 1),
+        inner::code(numbers, 0),
+        &mut out_ends[..out_ends_len],
+        &mut out_values[..out_values_len],
     );
-    counted(answer, ends, values)
+    let numbers = inner::numbers_of(answer.refusal, answer.count as u64, 0, 0, 0);
+    inner::outcome_of(numbers, out_ends, out_values, [0i64; LONGEST])
+}
+
+fn merge_plan_lent(lists: &[i64], lent: &[i64], mask: &[u8]) -> Outcome {
+    let mut out_ends = inner::entries(lent, 0);
+    let mut out_offsets = inner::places(lent, 1);
+    let out_ends_len = inner::entries_lent(lent, 0, out_ends);
+    let out_offsets_len = inner::places_lent(lent, 1, out_offsets);
+    let answer = runlength::rl_merge_plan(
+        inner::list(lists, 0),
+        mask,
+        &mut out_ends[..out_ends_len],
+        &mut out_offsets[..out_offsets_len],
+    );
+    let numbers = inner::numbers_of(answer.refusal, answer.count as u64, 0, 0, 0);
+    inner::outcome_of(
+        numbers,
+        out_ends,
+        inner::from_places(out_offsets),
+        [0i64; LONGEST],
+    )
 }
 
 fn merge_plan(lists: &[i64], lent: &[i64]) -> Outcome {
-    let mask = bytes(lists, 1);
-    let m = bytes_lent(lists, 1, mask);
-    let mut ends = entries(lent, 0);
-    let mut offsets = places(lent, 1);
-    let e = entries_lent(lent, 0, ends);
-    let o = places_lent(lent, 1, offsets);
-    let answer = runlength::rl_merge_plan(
-        list(lists, 0),
-        &mask[..m],
-        &mut ends[..e],
-        &mut offsets[..o],
-    );
-    counted(answer, ends, from_places(offsets))
+    let mask = inner::bytes(lists, 1);
+    let mask_len = inner::bytes_lent(lists, 1, mask);
+    merge_plan_lent(lists, lent, &mask[..mask_len])
+}
+
+fn group_ids_lent(lent: &[i64], offsets: &[usize]) -> Outcome {
+    let mut out_ids = inner::places(lent, 0);
+    let out_ids_len = inner::places_lent(lent, 0, out_ids);
+    let answer = runlength::rl_group_ids(offsets, &mut out_ids[..out_ids_len]);
+    let numbers = inner::numbers_of(answer.refusal, answer.count as u64, 0, 0, 0);
+    inner::outcome_of(
+        numbers,
+        inner::from_places(out_ids),
+        [0i64; LONGEST],
+        [0i64; LONGEST],
+    )
 }
 
 fn group_ids(lists: &[i64], lent: &[i64]) -> Outcome {
-    let offsets = places(lists, 0);
-    let o = places_lent(lists, 0, offsets);
-    let mut ids = places(lent, 0);
-    let i = places_lent(lent, 0, ids);
-    let answer = runlength::rl_group_ids(&offsets[..o], &mut ids[..i]);
-    counted(answer, from_places(ids), [0i64; LONGEST])
+    let offsets = inner::places(lists, 0);
+    let offsets_len = inner::places_lent(lists, 0, offsets);
+    group_ids_lent(lent, &offsets[..offsets_len])
+}
+
+fn sum(lists: &[i64]) -> Outcome {
+    let answer = runlength::rl_sum(inner::list(lists, 0), inner::list(lists, 1));
+    inner::answered(answer.refusal, num::as_unsigned(answer.total), 0, 0, 0)
+}
+
+fn reduce(lists: &[i64], numbers: &[i64]) -> Outcome {
+    let answer = runlength::rl_reduce(
+        inner::list(lists, 0),
+        inner::list(lists, 1),
+        inner::code(numbers, 0),
+        sequence::entry_or(numbers, 1, 0),
+    );
+    let mean = f64::to_bits(answer.mean);
+    let variance = f64::to_bits(answer.variance);
+    inner::answered(
+        answer.refusal,
+        answer.kind,
+        num::as_unsigned(answer.whole),
+        mean,
+        variance,
+    )
 }
 
 fn slice_reduce(lists: &[i64], numbers: &[i64], lent: &[i64]) -> Outcome {
-    let mut kinds = bytes(lent, 0);
-    let mut words = bits(lent, 1);
-    let k = bytes_lent(lent, 0, kinds);
-    let w = bits_lent(lent, 1, words);
+    let mut out_kinds = inner::bytes(lent, 0);
+    let mut out_bits = inner::bits(lent, 1);
+    let out_kinds_len = inner::bytes_lent(lent, 0, out_kinds);
+    let out_bits_len = inner::bits_lent(lent, 1, out_bits);
     let answer = runlength::rl_slice_reduce(
-        list(lists, 0),
-        list(lists, 1),
-        list(lists, 2),
-        list(lists, 3),
-        code(numbers, 0),
+        inner::list(lists, 0),
+        inner::list(lists, 1),
+        inner::list(lists, 2),
+        inner::list(lists, 3),
+        inner::code(numbers, 0),
         sequence::entry_or(numbers, 1, 0),
-        &mut kinds[..k],
-        &mut words[..w],
+        &mut out_kinds[..out_kinds_len],
+        &mut out_bits[..out_bits_len],
     );
-    reduced(answer, kinds, words)
+    let numbers = inner::numbers_of(answer.refusal, answer.count as u64, 0, 0, 0);
+    inner::outcome_of(
+        numbers,
+        inner::from_bytes(out_kinds),
+        inner::from_bits(out_bits),
+        [0i64; LONGEST],
+    )
 }
 
-pub fn outcome(
-    call: usize,
-    lists: &[i64],
-    numbers: &[i64],
-    lent: &[i64],
-    behind: &[i64],
-) -> Outcome {
+pub fn outcome(call: usize, lists: &[i64], numbers: &[i64], lent: &[i64]) -> Outcome {
     match call {
-        3 | 9 | 15 | 17..=18 | 29 => ask(call, lists, numbers),
-        2 | 21 | 23..=24 => rebuild(call, lists, lent),
-        16 | 20 | 22 | 26 => rebuild_by(call, lists, numbers, lent),
-        4..=7 => build(call, lists, numbers, lent, behind),
+        2 => from_runs(lists, lent),
+        3 => from_ends(lists),
+        4 => repeat(numbers, lent),
+        5 => push_run(numbers, lent),
+        6 => extend_to(numbers, lent),
+        7 => from_dense(lists, lent),
         8 => to_dense(lists, lent),
+        9 => equals(lists),
         10 => plan(lists, lent),
-        11..=12 => zip(call, lists, numbers, lent),
+        11 => zip_with(lists, numbers, lent),
+        12 => zip_with_raw(lists, numbers, lent),
         13 => plan_many(lists, lent),
-        14 | 19 => join(call, lists, numbers, lent),
-        25 => merge_mask(lists, numbers, lent),
-        27 => merge_plan(lists, lent),
-        28 => group_ids(lists, lent),
-        30 => reduce(lists, numbers),
-        42 => getitems(lists, lent),
+        14 => zip_many(lists, numbers, lent),
+        15 => run_index(lists, numbers),
+        16 => slice(lists, numbers, lent),
+        17 => slice_view(lists, numbers),
+        18 => slice_view_values(lists, numbers),
+        19 => getitems(lists, lent),
+        20 => concat(lists, lent),
+        21 => shift(lists, numbers, lent),
+        22 => reversed(lists, lent),
+        23 => ranges_where(lists, numbers, lent),
+        24 => merge(lists, lent),
+        25 => merged(lists, lent),
+        26 => merge_mask(lists, numbers, lent),
+        27 => merge_by(lists, numbers, lent),
+        28 => merge_plan(lists, lent),
+        29 => group_ids(lists, lent),
+        30 => sum(lists),
+        31 => reduce(lists, numbers),
         _ => slice_reduce(lists, numbers, lent),
     }
 }

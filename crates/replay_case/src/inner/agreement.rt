@@ -19,7 +19,7 @@ fn same(a: &[i64], b: &[i64]) -> bool {
     true
 }
 
-// Whether a buffer, as long as it is lent, is left as the row says, behind its first entries that are free.
+// Whether a buffer, as long as it is lent, is left as the row says, after its first entries that are free.
 fn left_as(lent: &[i64], left: &[i64], index: usize, free: usize, buffer: [i64; LONGEST]) -> bool {
     let expected = list(left, index);
     let n = expected.len();
@@ -50,9 +50,9 @@ fn buffers_left(lent: &[i64], left: &[i64], outcome: Outcome) -> bool {
 }
 
 // An answer leaves the first entries of scratch free, two for each run of the batch.
-fn free(row: &[i64], numbers: [i64; 10]) -> usize {
+fn free(lists: &[i64], numbers: [i64; 10]) -> usize {
     if numbers[0] == 0 {
-        let runs = list(sequence::part(row, 1, row.len()), 2).len();
+        let runs = list(lists, 2).len();
         num::saturating_add(runs, runs)
     } else {
         0
@@ -68,8 +68,12 @@ fn scratch_left(lent: &[i64], left: &[i64], free: usize, outcome: Outcome) -> bo
     left_as(lent, left, 5, free, sixth)
 }
 
+// The row says a refusal, and at least one count.
 fn answers(row: &[i64], places: Places, numbers: [i64; 10]) -> bool {
-    let expected = sequence::part(row, places.answer, places.left);
+    let expected = list(sequence::part(row, places.answer, places.end), 0);
+    if expected.len() < 7 {
+        return false;
+    }
     same(sequence::part(&numbers, 0, expected.len()), expected)
 }
 
@@ -79,10 +83,11 @@ pub fn agrees(row: &[i64], places: Places, outcome: Outcome) -> bool {
     if !answers(row, places, numbers) {
         return false;
     }
-    let lent = sequence::part(row, places.lent, places.behind);
-    let left = sequence::part(row, places.left, places.end);
+    let lent = sequence::part(row, places.lent, places.left);
+    let left = sequence::part(row, places.left, places.answer);
     if !buffers_left(lent, left, outcome) {
         return false;
     }
-    scratch_left(lent, left, free(row, numbers), outcome)
+    let free = free(sequence::part(row, places.lists, places.lent), numbers);
+    scratch_left(lent, left, free, outcome)
 }

@@ -3,9 +3,6 @@ use Rattle.replay_columns.proofs.Floats.{no-nans}
 use Rattle.replay_columns.proofs.inner.reduce.Statement.{statement}
 use Rattle.replay_columns.proofs.inner.reduce.Tie as tie
 
-entry-or-requires : tie.Need-entry-or-requires
-entry-or-requires c κs = search needs
-
 list-requires : tie.Need-list-requires
 list-requires c κs = search needs
 
@@ -14,6 +11,9 @@ list-requires-2 c κs = search needs
 
 code-requires : tie.Need-code-requires
 code-requires c κs = search needs
+
+entry-or-requires : tie.Need-entry-or-requires
+entry-or-requires c κs = search needs
 
 rl-reduce-requires : tie.Need-rl-reduce-requires
 rl-reduce-requires c κs = search needs
@@ -37,10 +37,10 @@ pub reduce-spec : {M : Type 1} → statement M
 reduce-spec =
     tie.close
     (tie.spec
-    entry-or-requires
     list-requires
     list-requires-2
     code-requires
+    entry-or-requires
     rl-reduce-requires
     float-to-bits-mean
     float-to-bits-variance
