@@ -1,4 +1,4 @@
--- A column's runs behind the runs that are written, merged: the loop, and what the runs show then.
+-- A column's runs after the runs that are written, merged: the loop, and what the runs show then.
 -- Assumes nothing.
 use Prim.Native.Nat.{ℕ, zero, suc, _+_, _-_, _≤_, _<_, _^_}
 use mathlib.Core.List.{List, [], _∷_, _++_}
@@ -105,15 +105,20 @@ module _ (s o : ℕ) (es vs e₁ v₁ : List ℤ) (w₁ : Writer) where
         append-room l =
             let g = a .pushed done first e₀ v₀ b in
             let at = merge-at g x next-start in
-            let n = count-firsts done in
-            (omega (arith, g .at-last, b .room-ends), omega (arith, g .long-ends, b .merging .long-ends, b .room-ends), omega (arith, g .long-values, b .merging .long-values, b .room-values))
+            let n = count-firsts done in (
+              omega (arith, g .at-last, b .room-ends),
+              omega (arith, g .long-ends, b .merging .long-ends, b .room-ends),
+              omega (arith, g .long-values, b .merging .long-values, b .room-values),
+            )
 
-      pub append-next : {z : ℤ} {e′ v′ : List ℤ} {next : Writer} → PushedMerged w z x e e′ v v′ next → z ≡ pos (toNat (getD es r (pos 0)) - s + o) → Appending e′ v′ next (r + 1)
+      pub append-next : {z : ℤ} {e′ v′ : List ℤ} {next : Writer} → PushedMerged w z x e e′ v v′ next → z ≡ pos (toNat (getD es r (pos 0)) - s + o)
+          → Appending e′ v′ next (r + 1)
       append-next d ez = record {
         within = omega arith;
         pushed = λ done first e₀ v₀ b. let n = count-firsts done in
             merge-more (a .pushed done first e₀ v₀ b) x (next-start b) (toNat (getD es r (pos 0)) - s + o) d ez
-            (push-next s o done es vs r h (m .paired) ∙ rw ex) (omega (arith, b .merging .long-ends, b .room-ends)) (omega (arith, b .merging .long-values, b .room-values));
+            (push-next s o done es vs r h (m .paired) ∙ rw ex) (omega (arith, b .merging .long-ends, b .room-ends))
+            (omega (arith, b .merging .long-values, b .room-values));
       }
 
     pub append-end : length es ≤ r → Appended s o es vs e₁ e v₁ v w₁ w
@@ -142,7 +147,7 @@ module _ (s o : ℕ) where
   at-offset : s - s + o ≡ o
   at-offset = omega arith
 
--- what the column shows from `start` on, behind what was shown before
+-- what the column shows from `start` on, after what was shown before
 pub push-shown : (s : ℕ) (xs : List ℤ) (rs : Runs) → Rising s rs → pushAll (encode xs) (moved s (length xs) rs) ≡ encode (xs ++ denseFrom s rs)
 push-shown s xs rs h =
     let n = length xs in

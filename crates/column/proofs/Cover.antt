@@ -36,7 +36,7 @@ cover-dense p (r ∷ rs) i d h =
     ∙ cover-dense (r .end) rs (i - (r .end - p)) d (h .1)
     ∙ rw (f, t))
 
--- one run more behind runs
+-- one run more after runs
 pub last-end : (p : ℕ) (rs : Runs) (r : Run) → lastEnd p (rs ++ r ∷ []) ≡ r .end
 last-end p [] r = refl
 last-end p (s ∷ rs) r = last-end (s .end) rs r

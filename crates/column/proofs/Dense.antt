@@ -27,7 +27,7 @@ length-dense rs v = let e = length-from 0 rs v in omega arith
 pub length-encode : (xs : List ℤ) → lengthOf (encode xs) ≡ length xs
 length-encode xs = sym (length-dense (encode xs) (valid-encode xs)) ∙ ap length (dense-encode xs)
 
--- ---- runs behind runs, and a run pushed onto them
+-- ---- runs after runs, and a run pushed onto them
 
 dense-append-from : (p : ℕ) (rs ss : Runs) → denseFrom p (rs ++ ss) ≡ denseFrom p rs ++ denseFrom (lastEnd p rs) ss
 unfolding denseFrom
@@ -38,7 +38,8 @@ pub dense-append : (rs ss : Runs) → dense (rs ++ ss) ≡ dense rs ++ denseFrom
 unfolding dense lengthOf
 dense-append rs ss = dense-append-from 0 rs ss
 
-dense-push-from : (p : ℕ) (rs : Runs) (e : ℕ) (v : ℤ) → Rising p rs → lastEnd p rs ≤ e → denseFrom p (pushMerged rs e v) ≡ denseFrom p rs ++ replicate (e - lastEnd p rs) v
+dense-push-from : (p : ℕ) (rs : Runs) (e : ℕ) (v : ℤ) → Rising p rs → lastEnd p rs ≤ e
+    → denseFrom p (pushMerged rs e v) ≡ denseFrom p rs ++ replicate (e - lastEnd p rs) v
 unfolding denseFrom pushMerged
 dense-push-from p [] e v h l = append-nil (replicate (e - p) v)
 dense-push-from p (r ∷ []) e v h l =

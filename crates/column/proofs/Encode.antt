@@ -23,7 +23,7 @@ unfolding encodeFrom joined
 stretch p zero v = rw add-one
 stretch p (suc k) v = rw (stretch (suc p) k v, eqZ-refl v, suc-add, add-suc p (suc k))
 
--- a value before the runs, and a run behind them: the order makes no difference
+-- a value before the runs, and a run after them: the order makes no difference
 joined-push : (p : ℕ) (x : ℤ) (rs : Runs) (e : ℕ) (v : ℤ) → joined p x (pushMerged rs e v) ≡ pushMerged (joined p x rs) e v
 unfolding joined pushMerged
 joined-push p x [] e v = by-test (eqZ x v) (λ t. rw t) (λ t. rw t)
@@ -73,7 +73,8 @@ pub place-last : (d : ℤ) (rs : Runs) (v : ℤ) → (length rs ≡ 0 → d ≡ 
 unfolding place lastOf
 place-last d [] v h = rw (h refl, eqZ-refl v)
 place-last d (r ∷ []) v h = by-test (eqZ (r .value) v) (λ t. rw t) (λ t. rw t)
-place-last d (r ∷ s ∷ rs) v h = ap suc (place-last (r .value) (s ∷ rs) v (λ e. let z : ⊥ = omega arith in absurd z)) ∙ by-test (eqZ (lastOf (s .value) rs) v) (λ t. rw t (omega arith)) (λ t. rw t (omega arith))
+place-last d (r ∷ s ∷ rs) v h = ap suc (place-last (r .value) (s ∷ rs) v (λ e. let z : ⊥ = omega arith in absurd z))
+    ∙ by-test (eqZ (lastOf (s .value) rs) v) (λ t. rw t (omega arith)) (λ t. rw t (omega arith))
 
 pub length-push : (rs : Runs) (e : ℕ) (v : ℤ) → length (pushMerged rs e v) ≡ suc (place rs v)
 length-push rs e v = rw (push-place rs e v) (simp (length-append, length-take-le (place rs v) rs (place-le rs v)) (omega arith))
@@ -175,7 +176,7 @@ encode-stretch l p e x h k q =
     let n = length-take-le p l k in
     ap encode q ∙ rw n at (encode-up (take p l) e x (rw n h))
 
--- ---- runs pushed one after another are the merged runs of what they show, behind what is shown already
+-- ---- runs pushed one after another are the merged runs of what they show, after what is shown already
 
 pub push-all-from : (xs : List ℤ) (rs : Runs) → Rising (length xs) rs → pushAll (encode xs) rs ≡ encode (xs ++ denseFrom (length xs) rs)
 unfolding pushAll denseFrom

@@ -22,7 +22,12 @@ unfolding endsFrom
 from-check p i [] h = tt
 from-check p i (pos e ∷ es) h =
     by-test (ltb p e)
-    (λ t. (refl, ltb-true p e t, from-check e (suc i) es (first-yes (endsFrom (suc i) (pos e) es) [] (rest-yes (refusal 4 (pos i ∷ []) unless ltb p e) (endsFrom (suc i) (pos e) es ∷ []) h))))
+    (λ t. (
+      refl,
+      ltb-true p e t,
+      from-check e (suc i)
+          es (first-yes (endsFrom (suc i) (pos e) es) [] (rest-yes (refusal 4 (pos i ∷ []) unless ltb p e) (endsFrom (suc i) (pos e) es ∷ []) h)),
+    ))
     (λ t. absurd (let z : _≡_ {A = Question} (refusal 4 (pos i ∷ [])) none = rw t at h in let w : _≡_ {A = ℕ} 0 1 = cc in omega arith))
 from-check p i (negsuc e ∷ es) h = absurd (let w : _≡_ {A = ℕ} 0 1 = cc in omega arith)
 

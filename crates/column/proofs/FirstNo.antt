@@ -15,7 +15,7 @@ pub alone : (q : Question) → firstNo (q ∷ []) ≡ q
 alone none = refl
 alone (some r) = refl
 
--- those behind a question, put as one
+-- those after a question, put as one
 pub first-rest : (q : Question) (qs : List Question) → firstNo (q ∷ firstNo qs ∷ []) ≡ firstNo (q ∷ qs)
 first-rest none qs = alone (firstNo qs)
 first-rest (some r) qs = refl
@@ -25,6 +25,12 @@ pub first-several : (ps qs : List Question) → firstNo (ps ++ qs) ≡ firstNo (
 first-several [] qs = refl
 first-several (none ∷ ps) qs = first-several ps qs
 first-several (some r ∷ ps) qs = refl
+
+-- the last questions put as one
+pub last-several : (ps qs : List Question) → firstNo (ps ++ qs) ≡ firstNo (ps ++ (firstNo qs ∷ []))
+last-several [] qs = sym (alone (firstNo qs))
+last-several (none ∷ ps) qs = last-several ps qs
+last-several (some r ∷ ps) qs = refl
 
 -- ---- "yes" to all is "yes" to each
 
@@ -44,7 +50,7 @@ pub all-yes : (qs : List Question) → firstNo qs ≡ none → AllYes qs
 all-yes [] e = tt
 all-yes (q ∷ qs) e = (first-yes q qs e, all-yes qs (rest-yes q qs e))
 
--- ---- a question and those behind it, as the code puts them: what is asked later counts only after a "yes"
+-- ---- a question and those after it, as the code puts them: what is asked later counts only after a "yes"
 
 pub asked-next : {r a b : Question} (q : Question) (qs : List Question) → r ≡ firstNo (a ∷ b ∷ []) → a ≡ q → (q ≡ none → b ≡ firstNo qs) → r ≡ firstNo (q ∷ qs)
 asked-next {b = b} none qs e p h = e ∙ rw p (alone b ∙ h refl)
@@ -64,6 +70,11 @@ asks-first {q = q} p = record { told = p ∙ sym (alone q) }
 pub asks-then : {r a b q : Question} {qs : List Question} → Asks a qs → r ≡ firstNo (a ∷ b ∷ []) → (firstNo qs ≡ none → b ≡ q)
     → Asks r (qs ++ (q ∷ []))
 asks-then {q = q} {qs = qs} s e h = record { told = asked-last (firstNo qs) e (s .told) h ∙ sym (first-several qs (q ∷ [])) }
+
+-- several that the code puts as one, after others
+pub asks-several : {r a b : Question} {ps : List Question} (qs : List Question) → Asks a ps → r ≡ firstNo (a ∷ b ∷ []) → (firstNo ps ≡ none → b ≡ firstNo qs)
+    → Asks r (ps ++ qs)
+asks-several {ps = ps} qs s e h = record { told = asked-last (firstNo ps) e (s .told) h ∙ sym (first-several ps (firstNo qs ∷ [])) ∙ sym (last-several ps qs) }
 
 -- ---- a question put to each entry, at the entry that comes next
 

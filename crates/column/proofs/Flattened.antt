@@ -11,6 +11,7 @@ use lib.Dec.{eqb, leb}
 use lib.IntN.{ℤ, pos}
 use lib.ListN.{length, getD}
 use borrow.Author.Tests.{leb-true, eqb-true}
+use Rattle.num.proofs.Tests.{both-true}
 use Rattle.column.specs.Asking.{Question, eachFrom, inKey}
 use Rattle.column.specs.Flat.{flat, sequencesOf, columns}
 use Rattle.column.specs.Lists.{total, part, partsFrom, parts}
@@ -21,7 +22,7 @@ use Rattle.column.proofs.Ends.{length-of-ends, rising, runs-rise}
 use Rattle.column.proofs.FirstNo.{first-yes, rest-yes}
 use Rattle.column.proofs.Parts.{length-part, part-paired}
 use Rattle.column.proofs.Rising.{Valid}
-use Rattle.column.proofs.Told.{both-true, offsets-told}
+use Rattle.column.proofs.Told.{offsets-told}
 
 -- ---- offsets, from a on
 
@@ -97,7 +98,8 @@ sequences-told os es e = all-from 0 (parts os es) e
 
 -- what f makes of a column's runs and g of its ends, for every column
 module _ {B : Type 0} (f : Runs → B) (g : List ℤ → B) (same : (es vs : List ℤ) → endsValid es ≡ none → length es ≡ length vs → f (runsOf es vs) ≡ g es) where
-  columns-from : (a : ℕ) (os : List ℕ) (es vs : List ℤ) → length es ≡ length vs → AllValid (partsFrom a os es) → map f (map runs (sequencesOf (partsFrom a os es) (partsFrom a os vs))) ≡ map g (partsFrom a os es)
+  columns-from : (a : ℕ) (os : List ℕ) (es vs : List ℤ) → length es ≡ length vs → AllValid (partsFrom a os es)
+      → map f (map runs (sequencesOf (partsFrom a os es) (partsFrom a os vs))) ≡ map g (partsFrom a os es)
   unfolding sequencesOf partsFrom
   columns-from a [] es vs l v = refl
   columns-from a (b ∷ os) es vs l v =

@@ -89,7 +89,8 @@ module _ (x : List ℕ) (h : 0 < length x) where
     long-values = refl;
   }
 
-  pub laying-end : {cs : List Runs} {y : List ℕ} {e₀ e v₀ v : List ℤ} {used i : ℕ} → Laying cs (set x 0 0) y e₀ e v₀ v used i → length cs ≤ i → FilledFlat cs x y e₀ e v₀ v used
+  pub laying-end : {cs : List Runs} {y : List ℕ} {e₀ e v₀ v : List ℤ} {used i : ℕ} → Laying cs (set x 0 0) y e₀ e v₀ v used i → length cs ≤ i
+      → FilledFlat cs x y e₀ e v₀ v used
   laying-end {cs} {e₀ = e₀} {e} {v₀} {v} {used} {i} s k =
       let all : take i cs ≡ cs = take-all i cs k in
       let f : Filled (allRuns cs) e₀ e v₀ v used = rw all at (s .filled) in

@@ -78,7 +78,8 @@ listed-from k (m ∷ mask) h =
     rw (listed-yes 0 1 m (omega arith) (leb-true m 1 t)) (alone (eachFrom (λ i. listed 0 1) (suc k) mask) ∙ listed-from (suc k) mask (omega arith)))
     (λ t. let l : suc (length mask) ≤ 0 = rw t at h in let z : ⊥ = omega arith in absurd z)
 
-refused-from : (k : ℕ) (mask : List ℕ) → firstUnlisted mask < length mask → eachFrom (λ i. listed 0 1) k mask ≡ refusal 1 (pos (getD mask (firstUnlisted mask) 0) ∷ [])
+refused-from : (k : ℕ) (mask : List ℕ) → firstUnlisted mask < length mask
+    → eachFrom (λ i. listed 0 1) k mask ≡ refusal 1 (pos (getD mask (firstUnlisted mask) 0) ∷ [])
 unfolding eachFrom firstUnlisted
 refused-from k [] h = let z : ⊥ = omega arith in absurd z
 refused-from k (m ∷ mask) h =

@@ -1,4 +1,4 @@
--- A loop that writes merged runs: `rs` are the runs so far and w the writer behind them; `first` is the first value of all.
+-- A loop that writes merged runs: `rs` are the runs so far and w the writer after them; `first` is the first value of all.
 -- Assumes nothing.
 use Prim.Native.Nat.{ℕ, _+_, _≤_, _<_}
 use mathlib.Core.List.{List, []}

@@ -1,37 +1,19 @@
 -- Signed numbers and their tests, as natural numbers.
 -- Assumes nothing.
 use Prim.Native.Nat.{ℕ, _<_, _^_, min, max}
-use mathlib.Core.Bool.{Bool, true, false, not}
-use mathlib.Core.Path.{_≡_, refl, ap, sym, _∙_}
+use mathlib.Core.Bool.{true, false}
+use mathlib.Core.Path.{_≡_, refl, ap}
 use native.Mathlib.Omega.{arith}
-use lib.Dec.{T, leb, ltb}
+use lib.Dec.{T, leb}
 use lib.IntN.{ℤ, pos, negsuc, natAbs}
-use lib.Signed.{leZ, ltZ, nonNeg}
-use borrow.Author.Tests.{le-leb, lt-leb, leb-true, leb-false, ltb-true, ltb-false}
+use lib.Signed.{ltZ, nonNeg}
+use borrow.Author.Tests.{leb-true, leb-false, ltb-true}
 use Rattle.num.proofs.Tests.{by-test}
 use mir.Syntax.{w64}
 use mir.Val.{toZ, ofZ, Fits, SFits}
 use Rattle.num.specs.Numbers.{smallerOf, largerOf}
 use Rattle.num.proofs.Bits.{end-nat, end-cast}
 use Rattle.column.specs.Runs.{toNat}
-
--- ---- the two tests of an order: each is the other one's "no"
-
-le-not : (a b : ℤ) → leZ b a ≡ not (ltZ a b)
-le-not (pos a) (pos b) = by-test (ltb a b) (λ t. rw t (lt-leb b a (ltb-true a b t))) (λ t. rw t (le-leb b a (ltb-false a b t)))
-le-not (pos a) (negsuc b) = refl
-le-not (negsuc a) (pos b) = refl
-le-not (negsuc a) (negsuc b) = by-test (ltb b a) (λ t. rw t (lt-leb a b (ltb-true b a t))) (λ t. rw t (le-leb a b (ltb-false b a t)))
-
-pub lt-le : (a b : ℤ) {x : Bool} → ltZ a b ≡ x → leZ b a ≡ not x
-lt-le a b t = le-not a b ∙ ap not t
-
-pub le-lt : (a b : ℤ) {x : Bool} → leZ a b ≡ x → ltZ b a ≡ not x
-le-lt a b t = sym (not-not (ltZ b a)) ∙ ap not (sym (le-not b a) ∙ t)
-  where
-    not-not : (x : Bool) → not (not x) ≡ x
-    not-not true = refl
-    not-not false = refl
 
 -- a number that is not negative is its toNat
 pub natural : (z : ℤ) → ltZ z (pos 0) ≡ false → z ≡ pos (toNat z)

@@ -65,11 +65,13 @@ zip-positions op x y (a ∷ xs) [] =
     (rw (max-zero (length xs)) at (zip-positions op x y xs [])))
 zip-positions op x y (a ∷ xs) (b ∷ ys) =
     rw (suc-max-suc (length xs) (length ys))
-    (zip-step (λ i. op (getD (a ∷ xs) i x) (getD (b ∷ ys) i y)) (max (length xs) (length ys)) (op a b) (zipDense op x y xs ys) refl (zip-positions op x y xs ys))
+    (zip-step (λ i. op (getD (a ∷ xs) i x) (getD (b ∷ ys) i y)) (max (length xs) (length ys)) (op a b) (zipDense op x y xs ys)
+    refl (zip-positions op x y xs ys))
 
 pub table-two : (op : ℤ → ℤ → ℤ) (fa fb : Fill) (a b : Runs) → Valid a → Valid b
     → table op (two fa fb a b) ≡ zipDense op (valueOf fa) (valueOf fb) (dense a) (dense b)
 unfolding table greatestLength rowAt valueAt
 table-two op fa fb a b va vb =
-    let e : max (lengthOf a) (max (lengthOf b) 0) ≡ max (length (dense a)) (length (dense b)) = rw (length-dense a va, length-dense b vb, max-zero (lengthOf b)) in
+    let e : max (lengthOf a) (max (lengthOf b) 0) ≡ max (length (dense a)) (length (dense b)) =
+    rw (length-dense a va, length-dense b vb, max-zero (lengthOf b)) in
     rw e (zip-positions op (valueOf fa) (valueOf fb) (dense a) (dense b))

@@ -20,14 +20,16 @@ asked-yes e h = sym e ∙ ap shownAsked h
 pub asked-no : {a : Asked} {q : Question} (r : Refusal) → shownAsked a ≡ q → a ≡ Asked.No r → q ≡ some (paper r)
 asked-no r e h = sym e ∙ ap shownAsked h
 
-pub runs-written : {q : Question} (rs : Runs) {e e′ v v′ : List ℤ} {n : ℕ} → q ≡ none → Filled rs e e′ v v′ n → WrittenRuns (q otherwise rs) (Counted.Count n) e e′ v v′
+pub runs-written : {q : Question} (rs : Runs) {e e′ v v′ : List ℤ} {n : ℕ} → q ≡ none → Filled rs e e′ v v′ n
+    → WrittenRuns (q otherwise rs) (Counted.Count n) e e′ v v′
 runs-written rs h f = rw h (record { answer = ap answers (f .count); ends = f .ends; values = f .values })
 
 pub runs-refused : {q : Question} (rs : Runs) {r : Refusal} {e v : List ℤ} → q ≡ some (paper r) → WrittenRuns (q otherwise rs) (Counted.Refused r) e e v v
 runs-refused rs h = rw h (record { answer = refl; ends = refl; values = refl })
 
 module _ {A : Type 0} where
-  pub entries-written : {q : Question} (xs : List A) {b b′ : List A} {n : ℕ} → q ≡ none → n ≡ length xs → b′ ≡ over xs b → WrittenEntries (q otherwise xs) (Counted.Count n) b b′
+  pub entries-written : {q : Question} (xs : List A) {b b′ : List A} {n : ℕ} → q ≡ none → n ≡ length xs → b′ ≡ over xs b
+      → WrittenEntries (q otherwise xs) (Counted.Count n) b b′
   entries-written xs h e f = rw h (record { answer = ap answers e; entries = f })
 
   pub entries-refused : {q : Question} (xs : List A) {b : List A} {r : Refusal} → q ≡ some (paper r) → WrittenEntries (q otherwise xs) (Counted.Refused r) b b

@@ -23,7 +23,7 @@ startAt p rs zero = p
 startAt p [] (suc i) = p
 startAt p (r ∷ rs) (suc i) = startAt (r .end) rs i
 
--- where a run of value v goes after the runs: over the last one if that has the value v, else behind it
+-- where a run of value v goes after the runs: over the last one if that has the value v, else after it
 unfoldable pub place : Runs → ℤ → ℕ
 place [] v = 0
 place (r ∷ []) v = cond (eqZ (r .value) v) 0 1

@@ -1,4 +1,4 @@
--- Runs written into the rest of the same buffers, behind those of an earlier call: what `&mut b[used..]` lends and brings home.
+-- Runs written into the rest of the same buffers, after those of an earlier call: what `&mut b[used..]` lends and brings home.
 -- Assumes nothing.
 use Prim.Native.Nat.{ℕ, _+_, _-_, _≤_}
 use mathlib.Core.List.{List, _++_, append-nil}
@@ -25,7 +25,8 @@ module _ {A : Type 0} where
   rest-home n l ys h =
       ap (λ (r : List A). take n l ++ (ys ++ r)) (post-is n (length l) l h ∙ drop-length l) ∙ ap (λ (r : List A). take n l ++ r) (append-nil ys)
 
-  written-behind : (xs ys before now back : List A) (n : ℕ) → n ≡ length xs → n ≤ length now → now ≡ over xs before → back ≡ over ys (take (length now - n) (drop n now))
+  written-behind : (xs ys before now back : List A) (n : ℕ) → n ≡ length xs → n ≤ length now → now ≡ over xs before
+      → back ≡ over ys (take (length now - n) (drop n now))
       → putMid n (length now - n) now back ≡ over (xs ++ ys) before
   written-behind xs ys before now back n e h p q =
       rest-home n now back h
@@ -33,8 +34,9 @@ module _ {A : Type 0} where
       ∙ rw (e, p) (over-rest xs ys before)
 
 module _ (rs ss : Runs) (e e₁ e₂ v v₁ v₂ : List ℤ) (n m : ℕ) where
-  -- the runs of two calls, one behind the other
-  pub fill-behind : Filled rs e e₁ v v₁ n → Filled ss (take (length e₁ - n) (drop n e₁)) e₂ (take (length v₁ - n) (drop n v₁)) v₂ m → n ≤ length e₁ → n ≤ length v₁
+  -- the runs of two calls, one after the other
+  pub fill-behind : Filled rs e e₁ v v₁ n → Filled ss (take (length e₁ - n) (drop n e₁)) e₂ (take (length v₁ - n) (drop n v₁)) v₂ m → n ≤ length e₁
+      → n ≤ length v₁
       → Filled (rs ++ ss) e (putMid n (length e₁ - n) e₁ e₂) v (putMid n (length v₁ - n) v₁ v₂) (n + m)
   fill-behind f g he hv = record {
     count = rw length-append (ap₂ _+_ (f .count) (g .count));

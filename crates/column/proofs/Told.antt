@@ -1,7 +1,7 @@
 -- What a question tells where it is answered "yes".
 -- Assumes nothing.
 use Prim.Native.Nat.{ℕ, suc, _+_, _≤_, _<_, _^_, min}
-use mathlib.Core.Bool.{Bool, true, false, _&&_, _||_}
+use mathlib.Core.Bool.{Bool, true, false, _&&_}
 use mathlib.Core.Option.{none}
 use mathlib.Core.List.{List, [], _∷_}
 use mathlib.Core.Path.{_≡_, refl, _∙_, sym}
@@ -12,25 +12,18 @@ use lib.ListN.{length, getD, drop}
 use lib.Seq.{drop-cons}
 use lib.Signed.{leZ, ltZ}
 use borrow.Author.Tests.{eqb-true, leb-true, ltb-true}
+use Rattle.num.proofs.Tests.{le-lt, both-true}
 use Rattle.column.specs.Asking.{Question, refusal, _unless_, firstNo}
-use Rattle.column.specs.Questions.{listed, agree, paired, usedWithin, startAndRise, lastOffset, offsetsValid, endsValid, atMost, notNegative, fits, runByRun, longEnough, roomAt, room, both, sequenceAsked}
+use Rattle.column.specs.Questions.{listed, agree, paired, usedWithin, startAndRise, lastOffset, offsetsValid, endsValid, atMost, notNegative, fits}
+use Rattle.column.specs.Questions.{runByRun, longEnough, roomAt, room, both, sequenceAsked}
 use Rattle.column.specs.Runs.{sequence, toNat}
 use Rattle.column.proofs.FirstNo.{AllYes, all-yes, first-several, asked-last}
-use Rattle.column.proofs.Naturals.{le-lt}
 use Rattle.column.proofs.YesNo.{room-both}
 
 -- the test of a question that is one test
 told : (number : ℕ) (values : List ℤ) (t : Bool) → refusal number values unless t ≡ none → t ≡ true
 told number values true e = refl
 told number values false e = cc
-
-pub both-true : (s t : Bool) → s && t ≡ true → (s ≡ true) × (t ≡ true)
-both-true true t e = (refl, e)
-both-true false t e = (e, cc)
-
-pub both-false : (s t : Bool) → s || t ≡ false → (s ≡ false) × (t ≡ false)
-both-false true t e = (e, cc)
-both-false false t e = (refl, e)
 
 pub listed-told : (low high code : ℕ) → listed low high code ≡ none → (low ≤ code) × (code ≤ high)
 unfolding listed

@@ -53,9 +53,16 @@ module _ (n : ℕ) (e v : List ℤ) (in-ends : n ≤ length e) (in-values : n �
     pub used-filled : Filled usedRuns e e v v n
     used-filled = record { count = sym used-count; ends = over-ends; values = over-values }
 
-    -- and a merging writer can go on behind them
+    -- and a merging writer can go on after them
     pub used-merging : {w : Writer} (first : ℤ) → w .at ≡ n - 1 → w .last ≡ lastOf first usedRuns → Merging usedRuns first e v e v w
-    used-merging first a l = record { ends = over-ends; values = over-values; long-ends = refl; long-values = refl; at-last = a ∙ ap (λ (k : ℕ). k - 1) (sym used-count); last-value = l }
+    used-merging first a l = record {
+      ends = over-ends;
+      values = over-values;
+      long-ends = refl;
+      long-values = refl;
+      at-last = a ∙ ap (λ (k : ℕ). k - 1) (sym used-count);
+      last-value = l;
+    }
 
   -- the last value of those entries
   pub used-last : (first : ℤ) → 0 < n → lastOf first usedRuns ≡ getD v (n - 1) (pos 0)

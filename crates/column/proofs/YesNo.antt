@@ -3,7 +3,7 @@
 use Prim.Native.Nat.{ℕ, suc, _+_, _-_, _≤_, _<_, _^_}
 use mathlib.Core.Bool.{true, false, _&&_}
 use mathlib.Core.Option.{none}
-use mathlib.Core.List.{List, [], _∷_}
+use mathlib.Core.List.{List, [], _∷_, _++_}
 use mathlib.Core.Path.{_≡_, refl, _∙_, sym}
 use native.Mathlib.Numerals.{add-one}
 use native.Mathlib.Omega.{arith}
@@ -14,14 +14,14 @@ use lib.Signed.{leZ, ltZ}
 use lib.Dec.{leb, eqb}
 use borrow.Author.Tests.{le-leb, lt-leb, leb-true, leb-false, le-ltb, lt-ltb, eq-eqb, ne-eqb}
 use Rattle.num.specs.Numbers.{saturated, largerOf}
-use Rattle.num.proofs.Tests.{by-test}
+use Rattle.num.proofs.Tests.{by-test, lt-le, le-lt}
 use Rattle.column.specs.declared.answer.Fill.{Fill}
 use Rattle.column.specs.Lists.{any}
 use Rattle.column.specs.Asking.{Question, refusal, firstNo}
-use Rattle.column.specs.Questions.{listed, startAndRise, lastOffset, offsetsRise, offsetsValid, distinctAt, intervalAt, side, isMissing, filled, endsFrom, notNegative, fits, runByRun, longEnough, roomAt, roomFrom, room, both}
+use Rattle.column.specs.Questions.{listed, startAndRise, lastOffset, offsetsRise, offsetsValid, distinctAt, intervalAt, side, isMissing, filled}
+use Rattle.column.specs.Questions.{endsFrom, notNegative, fits, runByRun, longEnough, roomAt, roomFrom, room, both}
 use Rattle.column.specs.Runs.{toNat}
-use Rattle.column.proofs.FirstNo.{alone, first-rest}
-use Rattle.column.proofs.Naturals.{lt-le, le-lt}
+use Rattle.column.proofs.FirstNo.{alone, first-rest, last-several, Asks}
 
 -- ---- 1
 
@@ -61,7 +61,8 @@ offsets-refused os n t e = rw (t, ne-eqb (lastOffset 0 os) n e)
 -- ---- 4, at the end that comes next: `before` is the one before it
 
 module _ (before : ℤ) (i : ℕ) (es : List ℤ) where
-  pub ends-next : i < length es → leZ (getD es i (pos 0)) before ≡ false → endsFrom i before (drop i es) ≡ endsFrom (i + 1) (getD es i (pos 0)) (drop (i + 1) es)
+  pub ends-next : i < length es → leZ (getD es i (pos 0)) before ≡ false
+      → endsFrom i before (drop i es) ≡ endsFrom (i + 1) (getD es i (pos 0)) (drop (i + 1) es)
   unfolding endsFrom
   ends-next h t = rw (add-one, drop-cons es i (pos 0), le-lt (getD es i (pos 0)) before t) (alone (endsFrom (suc i) (getD es i (pos 0)) (drop (suc i) es)))
 
@@ -106,7 +107,8 @@ module _ (p i : ℕ) (rs : List ℤ) (h : i < length rs) where
 
   pub runs-next : ltZ run (pos 0) ≡ false → p + toNat run < 2 ^ 63 → runByRun i p (drop i rs) ≡ runByRun (i + 1) (p + toNat run) (drop (i + 1) rs)
   unfolding runByRun
-  runs-next t k = rw (add-one, drop-cons rs i (pos 0), negative-yes i run t, fits-yes (p + toNat run) k) (alone (runByRun (suc i) (p + toNat run) (drop (suc i) rs)))
+  runs-next t k = rw (add-one, drop-cons rs i (pos 0), negative-yes i run t, fits-yes (p + toNat run) k)
+      (alone (runByRun (suc i) (p + toNat run) (drop (suc i) rs)))
 
 pub runs-end : (p i : ℕ) (rs : List ℤ) → length rs ≤ i → runByRun i p (drop i rs) ≡ none
 unfolding runByRun
@@ -187,6 +189,10 @@ room-one n g = room-each (n ∷ []) (g ∷ []) ∙ alone (roomAt 0 n g)
 
 pub room-both : (n e v : ℕ) → room (both n) (e ∷ v ∷ []) ≡ firstNo (roomAt 0 n e ∷ roomAt 1 n v ∷ [])
 room-both n e v = room-each (both n) (e ∷ v ∷ [])
+
+-- 12, which the code puts buffer by buffer, after others
+pub asks-rooms : {r : Question} (ps : List Question) (needed given : List ℕ) → Asks r (ps ++ roomsFrom 0 needed given) → Asks r (ps ++ (room needed given ∷ []))
+asks-rooms ps needed given s = record { told = s .told ∙ rw (room-each needed given) (last-several ps (roomsFrom 0 needed given)) }
 
 -- a need that stops at the greatest number that is shown
 pub room-saturated : (which needed given : ℕ) → given < 2 ^ 64 - 1 → roomAt which (saturated needed) given ≡ roomAt which needed given

@@ -6,7 +6,8 @@ use mathlib.Core.Path.{_≡_}
 use lib.IntN.{ℤ, pos}
 use lib.ListN.{length}
 use Rattle.column.specs.declared.error.Error.{Error}
-use Rattle.column.specs.declared.error.Error.the-variants.{UnknownCode, LengthMismatch, InvalidOffsets, InvalidEnds, TooMany, NegativeRun, Overflow, DuplicateKey, InvalidInterval, UnequalLength, LengthTooShort, ShortBuffer}
+use Rattle.column.specs.declared.error.Error.the-variants.{UnknownCode, LengthMismatch, InvalidOffsets, InvalidEnds, TooMany, NegativeRun, Overflow}
+use Rattle.column.specs.declared.error.Error.the-variants.{DuplicateKey, InvalidInterval, UnequalLength, LengthTooShort, ShortBuffer}
 use Rattle.column.specs.declared.error.InKey.{InKey}
 use Rattle.column.specs.declared.error.InKey.the-variants.{Outside, Position}
 use Rattle.column.specs.declared.error.Refusal.{Refusal}
@@ -24,7 +25,7 @@ pub record PaperRefusal : Type 0 where
   pub values : List ℤ
   pub position : Option ℕ
 
--- "every call .. either answers or gives the one refusal"
+-- demand 1: "every call .. either answers or gives the one refusal of document 01"
 pub data Outcome (X : Type 0) : Type 0 where
   answers : X → Outcome X
   refuses : PaperRefusal → Outcome X

@@ -90,7 +90,7 @@ encodeFrom p (x ∷ xs) = joined p x (encodeFrom (suc p) xs)
 unfoldable pub encode : List ℤ → Runs
 encode xs = encodeFrom 0 xs
 
--- a run up to e behind the runs: the last run grows if it has the value already
+-- a run up to e after the runs: the last run grows if it has the value already
 unfoldable pub pushMerged : Runs → ℕ → ℤ → Runs
 pushMerged [] e v = record { end = e; value = v } ∷ []
 pushMerged (r ∷ []) e v = cond (eqZ (r .value) v) (record { end = e; value = v } ∷ []) (r ∷ record { end = e; value = v } ∷ [])

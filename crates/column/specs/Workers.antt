@@ -49,7 +49,7 @@ unfoldable pub lastOf : ℤ → Runs → ℤ
 lastOf v [] = v
 lastOf v (r ∷ rs) = lastOf (r .value) rs
 
--- the runs rs are written into the front of two buffers, which held e₀ and v₀, and w is the writer behind them; `first` is the first value of all
+-- the runs rs are written into the front of two buffers, which held e₀ and v₀, and w is the writer after them; `first` is the first value of all
 pub record Merging (rs : Runs) (first : ℤ) (e₀ v₀ e v : List ℤ) (w : Writer) : Type 0 where
   pub ends : e ≡ over (endsOf rs) e₀
   pub values : v ≡ over (valuesOf rs) v₀
@@ -72,7 +72,7 @@ abbrev pub RisingEnds : ℕ → List ℤ → Type 0
 RisingEnds p [] = Unit {0}
 RisingEnds p (e ∷ es) = (e ≡ pos (toNat e)) × (p < toNat e) × RisingEnds (toNat e) es
 
--- runs are written, and there is room behind them for those of the ends and values
+-- runs are written, and there is room after them for those of the ends and values
 pub record Behind (done : Runs) (first : ℤ) (e₀ v₀ e v : List ℤ) (w : Writer) (es vs : List ℤ) : Type 0 where
   pub merging : Merging done first e₀ v₀ e v w
   pub started : length done ≡ 0 → 0 < length es → first ≡ getD vs 0 (pos 0)

@@ -19,7 +19,7 @@ fn place_after(at: usize, last: i64, value: i64) -> usize
     if value != last { at + 1 } else { at }
 }
 
-// A run up to `end` behind the runs so far: the last run grows if it has the value already.
+// A run up to `end` after the runs so far: the last run grows if it has the value already.
 pub fn push_merged(
     writer: Writer,
     out_ends: &mut [i64],
@@ -27,7 +27,8 @@ pub fn push_merged(
     end: i64,
     value: i64,
 ) -> Writer
-    requires { ⌜ (writer .at + 1 < 2 ^ 64) × (nextPlace writer value < length (now «out_ends»)) × (nextPlace writer value < length (now «out_values»)) ⌝ }
+    requires { ⌜ (writer .at + 1 < 2 ^ 64)
+        × (nextPlace writer value < length (now «out_ends»)) × (nextPlace writer value < length (now «out_values»)) ⌝ }
     ensures { λ r. ⌜ PushedMerged writer end value (given «out_ends») (after «out_ends») (given «out_values») (after «out_values») r ⌝ }
 {
     let at = place_after(writer.at, writer.last, value);
@@ -36,7 +37,7 @@ pub fn push_merged(
     Writer { at, last: value }
 }
 
-// The runs of a column behind the runs so far, merged: its positions from `start` on stand at `offset`.
+// The runs of a column after the runs so far, merged: its positions from `start` on stand at `offset`.
 pub fn append_merged(
     writer: Writer,
     ends: &[i64],

@@ -6,7 +6,8 @@ use mathlib.Core.Path.{_≡_, refl, sym, ap, _∙_, subst}
 use mathlib.Core.Logic.{_⊎_, inl, inr}
 use mathlib.Core.Bool.{Bool, true, false, not, cond}
 use Prim.Native.Nat.{ℕ, zero, suc, _+_, _-_, _*_, _/_, _^_, _≤_, _<_}
-use native.Mathlib.Nat.{add-comm, le-add-left, suc-add, mul-pos, le-of-lt, le-trans, le-of-eq, le-antisymm, lt-of-lt-of-le, lt-of-not-le, not-le-of-lt, eq-or-lt-of-le, eq-zero-or-pos, mul-assoc, mul-one, one-mul, add-assoc, zero-add, mul-le-mul-right, mul-div-cancel, div-one}
+use native.Mathlib.Nat.{add-comm, le-add-left, suc-add, mul-pos, le-of-lt, le-trans, le-of-eq, le-antisymm, lt-of-lt-of-le, lt-of-not-le, not-le-of-lt}
+use native.Mathlib.Nat.{eq-or-lt-of-le, eq-zero-or-pos, mul-assoc, mul-one, one-mul, add-assoc, zero-add, mul-le-mul-right, mul-div-cancel, div-one}
 use native.Mathlib.Omega.{arith}
 use lib.Dec.{T, ltb, lit≤}
 use lib.IntN.{ℤ, pos, negsuc}

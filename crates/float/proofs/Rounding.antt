@@ -5,7 +5,9 @@ use mathlib.Core.Path.{_≡_, sym, ap, _∙_, subst}
 use mathlib.Core.Logic.{inl, inr}
 use mathlib.Core.Bool.{Bool}
 use Prim.Native.Nat.{ℕ, suc, _+_, _-_, _*_, _/_, _%_, _^_, _≤_, _<_, zero-le, compare}
-use native.Mathlib.Nat.{le-add-left, le-of-lt, zero-mul, add-mul, mul-one, mul-le-mul-left, mul-lt-mul-of-pos-right, le-trans, le-of-eq, lt-of-le-of-lt, eq-or-lt-of-le, mul-comm, mul-assoc, mul-right-comm, mul-le-mul-right, mul-pos, le-of-mul-le-mul-right, lt-of-mul-lt-mul-right, div-le-of-le-mul, div-div-eq-div-mul, pow-succ', le-div-iff-mul-le, one-mul, add-zero, sub-add-cancel, lt-of-not-le}
+use native.Mathlib.Nat.{le-add-left, le-of-lt, zero-mul, add-mul, mul-one, mul-le-mul-left, mul-lt-mul-of-pos-right, le-trans, le-of-eq, lt-of-le-of-lt}
+use native.Mathlib.Nat.{eq-or-lt-of-le, mul-comm, mul-assoc, mul-right-comm, mul-le-mul-right, mul-pos, le-of-mul-le-mul-right, lt-of-mul-lt-mul-right}
+use native.Mathlib.Nat.{div-le-of-le-mul, div-div-eq-div-mul, pow-succ', le-div-iff-mul-le, one-mul, add-zero, sub-add-cancel, lt-of-not-le}
 use native.Mathlib.Omega.{arith}
 use native.Mathlib.Decide.{decLe}
 use lib.Arith.{digits-div, digits-mod}

@@ -1,4 +1,6 @@
 pub mod Bits
+pub mod Difference
+pub mod Examples
 pub mod Halves
 pub mod Midpoint
 pub mod Operation

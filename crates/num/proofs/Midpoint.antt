@@ -84,7 +84,8 @@ module _ {p q n m : ℕ} (h : p < 2 ^ 63) (k : q < 2 ^ 63) where
       let e : n - suc d ≡ (p - suc q) / 2 = omega arith in
       rw (t, le-ltb n (suc d) f, e)))
 
-  down-negative : m + n * 2 ≡ (2 ^ 64 - suc p) + (2 ^ 64 - suc q) → 2 ^ 63 ≤ n → n < 2 ^ 64 → m < 2 ^ 63 → toZ w64 n +ℤ shrZ (toZ w64 m) 2 ≡ shrZ (negsuc p +ℤ negsuc q) 2
+  down-negative : m + n * 2 ≡ (2 ^ 64 - suc p) + (2 ^ 64 - suc q) → 2 ^ 63 ≤ n → n < 2 ^ 64 → m < 2 ^ 63
+      → toZ w64 n +ℤ shrZ (toZ w64 m) 2 ≡ shrZ (negsuc p +ℤ negsuc q) 2
   down-negative s i l j =
       let f : m / 2 < suc (2 ^ 64 - suc n) = omega arith in
       let e : suc (2 ^ 64 - suc n) - suc (m / 2) ≡ suc (p + q) / 2 = omega arith in
@@ -101,7 +102,8 @@ differing x y = bitXor (ofZ w64 x) (ofZ w64 y)
 abbrev pub down : ℤ → ℤ → ℤ
 down x y = toZ w64 (ofZ w64 (toZ w64 (both x y) +ℤ toZ w64 (ofZ w64 (shrZ (toZ w64 (differing x y)) 2))))
 
-half-mixed : (p q : ℕ) → p < 2 ^ 63 → q < 2 ^ 63 → toZ w64 (both (pos p) (negsuc q)) +ℤ shrZ (toZ w64 (differing (pos p) (negsuc q))) 2 ≡ shrZ (pos p +ℤ negsuc q) 2
+half-mixed : (p q : ℕ) → p < 2 ^ 63 → q < 2 ^ 63 → toZ w64 (both (pos p) (negsuc q)) +ℤ shrZ (toZ w64 (differing (pos p) (negsuc q)))
+    2 ≡ shrZ (pos p +ℤ negsuc q) 2
 half-mixed p q h k =
     let b = 2 ^ 64 - suc q in
     let t : p / 2 ^ 63 ≡ 0 = omega arith in

@@ -2,16 +2,18 @@
 -- Assumes nothing.
 use mathlib.Core.Path.{_≡_, refl, sym}
 use mathlib.Core.Bool.{Bool, true, false, cond}
-use Prim.Native.Nat.{ℕ}
+use Prim.Native.Nat.{ℕ, _≤_}
+use native.Mathlib.Omega.{arith}
 use lib.IntN.{ℤ, pos, _+ℤ_, _-ℤ_, _*ℤ_}
 use lib.Signed.{leZ, ltZ}
 use lib.Dec.{eqb}
-use borrow.Author.Tests.{ne-eqb}
+use borrow.Author.Tests.{ne-eqb, eqb-true, eqb-false}
 use mir.Syntax.{w64}
 use mir.Val.{SFits}
 use mir.Facts.{sfits-lit}
-use Rattle.num.specs.Numbers.{eqZ, midpoint, flag, operation}
+use Rattle.num.specs.Numbers.{eqZ, midpoint, flag, operation, comparison}
 use Rattle.num.proofs.Midpoint.{midpoint-fits}
+use Rattle.num.proofs.Tests.{by-test}
 use Rattle.num.proofs.Wrap.{wrap-fits}
 
 module _ (code : ℕ) where
@@ -62,10 +64,9 @@ test-flag : (b : Bool) → eqZ (flag b) (pos 1) ≡ b
 test-flag true = refl
 test-flag false = refl
 
-pub holds-equal : (code : ℕ) (x y : ℤ) → code ≡ 7 → eqZ x y ≡ eqZ (operation code x y) (pos 1)
+pub comparison-operation : (code : ℕ) (x y : ℤ) → 7 ≤ code → code ≤ 8 → comparison code x y ≡ eqZ (operation code x y) (pos 1)
 unfolding operation
-holds-equal code x y e = rw e (sym (test-flag (eqZ x y)))
-
-pub holds-less : (code : ℕ) (x y : ℤ) → code ≡ 8 → ltZ x y ≡ eqZ (operation code x y) (pos 1)
-unfolding operation
-holds-less code x y e = rw e (sym (test-flag (ltZ x y)))
+comparison-operation code x y low high =
+    by-test (eqb code 7)
+    (λ t. rw (eqb-true code 7 t) (sym (test-flag (eqZ x y))))
+    (λ t. let n = eqb-false code 7 t in let e : code ≡ 8 = omega arith in rw e (sym (test-flag (ltZ x y))))

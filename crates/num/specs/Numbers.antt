@@ -48,7 +48,7 @@ midpoint x y = halved (x +ℤ y)
 abbrev pub flag : Bool → ℤ
 flag holds = cond holds (pos 1) (pos 0)
 
--- "0 add, 1 subtract, 2 multiply, each modulo 2^64, read as signed; 3 smaller; 4 larger; 5 first; 6 second; 7 equal; 8 less; 9 midpoint"
+-- "0 add, 1 subtract, 2 multiply, each modulo 2^64, read as signed; 3 smaller; 4 larger; 5 first; 6 second; 7 equal; 8 less (1 or 0); 9 midpoint"
 unfoldable pub operation : ℕ → ℤ → ℤ → ℤ
 operation code x y =
     cond (eqb code 0) (wrap (x +ℤ y))
@@ -60,3 +60,7 @@ operation code x y =
     (cond (eqb code 6) y
     (cond (eqb code 7) (flag (eqZ x y))
     (cond (eqb code 8) (flag (ltZ x y)) (midpoint x y)))))))))
+
+-- codes 7 and 8 as a test: 7 is equal, and any other code less
+abbrev pub comparison : ℕ → ℤ → ℤ → Bool
+comparison code x y = cond (eqb code 7) (eqZ x y) (ltZ x y)

@@ -1,8 +1,8 @@
 ghost use mathlib.Core.Path.{_≡_};
-ghost use Prim.Native.Nat.{_+_, _*_, _≤_, _^_, min};
-ghost use lib.IntN.{pos, natAbs, _+ℤ_, _-ℤ_, _*ℤ_};
+ghost use Prim.Native.Nat.{_+_, _*_, _^_, min};
+ghost use lib.IntN.{natAbs, _+ℤ_, _-ℤ_, _*ℤ_};
 ghost use lib.Signed.{ltZ};
-ghost use Rattle.num.specs.Numbers.{eqZ, residue, signed, wrap, saturated, smallerOf, largerOf, midpoint, flag, operation};
+ghost use Rattle.num.specs.Numbers.{eqZ, residue, signed, wrap, saturated, smallerOf, largerOf, midpoint, flag, operation, comparison};
 
 // The two's complement bits. A cast of a negative number is refused; these arms cost no instruction.
 pub fn as_unsigned(x: i64) -> u64
@@ -135,9 +135,9 @@ pub fn less(x: i64, y: i64) -> i64
     if x < y { 1 } else { 0 }
 }
 
-// Codes 7 and 8 as a test.
+// Codes 7 and 8 as a test; any other code is taken for 8.
 pub fn holds(code: u8, x: i64, y: i64) -> bool
-    ensures { λ r. ⌜ (7 ≤ code → code ≤ 8 → r ≡ eqZ (operation code x y) (pos 1)) ⌝ }
+    ensures { λ r. ⌜ r ≡ comparison code x y ⌝ }
 {
     if code == 7 { x == y } else { x < y }
 }

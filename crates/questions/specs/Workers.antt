@@ -1,4 +1,4 @@
--- How the check of ends goes: four quarters of a list first, then what is behind them.
+-- How the check of ends goes: four quarters of a list first, then what comes after them.
 use Prim.Native.Nat.{_*_, _/_}
 use mathlib.Core.List.{List}
 use lib.IntN.{ℤ}
@@ -7,6 +7,6 @@ use Rattle.column.specs.Asking.{Question}
 use Rattle.column.specs.Questions.{endsFrom}
 use Rattle.column.specs.Runs.{endBefore}
 
--- the question behind four quarters of a list
+-- the question after four quarters of a list
 abbrev pub endsFromQuarters : List ℤ → Question
 endsFromQuarters es = let n = length es / 4 * 4 in endsFrom n (endBefore es n) (drop n es)

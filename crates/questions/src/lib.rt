@@ -1,4 +1,4 @@
-// The questions of document 01, each answered for any arguments, and the first "no" of two. Question 8, of keys, is in crate keys.
+// The questions of document 01, each answered for any arguments. Question 8, of keys, is in crate batch_keys.
 use column::answer::Asked;
 use column::answer::Fill;
 use column::error::Error;
@@ -15,7 +15,9 @@ ghost use lib.Signed.{ltZ};
 ghost use Rattle.column.specs.Asking.{shownAsked, refusal, firstNo, inKey};
 ghost use Rattle.column.specs.Flat.{flatAsked, givenFlat};
 ghost use Rattle.column.specs.Paper.{numberOf, shownBy};
-ghost use Rattle.column.specs.Questions.{listed, maskListed, agree, paired, maskAgrees, usedWithin, startAndRise, lastOffset, offsetsRise, offsetsValid, endsFrom, endsValid, sequencesValid, atMost, notNegative, fits, runByRun, intervals, side, isMissing, filled, longEnough, roomAt, room, both, sequenceAsked};
+ghost use Rattle.column.specs.Questions.{listed, maskListed, agree, paired, maskAgrees, usedWithin, startAndRise, lastOffset, offsetsRise, offsetsValid};
+ghost use Rattle.column.specs.Questions.{endsFrom, endsValid, sequencesValid, atMost, notNegative, fits, runByRun, intervals, side, isMissing, filled};
+ghost use Rattle.column.specs.Questions.{longEnough, roomAt, room, both, sequenceAsked};
 ghost use Rattle.column.specs.Runs.{toNat, givenSequence};
 ghost use Rattle.questions.specs.Workers.{endsFromQuarters};
 ghost use Rattle.column.specs.Lent.{given};
@@ -31,15 +33,6 @@ fn no(error: Error) -> Asked
         error,
         in_key: InKey::Outside,
     })
-}
-
-pub fn first_no(first: Asked, second: Asked) -> Asked
-    ensures { λ r. ⌜ shownAsked r ≡ firstNo (shownAsked first ∷ shownAsked second ∷ []) ⌝ }
-{
-    match first {
-        Asked::Yes => second,
-        Asked::No(r) => Asked::No(r),
-    }
 }
 
 // 1
@@ -296,7 +289,7 @@ pub fn ask_run(index: usize, run: i64) -> Asked
     }
 }
 
-// 7, of a length and a run behind it; a negative number counts as 0.
+// 7, of a length and a run after it; a negative number counts as 0.
 pub fn ask_sum(length: i64, run: i64) -> Asked
     ensures { λ r. ⌜ shownAsked r ≡ fits (toNat length + toNat run) ⌝ }
 {

@@ -86,9 +86,10 @@ returns-9 c =
     rw (c .before .match .keys9) (told-call (λ x y. flag (ltZ x y)) (f .x) (f .y) (c .less .ok) (c .less .ensures))
 
 returns-10 : tie.Need-returns-10
-returns-10 c =
-    let s = c .before .before in
-    told-call midpoint (s .fits .x) (s .fits .y) (c .midpoint-toward-zero .ok) (c .midpoint-toward-zero .ensures) ∙ sym (operation-last (s .args .code) (s .args .x) (s .args .y) (c .before .match .rest))
+returns-10 c = let s = c .before .before in
+    let half = c .midpoint-toward-zero in
+    told-call midpoint (s .fits .x) (s .fits .y) (half .ok) (half .ensures)
+    ∙ sym (operation-last (s .args .code) (s .args .x) (s .args .y) (c .before .match .rest))
 
 pub apply-spec : {M : Type 1} → statement M
 apply-spec =

@@ -18,8 +18,7 @@ as-signed-requires : tie.Need-as-signed-requires
 as-signed-requires c κs = search needs
 
 returns : tie.Need-returns
-returns c =
-    let sum = c .before in
+returns c = let sum = c .before in
     let bits = sum .before .before in
     let f = bits .before .fits in
     told-add (f .x) (f .y) (bits .as-unsigned .ensures) (sum .before .as-unsigned2 .ensures) (c .as-signed .ensures) (sum .wrapping-add-u64 .ensures)

@@ -18,11 +18,12 @@ as-signed-requires : tie.Need-as-signed-requires
 as-signed-requires c κs = search needs
 
 returns : tie.Need-returns
-returns c =
-    let product = c .before in
+returns c = let product = c .before in
     let bits = product .before .before in
     let f = bits .before .fits in
-    told-mul (f .x) (f .y) (bits .as-unsigned .ensures) (product .before .as-unsigned2 .ensures) (c .as-signed .ensures) (product .full-product .result .high) (search needs) (product .full-product .ensures)
+    let halves = product .full-product in
+    told-mul (f .x) (f .y) (bits .as-unsigned .ensures) (product .before .as-unsigned2 .ensures) (c .as-signed .ensures) (halves .result .high) (search needs)
+    (halves .ensures)
 
 pub wrapping-mul-spec : {M : Type 1} → statement M
 wrapping-mul-spec =

@@ -18,11 +18,11 @@ as-signed-requires : tie.Need-as-signed-requires
 as-signed-requires c κs = search needs
 
 returns : tie.Need-returns
-returns c =
-    let difference = c .before in
+returns c = let difference = c .before in
     let bits = difference .before .before in
     let f = bits .before .fits in
-    told-sub (f .x) (f .y) (bits .as-unsigned .ensures) (difference .before .as-unsigned2 .ensures) (c .as-signed .ensures) (difference .wrapping-sub-u64 .ok) (difference .wrapping-sub-u64 .ensures)
+    told-sub (f .x) (f .y) (bits .as-unsigned .ensures) (difference .before .as-unsigned2 .ensures) (c .as-signed .ensures) (difference .wrapping-sub-u64 .ok)
+    (difference .wrapping-sub-u64 .ensures)
 
 pub wrapping-sub-spec : {M : Type 1} → statement M
 wrapping-sub-spec =

@@ -32,7 +32,11 @@ no-requires : tie.Need-no-requires Inv-loop μ-loop
 no-requires c κs = search needs
 
 returns : tie.Need-returns Inv-loop μ-loop
-returns c = let l = c .before .before .before .before in let e = back (getD (now (l .before .args .ends)) (l .loop .i) (pos 0)) (c .before .before .end .given) in c .no .ensures ∙ sym (rw (toZ-ofZ (l .before .fits .first)) at (l .loop .inv) ∙ ends-refused _ _ _ (c .before .before .before .loop-test .taken) (rw e at (c .before .if1 .taken)))
+returns c = let l = c .before .before .before .before in
+    let e = back (getD (now (l .before .args .ends)) (l .loop .i) (pos 0)) (c .before .before .end .given) in
+    c .no .ensures
+    ∙ sym (rw (toZ-ofZ (l .before .fits .first)) at (l .loop .inv) ∙ ends-refused _ _ _ (c .before .before .before .loop-test .taken)
+    (rw e at (c .before .if1 .taken)))
 
 add-i : tie.Need-add-i Inv-loop μ-loop
 add-i c = search needs
@@ -41,7 +45,9 @@ loop-less : tie.Need-loop-less Inv-loop μ-loop
 loop-less c = search needs
 
 loop-again : tie.Need-loop-again Inv-loop μ-loop
-loop-again c = let l = c .before .before .before in let e = back (getD (now (l .before .args .ends)) (l .loop .i) (pos 0)) (c .before .end .given) in rw e (l .loop .inv ∙ ends-next _ _ _ (c .before .before .loop-test .taken) (rw e at (c .if1 .left)))
+loop-again c = let l = c .before .before .before in
+    let e = back (getD (now (l .before .args .ends)) (l .loop .i) (pos 0)) (c .before .end .given) in
+    rw e (l .loop .inv ∙ ends-next _ _ _ (c .before .before .loop-test .taken) (rw e at (c .if1 .left)))
 
 returns-2 : tie.Need-returns-2 Inv-loop μ-loop
 returns-2 c = sym (rw (toZ-ofZ (c .before .before .fits .first)) at (c .before .loop .inv) ∙ ends-end _ _ _ (c .loop-test .left))

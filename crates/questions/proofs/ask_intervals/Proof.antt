@@ -39,7 +39,8 @@ returns c = let l = c .before .before .before .before .before in
     let s = back (getD (now (l .before .args .starts)) (l .loop .i) (pos 0)) (c .before .before .before .start .given) in
     let e = back (c .before .before .entry-or .result) (c .before .before .entry-or .ok) in
     rw (s, e) at (c .no .ensures)
-    ∙ sym (l .loop .inv .1 ∙ each-refused _ _ _ (pos 0) (c .before .before .before .before .loop-test .taken) (interval-negative _ _ _ (c .before .before .entry-or .ensures) (rw s at (c .before .if1 .taken))))
+    ∙ sym (l .loop .inv .1 ∙ each-refused _ _ _ (pos 0) (c .before .before .before .before .loop-test .taken)
+    (interval-negative _ _ _ (c .before .before .entry-or .ensures) (rw s at (c .before .if1 .taken))))
 
 no-requires-2 : tie.Need-no-requires-2 Inv-loop μ-loop
 no-requires-2 c κs = search needs
@@ -49,7 +50,9 @@ returns-2 c = let l = c .before .before .before .before .before .before in
     let s = back (getD (now (l .before .args .starts)) (l .loop .i) (pos 0)) (c .before .before .before .before .start .given) in
     let e = back (c .before .before .before .entry-or .result) (c .before .before .before .entry-or .ok) in
     rw (s, e) at (c .no2 .ensures)
-    ∙ sym (l .loop .inv .1 ∙ each-refused _ _ _ (pos 0) (c .before .before .before .before .before .loop-test .taken) (interval-reversed _ _ _ (c .before .before .before .entry-or .ensures) (rw s at (c .before .before .if1 .left)) (rw (s, e) at (c .before .if2 .taken))))
+    ∙ sym (l .loop .inv .1 ∙ each-refused _ _ _ (pos 0) (c .before .before .before .before .before .loop-test .taken)
+    (interval-reversed _ _ _ (c .before .before .before .entry-or .ensures) (rw s at (c .before .before .if1 .left))
+    (rw (s, e) at (c .before .if2 .taken))))
 
 add-i : tie.Need-add-i Inv-loop μ-loop
 add-i c = search needs
@@ -60,8 +63,11 @@ loop-less c = search needs
 loop-again : tie.Need-loop-again Inv-loop μ-loop
 loop-again c = let l = c .before .before .before .before .before in
     let s = back (getD (now (l .before .args .starts)) (l .loop .i) (pos 0)) (c .before .before .before .start .given) in
-    let e = back (c .before .before .entry-or .result) (c .before .before .entry-or .ok) in
-    (search needs, l .loop .inv .1 ∙ each-next _ _ _ (pos 0) (c .before .before .before .before .loop-test .taken) (interval-yes _ _ _ (c .before .before .entry-or .ensures) (rw s at (c .before .if1 .left)) (rw (s, e) at (c .if2 .left))))
+    let e = back (c .before .before .entry-or .result) (c .before .before .entry-or .ok) in (
+      search needs,
+      l .loop .inv .1 ∙ each-next _ _ _ (pos 0) (c .before .before .before .before .loop-test .taken)
+          (interval-yes _ _ _ (c .before .before .entry-or .ensures) (rw s at (c .before .if1 .left)) (rw (s, e) at (c .if2 .left))),
+    )
 
 returns-3 : tie.Need-returns-3 Inv-loop μ-loop
 returns-3 c = sym (c .before .loop .inv .1 ∙ each-end _ _ _ (pos 0) (c .loop-test .left))

@@ -10,7 +10,9 @@ no-requires : tie.Need-no-requires
 no-requires c κs = search needs
 
 returns : tie.Need-returns
-returns c = let f = c .before .before .fits in rw (toZ-ofZ (f .requested), toZ-ofZ (f .required)) at (c .no .ensures) ∙ sym (long-refused _ _ (told-lt (f .requested) (f .required) (c .before .if1 .taken)))
+returns c = let f = c .before .before .fits in
+    rw (toZ-ofZ (f .requested), toZ-ofZ (f .required)) at (c .no .ensures)
+    ∙ sym (long-refused _ _ (told-lt (f .requested) (f .required) (c .before .if1 .taken)))
 
 returns-2 : tie.Need-returns-2
 returns-2 c = let f = c .before .fits in sym (long-yes _ _ (told-lt (f .requested) (f .required) (c .if1 .left)))

@@ -21,10 +21,13 @@ no-requires-2 : tie.Need-no-requires-2
 no-requires-2 c κs = search needs
 
 returns-2 : tie.Need-returns-2
-returns-2 c = sym (offsets-yes _ _ (sym (c .before .before .before .start-and-rise .ensures) ∙ not-false _ (c .before .before .if1 .left)) (sym (c .before .last-offset .ensures) ∙ c .if2 .taken))
+returns-2 c = sym (offsets-yes _ _ (sym (c .before .before .before .start-and-rise .ensures) ∙ not-false _ (c .before .before .if1 .left))
+    (sym (c .before .last-offset .ensures) ∙ c .if2 .taken))
 
 returns-3 : tie.Need-returns-3
-returns-3 c = c .no2 .ensures ∙ sym (offsets-refused _ _ (sym (c .before .before .before .before .start-and-rise .ensures) ∙ not-false _ (c .before .before .before .if1 .left)) (λ e. c .before .if2 .left (c .before .before .last-offset .ensures ∙ e)))
+returns-3 c = c .no2 .ensures
+    ∙ sym (offsets-refused _ _ (sym (c .before .before .before .before .start-and-rise .ensures) ∙ not-false _ (c .before .before .before .if1 .left))
+    (λ e. c .before .if2 .left (c .before .before .last-offset .ensures ∙ e)))
 
 pub ask-offsets-spec : {M : Type 1} → statement M
 ask-offsets-spec =

@@ -16,7 +16,9 @@ returns c = simp (le-leb _ _ (c .if1 .taken))
 
 returns-2 : tie.Need-returns-2
 unfolding roomAt
-returns-2 c = let n = c .before .before .args .needed in let e : min n (2 ^ 64 - 1) ≡ n = omega arith in c .no .ensures ∙ simp (lt-leb _ _ (c .before .if1 .left), e)
+returns-2 c = let n = c .before .before .args .needed in
+    let e : min n (2 ^ 64 - 1) ≡ n = omega arith in
+    c .no .ensures ∙ simp (lt-leb _ _ (c .before .if1 .left), e)
 
 pub ask-room-spec : {M : Type 1} → statement M
 ask-room-spec = tie.close (tie.spec no-requires returns returns-2)

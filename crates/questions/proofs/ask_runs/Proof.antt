@@ -33,7 +33,9 @@ no-requires : tie.Need-no-requires Inv-loop μ-loop
 no-requires c κs = search needs
 
 returns : tie.Need-returns Inv-loop μ-loop
-returns c = let l = c .before .before .before .before in let e = back (getD (now (l .before .args .runs)) (l .loop .i) (pos 0)) (c .before .before .run .given) in rw e at (c .no .ensures) ∙ sym (l .loop .inv .2 ∙ runs-negative _ _ _ (c .before .before .before .loop-test .taken) (rw e at (c .before .if1 .taken)))
+returns c = let l = c .before .before .before .before in
+    let e = back (getD (now (l .before .args .runs)) (l .loop .i) (pos 0)) (c .before .before .run .given) in
+    rw e at (c .no .ensures) ∙ sym (l .loop .inv .2 ∙ runs-negative _ _ _ (c .before .before .before .loop-test .taken) (rw e at (c .before .if1 .taken)))
 
 cast-next : tie.Need-cast-next Inv-loop μ-loop
 cast-next c = let l = c .before .before .before in
@@ -54,7 +56,8 @@ returns-2 c = let l = c .before .before .before .before .before in
     let z = getD (now (l .before .args .runs)) (l .loop .i) (pos 0) in
     let f : SFits w64 z = record { sfits = c .before .before .before .run .given } in
     let t = rw (back z (f .sfits)) at (c .before .before .if1 .left) in
-    c .no2 .ensures ∙ sym (l .loop .inv .2 ∙ runs-overflow _ _ _ (c .before .before .before .before .loop-test .taken) t (rw (to-nat-abs z f t) at (c .before .if2 .taken)))
+    c .no2 .ensures
+    ∙ sym (l .loop .inv .2 ∙ runs-overflow _ _ _ (c .before .before .before .before .loop-test .taken) t (rw (to-nat-abs z f t) at (c .before .if2 .taken)))
 
 add-i : tie.Need-add-i Inv-loop μ-loop
 add-i c = search needs
@@ -68,7 +71,12 @@ loop-again c = let l = c .before .before .before .before in
     let f : SFits w64 z = record { sfits = c .before .before .run .given } in
     let t = rw (back z (f .sfits)) at (c .before .if1 .left) in
     let k = rw (to-nat-abs z f t) at (c .if2 .left) in
-    rw (to-nat-abs z f t) (omega (arith, c .before .before .before .loop-test .taken), k, l .loop .inv .2 ∙ runs-next _ _ _ (c .before .before .before .loop-test .taken) t k)
+    rw (to-nat-abs z f t) (
+      omega (arith, c .before .before .before .loop-test .taken),
+      k,
+      l .loop .inv .2
+          ∙ runs-next _ _ _ (c .before .before .before .loop-test .taken) t k,
+    )
 
 returns-3 : tie.Need-returns-3 Inv-loop μ-loop
 returns-3 c = sym (c .before .loop .inv .2 ∙ runs-end _ _ _ (c .loop-test .left))

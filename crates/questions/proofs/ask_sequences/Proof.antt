@@ -55,7 +55,8 @@ returns : tie.Need-returns Inv-loop μ-loop
 returns c = let k = c .before .before .before in
     let l = k .before .before .before .before .before .before in
     let e = k .in-key .ensures ∙ ap (inKey (l .loop .k)) (k .before .ask-ends .ensures) ∙ ap (sequenceAt (l .loop .k)) (k .before .before .part .ensures) in
-    sym (l .loop .inv .1 ∙ sequences-refused _ _ _ (k .before .before .before .before .before .loop-test .taken) (sym e ∙ ap shownAsked (c .before .asked .given .1)))
+    sym (l .loop .inv .1 ∙ sequences-refused _ _ _ (k .before .before .before .before .before .loop-test .taken)
+    (sym e ∙ ap shownAsked (c .before .asked .given .1)))
 
 add-k : tie.Need-add-k Inv-loop μ-loop
 add-k c = search needs

@@ -12,10 +12,12 @@ enum-told-2 : tie.Need-enum-told-2
 enum-told-2 c = search needs
 
 returns : tie.Need-returns
-returns c = let f = c .before .before .before .fits in rw (told-lt (f .length) (f .longest) (c .before .before .if1 .taken)) (sym (ap isMissing (c .enum-told .given .1)))
+returns c = let f = c .before .before .before .fits in
+    rw (told-lt (f .length) (f .longest) (c .before .before .if1 .taken)) (sym (ap isMissing (c .enum-told .given .1)))
 
 returns-2 : tie.Need-returns-2
-returns-2 c = let f = c .before .before .before .fits in rw (told-lt (f .length) (f .longest) (c .before .before .if1 .taken)) (sym (ap isMissing (c .enum-told2 .given .1)))
+returns-2 c = let f = c .before .before .before .fits in
+    rw (told-lt (f .length) (f .longest) (c .before .before .if1 .taken)) (sym (ap isMissing (c .enum-told2 .given .1)))
 
 returns-3 : tie.Need-returns-3
 returns-3 c = let f = c .before .fits in rw (told-lt (f .length) (f .longest) (c .if1 .left))

@@ -13,7 +13,8 @@ use Rattle.questions.proofs.quarters_rise.Statement.{statement}
 use Rattle.questions.proofs.quarters_rise.Tie as tie
 
 abbrev Inv-loop : tie.InvT-loop
-Inv-loop ends quarter first₀ second₀ third₀ fourth₀ i₀ first second third fourth i = Quarters ends quarter i (toZ w64 first) (toZ w64 second) (toZ w64 third) (toZ w64 fourth)
+Inv-loop ends quarter first₀ second₀ third₀ fourth₀ i₀ first second third fourth i = Quarters ends quarter i (toZ w64 first) (toZ w64 second) (toZ w64 third)
+    (toZ w64 fourth)
 
 abbrev μ-loop : tie.MeasureT-loop
 μ-loop ends quarter first₀ second₀ third₀ fourth₀ i₀ first second third fourth i = quarter - i
@@ -38,7 +39,8 @@ end-before-requires-3 : tie.Need-end-before-requires-3 Inv-loop μ-loop
 end-before-requires-3 c κs = search needs
 
 loop-holds : tie.Need-loop-holds Inv-loop μ-loop
-loop-holds c = quarters-start _ _ (back _ (c .before .before .end-before .ok) ∙ c .before .before .end-before .ensures) (back _ (c .before .end-before2 .ok) ∙ c .before .end-before2 .ensures) (back _ (c .end-before3 .ok) ∙ c .end-before3 .ensures)
+loop-holds c = quarters-start _ _ (back _ (c .before .before .end-before .ok) ∙ c .before .before .end-before .ensures)
+    (back _ (c .before .end-before2 .ok) ∙ c .before .end-before2 .ensures) (back _ (c .end-before3 .ok) ∙ c .end-before3 .ensures)
 
 mul-a : tie.Need-mul-a Inv-loop μ-loop
 mul-a c = omega (arith, room (c .before .before .before .before .before))
@@ -104,7 +106,8 @@ loop-again c = let d = c .before .before .before .before in
     let eb = back _ (d .before .before .b .given) in
     let ec = back _ (d .before .c .given) in
     let ed = back _ (d .d .given) in
-    quarters-next _ _ (l .loop .inv) (d .before .before .before .before .loop-test .taken) ea eb ec ed (c .before .before .before .if1 .left) (c .before .before .if2 .left) (c .before .if3 .left) (c .if4 .left)
+    quarters-next _ _ (l .loop .inv) (d .before .before .before .before .loop-test .taken) ea eb ec ed (c .before .before .before .if1 .left)
+    (c .before .before .if2 .left) (c .before .if3 .left) (c .if4 .left)
 
 returns-5 : tie.Need-returns-5 Inv-loop μ-loop
 returns-5 c = λ t. let l = c .before in quarters-end _ _ (l .loop .inv) (c .loop-test .left) (room (l .before .before .before .before))

@@ -20,7 +20,9 @@ part-result-end : tie.Need-part-result-end
 part-result-end c = search needs
 
 returns : tie.Need-returns
-returns c = let a = c .before .before .args in part-empty (length (now (a .entries))) (length (now (a .entries))) (now (a .entries)) (omega arith) ∙ sym (part-past (a .from) (a .to) (now (a .entries)) (omega arith))
+returns c = let a = c .before .before .args in
+    part-empty (length (now (a .entries))) (length (now (a .entries))) (now (a .entries)) (omega arith)
+    ∙ sym (part-past (a .from) (a .to) (now (a .entries)) (omega arith))
 
 mul-result-2 : tie.Need-mul-result-2
 mul-result-2 c = search needs
@@ -35,7 +37,8 @@ part-result-end-2 : tie.Need-part-result-end-2
 part-result-end-2 c = search needs
 
 returns-2 : tie.Need-returns-2
-returns-2 c = let a = c .before .before .before .args in part-empty (a .from) (a .from) (now (a .entries)) (omega arith) ∙ sym (part-empty (a .from) (a .to) (now (a .entries)) (omega arith))
+returns-2 c = let a = c .before .before .before .args in
+    part-empty (a .from) (a .from) (now (a .entries)) (omega arith) ∙ sym (part-empty (a .from) (a .to) (now (a .entries)) (omega arith))
 
 mul-result-3 : tie.Need-mul-result-3
 mul-result-3 c = search needs
@@ -50,7 +53,8 @@ part-result-end-3 : tie.Need-part-result-end-3
 part-result-end-3 c = search needs
 
 returns-3 : tie.Need-returns-3
-returns-3 c = let a = c .before .before .before .before .args in part-rest (a .from) (length (now (a .entries))) (now (a .entries)) (omega arith) ∙ sym (part-rest (a .from) (a .to) (now (a .entries)) (omega arith))
+returns-3 c = let a = c .before .before .before .before .args in
+    part-rest (a .from) (length (now (a .entries))) (now (a .entries)) (omega arith) ∙ sym (part-rest (a .from) (a .to) (now (a .entries)) (omega arith))
 
 mul-result-4 : tie.Need-mul-result-4
 mul-result-4 c = search needs
