@@ -68,7 +68,8 @@ encoded-none xs e₀ v₀ e =
 pub encoded-at : {xs e₀ v₀ e v : List ℤ} {w : Writer} {i : ℕ} → Encoded xs e₀ e v₀ v w i → i ≤ length xs → w .at ≤ i
 encoded-at {xs} {i = i} d k = omega (arith, few xs i k, d .at-last)
 
-module _ {xs e₀ v₀ e v : List ℤ} {w : Writer} {i : ℕ} (d : Encoded xs e₀ e v₀ v w i) (roomE : length xs ≤ length e₀) (roomV : length xs ≤ length v₀) (k : i ≤ length xs) where
+module _ {xs e₀ v₀ e v : List ℤ} {w : Writer} {i : ℕ} (d : Encoded xs e₀ e v₀ v w i)
+    (roomE : length xs ≤ length e₀) (roomV : length xs ≤ length v₀) (k : i ≤ length xs) where
   merging : Merging (encode (take i xs)) (getD xs 0 (pos 0)) e₀ v₀ e v w
   merging =
       let l = few xs i k in

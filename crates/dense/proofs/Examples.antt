@@ -16,5 +16,6 @@ rows =
     ∷ []
 
 pub examples : Hold rows
-unfolding agree paired endsFrom endsValid roomAt roomFrom room runsOf endsOf valuesOf lengthOf denseFrom dense joined encodeFrom encode pushMerged fromDense toDenseAsked toDense
+unfolding agree paired endsFrom endsValid roomAt roomFrom room runsOf endsOf valuesOf lengthOf denseFrom dense joined encodeFrom encode pushMerged fromDense
+    toDenseAsked toDense
 examples = (refl, (refl, tt))

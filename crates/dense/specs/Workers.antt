@@ -11,7 +11,7 @@ use Rattle.column.specs.declared.inner.Writer.{Writer}
 abbrev pub Constant : List ℤ → ℕ → ℕ → ℤ → Type 0
 Constant xs i j x = take j xs ≡ take i xs ++ replicate (j - i) x
 
--- the merged runs of the first i of xs written into the front of two buffers, each before and after, and the writer behind them
+-- the merged runs of the first i of xs written into the front of two buffers, each before and after, and the writer after them
 pub record Encoded (xs e e′ v v′ : List ℤ) (w : Writer) (i : ℕ) : Type 0 where
   pub ends : e′ ≡ over (endsOf (encode (take i xs))) e
   pub values : v′ ≡ over (valuesOf (encode (take i xs))) v

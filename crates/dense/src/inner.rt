@@ -114,7 +114,8 @@ fn fill(out: &mut [i64], from: usize, to: usize, value: i64)
 
 // What a sequence shows, position by position.
 pub fn to_dense(ends: &[i64], values: &[i64], out: &mut [i64]) -> usize
-    requires { ⌜ (endsValid (now ends) ≡ none) × (length (now ends) ≡ length (now values)) × (length (dense (runsOf (now ends) (now values))) ≤ length (now out)) ⌝ }
+    requires { ⌜ (endsValid (now ends) ≡ none) × (length (now ends) ≡ length (now values))
+        × (length (dense (runsOf (now ends) (now values))) ≤ length (now out)) ⌝ }
     ensures { λ r. ⌜ (r ≡ length (dense (runsOf (given ends) (given values))))
         × (after out ≡ over (dense (runsOf (given ends) (given values))) (given out)) ⌝ }
 {

@@ -29,10 +29,7 @@ fn to_dense_asks(ends: &[i64], values: &[i64], out: usize) -> Asked
     ensures { λ r. ⌜ shownAsked r ≡ calls.toDenseAsked (givenSequence ends values) (out ∷ []) ⌝ }
 {
     let needed = sequence::to_nat(sequence::length(ends));
-    questions::first_no(
-        questions::ask_sequence(ends, values),
-        questions::ask_room(0, needed, out),
-    )
+    questions::ask_sequence(ends, values).and(questions::ask_room(0, needed, out))
 }
 
 // The values that a sequence shows, one for each position.

@@ -1,4 +1,3 @@
-pub mod Asks
 pub mod Examples
 pub mod Repeated
 pub mod Runwise

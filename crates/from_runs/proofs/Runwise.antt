@@ -31,13 +31,13 @@ one-some : (p k : ℕ) (x : ℤ) → one p (suc k) x ≡ record { end = p + suc 
 unfolding runsFrom
 one-some p k x = rw (ne-eqb (suc k) 0 (λ e. omega arith))
 
--- the first run, and those behind it
+-- the first run, and those after it
 pub runs-cons : (p k : ℕ) (x : ℤ) (rs vs : List ℤ) → runsFrom p (pos k ∷ rs) (x ∷ vs) ≡ one p k x ++ runsFrom (p + k) rs vs
 unfolding runsFrom
 runs-cons p zero x rs vs = rw (add-zero p)
 runs-cons p (suc k) x rs vs = rw (ne-eqb (suc k) 0 (λ e. omega arith))
 
--- the run at i, and those behind it
+-- the run at i, and those after it
 pub runs-next : (p i k : ℕ) (rs vs : List ℤ) → i < length rs → i < length vs → getD rs i (pos 0) ≡ pos k
     → runsFrom p (drop i rs) (drop i vs) ≡ one p k (getD vs i (pos 0)) ++ runsFrom (p + k) (drop (i + 1) rs) (drop (i + 1) vs)
 runs-next p i k rs vs h g e =

@@ -36,7 +36,8 @@ pub fn from_runs(
     out_ends: &mut [i64],
     out_values: &mut [i64],
 ) -> usize
-    requires { ⌜ (length (now runs) ≡ length (now values)) × (runByRun 0 0 (now runs) ≡ none) × (length (now runs) ≤ length (now «out_ends»)) × (length (now runs) ≤ length (now «out_values»)) ⌝ }
+    requires { ⌜ (length (now runs) ≡ length (now values)) × (runByRun 0 0 (now runs) ≡ none)
+        × (length (now runs) ≤ length (now «out_ends»)) × (length (now runs) ≤ length (now «out_values»)) ⌝ }
     ensures { λ r. ⌜ Fills (runsFrom 0 (given runs) (given values)) «out_ends» «out_values» r ⌝ }
 {
     let mut end: i64 = 0;

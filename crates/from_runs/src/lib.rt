@@ -15,9 +15,9 @@ ghost use Rattle.column.specs.Lent.{given};
 fn from_runs_asks(runs: &[i64], values: &[i64], out_ends: usize, out_values: usize) -> Asked
     ensures { λ r. ⌜ shownAsked r ≡ calls.fromRunsAsked (given runs) (given values) («out_ends» ∷ «out_values» ∷ []) ⌝ }
 {
-    let room = questions::ask_both(runs.len(), out_ends, out_values);
-    let fit = questions::first_no(questions::ask_runs(runs), room);
-    questions::first_no(questions::ask_lengths(1, runs.len(), values.len()), fit)
+    questions::ask_lengths(1, runs.len(), values.len())
+        .and(questions::ask_runs(runs))
+        .and(questions::ask_both(runs.len(), out_ends, out_values))
 }
 
 // A sequence from the lengths of its runs and a value for each; runs of 0 are skipped.

@@ -21,6 +21,7 @@ use Rattle.column.proofs.Dense.{length-dense}
 use Rattle.column.proofs.Encode.{encode-pos}
 use Rattle.column.proofs.Ends.{rising, runs-rise, length-runs, length-of-ends}
 use Rattle.column.proofs.Naturals.{to-nat-below}
+use Rattle.column.proofs.Rising.{Rising}
 use Rattle.column.proofs.Sequences.{length-none}
 use Rattle.column.proofs.Merging.{merge-start, merge-end, fill-none}
 
@@ -53,18 +54,33 @@ module _ (es vs : List ℤ) (valid : endsValid es ≡ none) (paired : length es 
   pub merged-below : mag x < 2 ^ 63 → toNat (lengthOfEnds es) < 2 ^ 63
   merged-below f = rw (← ex) (to-nat-below x (record { sfits = f }))
 
-module _ (es vs e₀ v₀ : List ℤ) (valid : endsValid es ≡ none) (paired : length es ≡ length vs) (room-ends : length es ≤ length e₀) (room-values : length es ≤ length v₀)
-    {first : ℤ} (ef : first ≡ getD vs 0 (pos 0)) where
+-- a valid sequence, room for as many runs, and its first value
+pub record Ready (es vs e₀ v₀ : List ℤ) (first : ℤ) : Type 0 where
+  pub valid : endsValid es ≡ none
+  pub paired : length es ≡ length vs
+  pub room-ends : length es ≤ length e₀
+  pub room-values : length es ≤ length v₀
+  pub starts : first ≡ getD vs 0 (pos 0)
+
+module _ {es vs e₀ v₀ : List ℤ} {first : ℤ} (r : Ready es vs e₀ v₀ first) where
+  rises : Rising 0 (runsOf es vs)
+  rises = runs-rise 0 es vs (rising es (r .valid))
+
   abbrev start : Writer
   start = record { at = 0; last = first }
 
   behind : Behind [] first e₀ v₀ e₀ v₀ start es vs
-  behind = record { merging = merge-start first e₀ v₀; started = λ _ _. ef; room-ends = omega (arith, room-ends); room-values = omega (arith, room-values) }
+  behind = record {
+    merging = merge-start first e₀ v₀;
+    started = λ _ _. r .starts;
+    room-ends = omega (arith, r .room-ends);
+    room-values = omega (arith, r .room-values);
+  }
 
   pub merged-appendable : toNat (lengthOfEnds es) < 2 ^ 63 → Appendable 0 0 es vs e₀ v₀ start
   unfolding lengthOfEnds
   merged-appendable h = record {
-    movable = record { rising = rising es valid; fitting = omega arith; paired = paired };
+    movable = record { rising = rising es (r .valid); fitting = omega arith; paired = r .paired };
     done = [];
     first = first;
     e₀ = e₀;
@@ -75,7 +91,7 @@ module _ (es vs e₀ v₀ : List ℤ) (valid : endsValid es ≡ none) (paired : 
   module _ {e v : List ℤ} {w : Writer} (a : Appended 0 0 es vs e₀ e v₀ v start w) where
     whole : Merging (encode (dense (runsOf es vs))) first e₀ v₀ e v w
     unfolding dense encode encodeFrom
-    whole = rw (push-shown 0 [] (runsOf es vs) (runs-rise 0 es vs (rising es valid))) at (a [] first e₀ v₀ behind)
+    whole = rw (push-shown 0 [] (runsOf es vs) rises) at (a [] first e₀ v₀ behind)
 
     pub merged-long : (length e ≡ length e₀) × (length v ≡ length v₀)
     merged-long = (whole .long-ends, whole .long-values)
@@ -83,11 +99,13 @@ module _ (es vs e₀ v₀ : List ℤ) (valid : endsValid es ≡ none) (paired : 
     few : length (encode (dense (runsOf es vs))) ≤ length es
     unfolding dense encode encodeFrom
     few =
-        rw (sym (push-shown 0 [] (runsOf es vs) (runs-rise 0 es vs (rising es valid))))
-        (omega (arith, push-few [] (moved 0 0 (runsOf es vs)), length-moved 0 0 (runsOf es vs), length-runs es vs paired))
+        rw (sym (push-shown 0 [] (runsOf es vs) rises))
+        (omega (arith, push-few [] (moved 0 0 (runsOf es vs)), length-moved 0 0 (runsOf es vs), length-runs es vs (r .paired)))
 
     pub merged-at : w .at ≤ length es
     merged-at = omega (arith, whole .at-last, few)
 
     pub merged-end : (length es ≡ 0 → ⊥) → Filled (encode (dense (runsOf es vs))) e₀ e v₀ v (w .at + 1)
-    merged-end h = merge-end whole (encode-pos (dense (runsOf es vs)) (rw (length-dense (runsOf es vs) (runs-rise 0 es vs (rising es valid))) (length-some es vs valid paired h)))
+    merged-end h =
+        let some = length-some es vs (r .valid) (r .paired) h in
+        merge-end whole (encode-pos (dense (runsOf es vs)) (rw (length-dense (runsOf es vs) rises) some))

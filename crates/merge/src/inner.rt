@@ -11,7 +11,8 @@ ghost use Rattle.column.specs.Lent.{given};
 
 // The runs of a sequence, merged.
 pub fn merged(ends: &[i64], values: &[i64], out_ends: &mut [i64], out_values: &mut [i64]) -> usize
-    requires { ⌜ (endsValid (now ends) ≡ none) × (length (now ends) ≡ length (now values)) × (length (now ends) ≤ length (now «out_ends»)) × (length (now ends) ≤ length (now «out_values»)) ⌝ }
+    requires { ⌜ (endsValid (now ends) ≡ none) × (length (now ends) ≡ length (now values))
+        × (length (now ends) ≤ length (now «out_ends»)) × (length (now ends) ≤ length (now «out_values»)) ⌝ }
     ensures { λ r. ⌜ Fills (encode (dense (runsOf (given ends) (given values)))) «out_ends» «out_values» r ⌝ }
 {
     if sequence::length(ends) <= 0 {

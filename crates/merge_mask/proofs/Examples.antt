@@ -29,5 +29,6 @@ rows =
     ∷ []
 
 pub examples : Hold rows
-unfolding operation eachFrom listed maskListed agree paired endsFrom endsValid roomAt roomFrom room sequenceAsked runsOf endsOf valuesOf groupsFrom groups maskAgrees maskRuns mergeMaskAsked mergeMask neighbours mergeByAsked mergeBy
+unfolding operation eachFrom listed maskListed agree paired endsFrom endsValid roomAt roomFrom room sequenceAsked runsOf endsOf valuesOf groupsFrom groups
+    maskAgrees maskRuns mergeMaskAsked mergeMask neighbours mergeByAsked mergeBy
 examples = (refl, (refl, (refl, (refl, (refl, (refl, tt))))))

@@ -25,12 +25,12 @@ map-take f zero xs = refl
 map-take f (suc n) [] = refl
 map-take f (suc n) (x ∷ xs) = ap (λ l. f x ∷ l) (map-take f n xs)
 
--- does the run behind run i join it
+-- does the run after run i join it
 abbrev pub joinsAt : List ℕ → ℕ → Bool
 joinsAt mask i = eqb (getD mask i 0) 1
 
 module _ {A : Type 0} where
-  -- a run behind the last of a group
+  -- a run after the last of a group
   abbrev pub grown : Group A → A → Group A
   grown g y = record { first = g .first; last = y; count = suc (g .count) }
 
@@ -86,7 +86,8 @@ module _ {A : Type 0} where
   lastGroup d [] = d
   lastGroup d (g ∷ gs) = lastGroup g gs
 
-  pub new-group : (joins : Bool) (d : Group A) (gs : List (Group A)) (y : A) → 0 < length gs → newGroup joins gs y ≡ cond joins (grown (lastGroup d gs) y) (alone y)
+  pub new-group : (joins : Bool) (d : Group A) (gs : List (Group A)) (y : A) → 0 < length gs
+      → newGroup joins gs y ≡ cond joins (grown (lastGroup d gs) y) (alone y)
   unfolding newGroup
   new-group joins d [] y h = let z : ⊥ = omega arith in absurd z
   new-group joins d (g ∷ []) y h = refl
@@ -106,13 +107,13 @@ module _ {A : Type 0} where
   last-push false d (g ∷ []) y = refl
   last-push joins d (g ∷ k ∷ gs) y = last-push joins g (k ∷ gs) y
 
-  -- ---- groups of runs, one behind the other
+  -- ---- groups of runs, one after the other
 
   length-front : (x : A) (gs : List (Group A)) → 0 < length gs → length (inFront x gs) ≡ length gs
   length-front x [] h = let z : ⊥ = omega arith in absurd z
   length-front x (g ∷ gs) h = refl
 
-  from-some : (x : A) (ys : List A) (mask : List ℕ) → 0 < length (groupsFrom x ys mask)
+  pub from-some : (x : A) (ys : List A) (mask : List ℕ) → 0 < length (groupsFrom x ys mask)
   unfolding groupsFrom
   from-some x [] mask = omega arith
   from-some x (y ∷ ys) [] = omega arith
@@ -147,7 +148,9 @@ module _ {A : Type 0} where
       let joins = joinsAt mask (length ys) in
       by-test (eqb m 1)
       (λ t. rw t (ap (inFront x) (from-push y ys z mask) ∙ sym (push-front joins x (groupsFrom y ys mask) z (from-some y ys mask))))
-      (λ t. rw t (ap {B = List (Group A)} (λ l. alone x ∷ l) (from-push y ys z mask) ∙ sym (push-cons joins (alone x) (groupsFrom y ys mask) z (from-some y ys mask))))
+      (λ t. rw t
+      (ap {B = List (Group A)} (λ l. alone x ∷ l) (from-push y ys z mask)
+      ∙ sym (push-cons joins (alone x) (groupsFrom y ys mask) z (from-some y ys mask))))
 
   pub groups-push : (xs : List A) (z : A) (mask : List ℕ) → groups (xs ++ z ∷ []) mask ≡ pushGroup (joinsAt mask (length xs - 1)) (groups xs mask) z
   unfolding groups groupsFrom pushGroup
@@ -200,4 +203,6 @@ module _ {A : Type 0} where
         d
         ∙ rw (e, ep, ex) (over-store (map f gs) before at new (rw n (place-le joins gs)) (rw n (le-place joins gs)) (rw ep at room))
         ∙ ap (λ (l : List B). over l before)
-        (ap (λ (l : List B). l ++ new ∷ []) (map-take f at gs) ∙ sym (map-append f (take at gs) (newGroup joins gs y ∷ [])) ∙ ap (map f) (sym (push-place joins gs y)))
+        (ap (λ (l : List B). l ++ new ∷ []) (map-take f at gs)
+        ∙ sym (map-append f (take at gs) (newGroup joins gs y ∷ []))
+        ∙ ap (map f) (sym (push-place joins gs y)))

@@ -1,5 +1,6 @@
-pub mod Asks
 pub mod Examples
 pub mod First
 pub mod Groups
+pub mod Shown
 pub mod Writing
+pub mod Yes

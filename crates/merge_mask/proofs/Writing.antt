@@ -19,13 +19,14 @@ use Rattle.merge_mask.specs.Calls.{Group, alone, groups, maskRuns, neigh
 use Rattle.column.specs.Workers.{placeAfter}
 use Rattle.merge_mask.specs.Workers.{keptAfter, Writable, WroteRun, Mergeable}
 use Rattle.merge_mask.proofs.First.{over-again, over-first}
-use Rattle.merge_mask.proofs.Groups.{joinsAt, place-up, lastGroup, pushGroup, newGroup, new-group, new-last, last-push, groupPlace, place-is, length-push, groups-take, groups-some, push-store}
+use Rattle.merge_mask.proofs.Groups.{joinsAt, place-up, lastGroup, pushGroup, newGroup, new-group, new-last, last-push, groupPlace, place-is}
+use Rattle.merge_mask.proofs.Groups.{length-push, groups-take, groups-some, push-store}
 
 -- the end and the value of the run that stands for a group
 abbrev groupEnd : Group Run → ℤ
 groupEnd g = pos (g .last .end)
 
-abbrev groupValue : ℕ → Group Run → ℤ
+abbrev pub groupValue : ℕ → Group Run → ℤ
 groupValue keep g = cond (eqb keep 0) (g .first .value) (g .last .value)
 
 -- where there is no run
@@ -35,12 +36,14 @@ noRun = record { end = 0; value = pos 0 }
 value-alone : (keep : ℕ) (y : Run) → groupValue keep (alone y) ≡ y .value
 value-alone keep y = by-test (eqb keep 0) (λ t. rw t) (λ t. rw t)
 
-mask-ends : (keep : ℕ) (gs : List (Group Run)) → endsOf (map (λ (g : Group Run). record { end = g .last .end; value = groupValue keep g }) gs) ≡ map groupEnd gs
+mask-ends : (keep : ℕ) (gs : List (Group Run))
+    → endsOf (map (λ (g : Group Run). record { end = g .last .end; value = groupValue keep g }) gs) ≡ map groupEnd gs
 unfolding endsOf
 mask-ends keep [] = refl
 mask-ends keep (g ∷ gs) = ap {B = List ℤ} (λ l. groupEnd g ∷ l) (mask-ends keep gs)
 
-mask-values : (keep : ℕ) (gs : List (Group Run)) → valuesOf (map (λ (g : Group Run). record { end = g .last .end; value = groupValue keep g }) gs) ≡ map (groupValue keep) gs
+mask-values : (keep : ℕ) (gs : List (Group Run))
+    → valuesOf (map (λ (g : Group Run). record { end = g .last .end; value = groupValue keep g }) gs) ≡ map (groupValue keep) gs
 unfolding valuesOf
 mask-values keep [] = refl
 mask-values keep (g ∷ gs) = ap {B = List ℤ} (λ l. groupValue keep g ∷ l) (mask-values keep gs)
@@ -60,7 +63,8 @@ new-value keep true last gs y vs kept r el h ev ey =
     ∙ by-test (eqb keep 0) (λ t. rw (el, t) (rw t at ev)) (λ t. rw (el, t) ey))
 
 -- a run was written: what the code stores and where
-pub wrote-run : (w : GroupWriter) (joins last : Bool) (es vs : List ℤ) (r : ℕ) (e v : List ℤ) {p k : ℕ} {x y : ℤ} → p ≡ placeAfter joins (w .at) → k ≡ keptAfter joins last (w .kept) r
+pub wrote-run : (w : GroupWriter) (joins last : Bool) (es vs : List ℤ) (r : ℕ) (e v : List ℤ) {p k : ℕ} {x y : ℤ}
+    → p ≡ placeAfter joins (w .at) → k ≡ keptAfter joins last (w .kept) r
     → x ≡ getD es r (pos 0) → y ≡ getD vs k (pos 0) → WroteRun w joins last es vs r e (set e p x) v (set v p y) (record { at = p; kept = k })
 wrote-run w joins last es vs r e v ep ek ex ey = record { place = ep; kept = ek; ends = rw (ep, ex); values = rw (ep, ey, ek) }
 
@@ -96,7 +100,7 @@ neighbours-at code (v ∷ w ∷ vs) (suc (suc r)) p h =
     let n : suc (suc r) - 1 ≡ suc (suc r - 1) = omega arith in
     rw n (neighbours-at code (w ∷ vs) (suc r) (omega arith) (omega arith))
 
-one-to-nat : (z : ℤ) → eqZ z (pos 1) ≡ eqb (toNat z) 1
+pub one-to-nat : (z : ℤ) → eqZ z (pos 1) ≡ eqb (toNat z) 1
 one-to-nat (pos n) = refl
 one-to-nat (negsuc n) = refl
 
@@ -140,7 +144,9 @@ module _ {es vs e₀ v₀ : List ℤ} (m : Mergeable es vs e₀ v₀) (keep : �
 
     run-end : pos (run .end) ≡ getD es r (pos 0)
     unfolding rs run endsOf
-    run-end = sym (List·getD-map (λ (x : Run). pos (x .end)) rs r noRun) ∙ ap (λ (l : List ℤ). getD l r (pos 0)) (ends-runs 0 es vs (rising es (m .valid)) (m .paired))
+    run-end =
+        sym (List·getD-map (λ (x : Run). pos (x .end)) rs r noRun)
+        ∙ ap (λ (l : List ℤ). getD l r (pos 0)) (ends-runs 0 es vs (rising es (m .valid)) (m .paired))
 
     run-value : run .value ≡ getD vs r (pos 0)
     unfolding rs run valuesOf
@@ -196,10 +202,12 @@ module _ {es vs e₀ v₀ : List ℤ} (m : Mergeable es vs e₀ v₀) (keep : �
         }
 
     -- and all that it writes stands over the buffers as they were lent
-    pub merged-whole : {e′ v′ : List ℤ} {n : ℕ} → Filled (maskRuns keep mask (runsOf es vs)) e e′ v v′ n → Filled (maskRuns keep mask (runsOf es vs)) e₀ e′ v₀ v′ n
+    pub merged-whole : {e′ v′ : List ℤ} {n : ℕ} → Filled (maskRuns keep mask (runsOf es vs)) e e′ v v′ n
+        → Filled (maskRuns keep mask (runsOf es vs)) e₀ e′ v₀ v′ n
     unfolding maskRuns
     merged-whole f =
-        let some : 0 < length (maskRuns keep mask (runsOf es vs)) = simp length-map (groups-some (runsOf es vs) mask (omega (arith, length-runs es vs (m .paired)))) in
+        let runs : 0 < length (runsOf es vs) = omega (arith, length-runs es vs (m .paired)) in
+        let some : 0 < length (maskRuns keep mask (runsOf es vs)) = simp length-map (groups-some (runsOf es vs) mask runs) in
         record {
           count = f .count;
           ends = f .ends ∙ over-first _ e₀ _ (d .ends) (rw length-ends some) (omega (arith, m .room-ends));
@@ -229,10 +237,11 @@ module _ {es vs e₀ v₀ : List ℤ} (m : Mergeable es vs e₀ v₀) (keep : �
           let gs = groups (take r (runsOf es vs)) mask in
           let p = place-up joins (w .at) in
           let place : placeAfter joins (w .at) ≡ groupPlace joins gs = place-is joins gs (w .at) (g .place) in
+          let end = sym (run-end r) ∙ ap (λ (x : Run). pos (x .end)) (sym (new-last joins gs (run r))) in
           let value = new-value keep joins last gs (run r) vs (w .kept) r el (omega (arith, g .place)) (g .value) (run-value r) in
           let at = d .place in
           record {
-            ends = push-store groupEnd joins gs (run r) e₀ (g .ends) (d .ends) place (sym (run-end r) ∙ ap (λ (x : Run). pos (x .end)) (sym (new-last joins gs (run r)))) (omega (arith, g .few, m .room-ends));
+            ends = push-store groupEnd joins gs (run r) e₀ (g .ends) (d .ends) place end (omega (arith, g .few, m .room-ends));
             values = push-store (groupValue keep) joins gs (run r) v₀ (g .values) (d .values) place value (omega (arith, g .few, m .room-values));
             long-ends = wrote-long d .0 ∙ g .long-ends;
             long-values = wrote-long d .1 ∙ g .long-values;
@@ -248,7 +257,8 @@ module _ {es vs e₀ v₀ : List ℤ} (m : Mergeable es vs e₀ v₀) (keep : �
 
   -- ---- all runs
 
-  pub merged-end : {e v : List ℤ} {w : GroupWriter} {r : ℕ} → Merged keep mask es vs e₀ v₀ e v w r → length es ≤ r → Filled (maskRuns keep mask (runsOf es vs)) e₀ e v₀ v (w .at + 1)
+  pub merged-end : {e v : List ℤ} {w : GroupWriter} {r : ℕ} → Merged keep mask es vs e₀ v₀ e v w r → length es ≤ r
+      → Filled (maskRuns keep mask (runsOf es vs)) e₀ e v₀ v (w .at + 1)
   unfolding maskRuns
   merged-end {r = r} n h =
       let all : take r (runsOf es vs) ≡ runsOf es vs = take-all r (runsOf es vs) (omega (arith, length-runs es vs (m .paired))) in

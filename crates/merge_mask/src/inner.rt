@@ -14,7 +14,7 @@ pub struct GroupWriter {
     pub kept: usize,
 }
 
-// A run goes to the place of the group that it joins, or behind it.
+// A run goes to the place of the group that it joins, or after it.
 pub fn place_after(at: usize, joins: bool) -> usize
     requires { ⌜ at + 1 < 2 ^ 64 ⌝ }
     ensures { λ r. ⌜ r ≡ placeAfter joins at ⌝ }

@@ -20,12 +20,12 @@ fn merge_mask_asks(
 ) -> Asked
     ensures { λ r. ⌜ shownAsked r ≡ calls.mergeMaskAsked (givenSequence ends values) (given mask) keep («out_ends» ∷ «out_values» ∷ []) ⌝ }
 {
-    let room = questions::ask_both(ends.len(), out_ends, out_values);
-    let valid = questions::first_no(questions::ask_ends(ends), room);
-    let masked = questions::first_no(questions::ask_mask_length(mask, ends), valid);
-    let paired = questions::first_no(questions::ask_lengths(3, ends.len(), values.len()), masked);
-    let listed = questions::first_no(questions::ask_mask(mask), paired);
-    questions::first_no(questions::ask_code(0, 1, keep), listed)
+    questions::ask_code(0, 1, keep)
+        .and(questions::ask_mask(mask))
+        .and(questions::ask_lengths(3, ends.len(), values.len()))
+        .and(questions::ask_mask_length(mask, ends))
+        .and(questions::ask_ends(ends))
+        .and(questions::ask_both(ends.len(), out_ends, out_values))
 }
 
 // A run for each group that a mask makes, with the value of its first or of its last run.
@@ -58,10 +58,13 @@ fn merge_by_asks(
 ) -> Asked
     ensures { λ r. ⌜ shownAsked r ≡ calls.mergeByAsked (givenSequence ends values) code («out_ends» ∷ «out_values» ∷ []) ⌝ }
 {
-    questions::first_no(
-        questions::ask_code(7, 8, code),
-        questions::ask_sequence_into(ends, values, ends.len(), out_ends, out_values),
-    )
+    questions::ask_code(7, 8, code).and(questions::ask_sequence_into(
+        ends,
+        values,
+        ends.len(),
+        out_ends,
+        out_values,
+    ))
 }
 
 // A run for each group of neighbours of which the operation holds, with the value of its first run.

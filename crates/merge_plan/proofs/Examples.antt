@@ -32,5 +32,6 @@ rows =
     ∷ []
 
 pub examples : Hold rows
-unfolding eachFrom listed maskListed agree offsetsRise endsFrom endsValid roomAt roomFrom room groupsFrom groups maskAgrees mergePlanAsked mergePlan groupEnds pastEach idsFrom groupIdsAsked groupIds
+unfolding eachFrom listed maskListed agree offsetsRise endsFrom endsValid roomAt roomFrom room groupsFrom groups maskAgrees mergePlanAsked mergePlan groupEnds
+    pastEach idsFrom groupIdsAsked groupIds
 examples = (refl, (refl, (refl, (refl, (refl, tt)))))

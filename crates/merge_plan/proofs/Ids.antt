@@ -7,13 +7,14 @@ use mathlib.Core.Path.{_≡_, refl, sym, ap, ap₂, _∙_}
 use native.Mathlib.Numerals.{add-one}
 use native.Mathlib.Omega.{arith}
 use lib.Dec.{eqb}
-use lib.ListN.{length, getD, take, drop, set, replicate, length-append, length-replicate, length-drop, replicate-append-replicate, take-append-drop, drop-of-length-le}
+use lib.ListN.{length, getD, take, drop, set, replicate, length-append, length-replicate, length-drop, replicate-append-replicate, take-append-drop}
+use lib.ListN.{drop-of-length-le}
 use lib.Seq.{take-append-le, take-at, length-take-le, drop-append-add, drop-drop, drop-cons}
 use borrow.Author.Tests.{eqb-true}
+use Rattle.num.proofs.Tests.{both-true}
 use Rattle.column.specs.Questions.{rise, startAndRise, lastOffset}
 use Rattle.column.specs.Runs.{over}
 use Rattle.column.proofs.Buffer.{stretched, stretched-none, stretched-more}
-use Rattle.column.proofs.Told.{both-true}
 use Rattle.column.proofs.Flattened.{offset-within}
 use Rattle.column.proofs.Lists.{last-is}
 use Rattle.column.proofs.YesNo.{offsets-yes}
@@ -28,7 +29,8 @@ stored l p e v d h k = ap (λ (b : List ℕ). set b e v) d ∙ stretched-more l 
 pub put-one : (l : List ℕ) (p limit v : ℕ) → p < limit → limit ≤ length l → PutIds l (set l p v) p limit v (p + 1)
 put-one l p limit v h k = record { some = omega arith; within = omega arith; entries = stored l p p v (sym (stretched-none l p v)) (omega arith) (omega arith) }
 
-pub put-block : (l : List ℕ) (p limit v : ℕ) → p + 4 ≤ limit → limit ≤ length l → PutIds l (set (set (set (set l p v) (p + 1) v) (p + 2) v) (p + 3) v) p limit v (p + 4)
+pub put-block : (l : List ℕ) (p limit v : ℕ) → p + 4 ≤ limit → limit ≤ length l
+    → PutIds l (set (set (set (set l p v) (p + 1) v) (p + 2) v) (p + 3) v) p limit v (p + 4)
 put-block l p limit v h k =
     let two : p + 1 + 1 ≡ p + 2 = omega arith in
     let three : p + 2 + 1 ≡ p + 3 = omega arith in
@@ -70,7 +72,8 @@ module _ {b₀ b : List ℕ} {from limit id i : ℕ} (n : Filling b₀ b from li
           ids = ap (take r) (p .entries) ∙ take-at xs (drop r b) r m ∙ ap (λ (t : List ℕ). t ++ replicate (r - i) id) (n .filled .ids)
               ∙ append-assoc (take from b₀) (replicate (i - from) id) (replicate (r - i) id)
               ∙ ap (λ (t : List ℕ). take from b₀ ++ t) (replicate-append-replicate (i - from) (r - i) id ∙ ap (λ (q : ℕ). replicate q id) k);
-          rest = ap (drop limit) (p .entries) ∙ ap (λ (q : ℕ). drop q (xs ++ drop r b)) d ∙ drop-append-add xs (drop r b) (limit - r) ∙ drop-drop (limit - r) r b
+          rest = ap (drop limit) (p .entries) ∙ ap (λ (q : ℕ). drop q (xs ++ drop r b)) d ∙ drop-append-add xs (drop r b) (limit - r)
+              ∙ drop-drop (limit - r) r b
               ∙ ap (λ (q : ℕ). drop q b) f ∙ n .filled .rest;
         };
       }
@@ -106,7 +109,8 @@ numbering-start (a ∷ os) b limit t =
     let z = eqb-true a 0 (both-true (eqb a 0) (rise a os) t .0) in
     record { within = omega arith; starts = sym z; written = ap (λ (k : ℕ). idsFrom 0 k os) (sym z); rest = refl; long = refl }
 
-module _ {os b₀ b : List ℕ} {limit from group : ℕ} (n : Numbering os b₀ b limit from group) (t : startAndRise os ≡ true) (el : limit ≡ lastOffset 0 os) (room : lastOffset 0 os ≤ length b₀) where
+module _ {os b₀ b : List ℕ} {limit from group : ℕ} (n : Numbering os b₀ b limit from group)
+    (t : startAndRise os ≡ true) (el : limit ≡ lastOffset 0 os) (room : lastOffset 0 os ≤ length b₀) where
   pub numbering-end : length os ≤ group + 1 → (from ≡ length (idsAt os)) × (b ≡ over (idsAt os) b₀)
   unfolding idsFrom over
   numbering-end h =

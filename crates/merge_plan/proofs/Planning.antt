@@ -19,7 +19,8 @@ use Rattle.merge_plan.specs.Calls.{groupEnds, pastEach, groupOffsets}
 use Rattle.column.specs.Workers.{placeAfter}
 use Rattle.merge_plan.specs.Workers.{Stored, Planned}
 use Rattle.merge_mask.proofs.First.{over-again, over-first}
-use Rattle.merge_mask.proofs.Groups.{joinsAt, place-up, pushGroup, push-cons, place-next, groupPlace, place-is, place-le, le-place, length-push, new-last, groups-take, groups-count, push-store}
+use Rattle.merge_mask.proofs.Groups.{joinsAt, place-up, pushGroup, push-cons, place-next, groupPlace, place-is, place-le, le-place, length-push, new-last}
+use Rattle.merge_mask.proofs.Groups.{groups-take, groups-count, push-store}
 
 -- how many runs groups have
 abbrev countRuns : List (Group ℤ) → ℕ
@@ -39,7 +40,8 @@ length-past n [] = refl
 length-past n (g ∷ gs) = ap suc (length-past (n + g .count) gs)
 
 -- one run more ends its group
-past-last : (n : ℕ) (joins : Bool) (g : Group ℤ) (y : ℤ) → pastEach n (pushGroup joins (g ∷ []) y) ≡ take (groupPlace joins (g ∷ [])) (pastEach n (g ∷ [])) ++ (n + suc (g .count + 0)) ∷ []
+past-last : (n : ℕ) (joins : Bool) (g : Group ℤ) (y : ℤ)
+    → pastEach n (pushGroup joins (g ∷ []) y) ≡ take (groupPlace joins (g ∷ [])) (pastEach n (g ∷ [])) ++ (n + suc (g .count + 0)) ∷ []
 unfolding pastEach pushGroup
 past-last n true g y = let e : n + suc (g .count) ≡ n + suc (g .count + 0) = omega arith in ap (λ (k : ℕ). k ∷ []) e
 past-last n false g y = let e : n + g .count + 1 ≡ n + suc (g .count + 0) = omega arith in ap (λ (k : ℕ). (n + g .count) ∷ k ∷ []) e
@@ -49,7 +51,8 @@ unfolding pastEach pushGroup
 past-none n true y = refl
 past-none n false y = refl
 
-past-push : (n : ℕ) (joins : Bool) (gs : List (Group ℤ)) (y : ℤ) → pastEach n (pushGroup joins gs y) ≡ take (groupPlace joins gs) (pastEach n gs) ++ (n + suc (countRuns gs)) ∷ []
+past-push : (n : ℕ) (joins : Bool) (gs : List (Group ℤ)) (y : ℤ)
+    → pastEach n (pushGroup joins gs y) ≡ take (groupPlace joins gs) (pastEach n gs) ++ (n + suc (countRuns gs)) ∷ []
 unfolding pastEach
 past-push n joins [] y = past-none n joins y
 past-push n joins (g ∷ []) y = past-last n joins g y
@@ -83,8 +86,10 @@ pub record Planning (gs : List (Group ℤ)) (joins : Bool) (e₀ e : List ℤ) (
   pub few : group ≤ run
   pub count : countRuns gs ≡ run
 
-planning-more : {gs : List (Group ℤ)} {joins : Bool} {e₀ e e′ : List ℤ} {x₀ x x′ : List ℕ} {group run : ℕ} → Planning gs joins e₀ e x₀ x group run → (y : ℤ) {past : ℕ}
-    → Stored e e′ x x′ group y past → past ≡ run + 1 → run < length e₀ → run + 1 < length x₀ → (next : Bool) → Planning (pushGroup joins gs y) next e₀ e′ x₀ x′ (placeAfter next group) (run + 1)
+planning-more : {gs : List (Group ℤ)} {joins : Bool} {e₀ e e′ : List ℤ} {x₀ x x′ : List ℕ} {group run : ℕ}
+    → Planning gs joins e₀ e x₀ x group run → (y : ℤ) {past : ℕ} → Stored e e′ x x′ group y past → past ≡ run + 1
+    → run < length e₀ → run + 1 < length x₀ → (next : Bool)
+    → Planning (pushGroup joins gs y) next e₀ e′ x₀ x′ (placeAfter next group) (run + 1)
 unfolding groupEnds
 planning-more {gs} {joins} {e₀} {x₀ = x₀} {group = group} {run} n y d ep roomE roomX next = record {
   ends = push-store (λ (g : Group ℤ). g .last) joins gs y e₀ (n .ends) (d .ends) (n .place) (sym (new-last joins gs y)) (omega (arith, n .few));
@@ -101,7 +106,8 @@ pub record Grouping (es : List ℤ) (mask : List ℕ) (e₀ e : List ℤ) (x₀ 
   pub within : run < length es
   pub planning : Planning (groups (take run es) mask) (joinsAt mask (run - 1)) e₀ e x₀ x group run
 
-pub grouping-start : (es : List ℤ) (mask : List ℕ) (e₀ : List ℤ) (x₀ : List ℕ) {x : List ℕ} → x ≡ set x₀ 0 0 → 0 < length es → 0 < length x₀ → Grouping es mask e₀ e₀ x x 0 0
+pub grouping-start : (es : List ℤ) (mask : List ℕ) (e₀ : List ℤ) (x₀ : List ℕ) {x : List ℕ}
+    → x ≡ set x₀ 0 0 → 0 < length es → 0 < length x₀ → Grouping es mask e₀ e₀ x x 0 0
 unfolding groups groupEnds pastEach over
 grouping-start es mask e₀ x₀ e h k = record {
   within = h;
@@ -122,7 +128,8 @@ unfolding groups groupEnds pastEach over
 grouping-none [] mask e₀ x₀ h k = record { count = refl; ends = refl; offsets = over-next [] x₀ 0 0 refl k }
 grouping-none (y ∷ es) mask e₀ x₀ h k = let z : ⊥ = omega arith in absurd z
 
-module _ {es : List ℤ} {mask : List ℕ} {e₀ e : List ℤ} {x₀ x : List ℕ} {group run : ℕ} (n : Grouping es mask e₀ e x₀ x group run) (roomE : length es ≤ length e₀) (roomX : length es + 1 ≤ length x₀) where
+module _ {es : List ℤ} {mask : List ℕ} {e₀ e : List ℤ} {x₀ x : List ℕ} {group run : ℕ} (n : Grouping es mask e₀ e x₀ x group run)
+    (roomE : length es ≤ length e₀) (roomX : length es + 1 ≤ length x₀) where
   pub grouping-room : (group < length e) × (group + 1 < length x)
   grouping-room = let p = n .planning in (omega (arith, n .within, p .few, p .long-ends), omega (arith, n .within, p .few, p .long-offsets))
 
@@ -141,7 +148,8 @@ module _ {es : List ℤ} {mask : List ℕ} {e₀ e : List ℤ} {x₀ x : List �
     grouping-long = let g = grouped true in (g .long-ends, g .long-offsets)
 
     -- the last run closes its group; z₀ are the offsets as they were lent
-    pub grouping-end : (z₀ : List ℕ) {k : ℕ} → x₀ ≡ set z₀ 0 0 → run + 1 ≡ length es → length mask ≡ length es - 1 → k ≡ length es - maskOnes mask → Planned (groups es mask) e₀ e′ z₀ x′ k
+    pub grouping-end : (z₀ : List ℕ) {k : ℕ} → x₀ ≡ set z₀ 0 0 → run + 1 ≡ length es → length mask ≡ length es - 1
+        → k ≡ length es - maskOnes mask → Planned (groups es mask) e₀ e′ z₀ x′ k
     grouping-end z₀ {k} ez er em ek =
         let all : take (run + 1) es ≡ es = take-all (run + 1) es (omega arith) in
         let g = rw all at (grouped true) in

@@ -8,7 +8,7 @@ use Rattle.column.specs.Runs.{over}
 use Rattle.merge_mask.specs.Calls.{Group}
 use Rattle.merge_plan.specs.Calls.{groupEnds, groupOffsets}
 
--- a group was written: its end, and one past its last run behind the offsets of the groups before it
+-- a group was written: its end, and one past its last run after the offsets of the groups before it
 pub record Stored (e e′ : List ℤ) (x x′ : List ℕ) (group : ℕ) (end : ℤ) (past : ℕ) : Type 0 where
   pub ends : e′ ≡ set e group end
   pub offsets : x′ ≡ set x (group + 1) past
@@ -25,7 +25,7 @@ pub record PutIds (b b′ : List ℕ) (at limit id r : ℕ) : Type 0 where
   pub within : r ≤ limit
   pub entries : b′ ≡ take at b ++ replicate (r - at) id ++ drop r b
 
--- the id at the entries behind those before `from`, up to `to`; anything behind them up to the limit, and what was there past it
+-- the id at the entries from `from` up to `to`; anything after them up to the limit, and what was there past it
 pub record FilledIds (b b′ : List ℕ) (from to limit id : ℕ) : Type 0 where
   pub ids : take to b′ ≡ take from b ++ replicate (to - from) id
   pub rest : drop limit b′ ≡ drop limit b

@@ -27,7 +27,8 @@ pub fn merge_plan(
     out_ends: &mut [i64],
     out_offsets: &mut [usize],
 ) -> usize
-    requires { ⌜ (length (now mask) ≡ length (now ends) - 1) × (length (now ends) ≤ length (now «out_ends»)) × (length (now ends) + 1 ≤ length (now «out_offsets»)) ⌝ }
+    requires { ⌜ (length (now mask) ≡ length (now ends) - 1) × (length (now ends) ≤ length (now «out_ends»))
+        × (length (now ends) + 1 ≤ length (now «out_offsets»)) ⌝ }
     ensures { λ r.
         ⌜ Planned (groups (given ends) (given mask)) (given «out_ends») (after «out_ends») (given «out_offsets») (after «out_offsets») r ⌝ }
 {
@@ -51,7 +52,7 @@ pub fn merge_plan(
 // So many ids are written at once.
 const BLOCK: usize = 4;
 
-// The id at the next entries below the limit, one or a block of them, which are written at once: those behind the group are written
+// The id at the next entries below the limit, one or a block of them, which are written at once: those after the group are written
 // again by the groups that follow.
 fn put_ids(out: &mut [usize], at: usize, limit: usize, id: usize) -> usize
     requires { ⌜ (at < limit) × (limit ≤ length (now out)) ⌝ }

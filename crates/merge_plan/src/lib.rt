@@ -13,13 +13,11 @@ ghost use Rattle.column.specs.Lent.{given};
 fn merge_plan_asks(ends: &[i64], mask: &[u8], out_ends: usize, out_offsets: usize) -> Asked
     ensures { λ r. ⌜ shownAsked r ≡ calls.mergePlanAsked (given ends) (given mask) («out_ends» ∷ «out_offsets» ∷ []) ⌝ }
 {
-    let room = questions::first_no(
-        questions::ask_room(0, ends.len(), out_ends),
-        questions::ask_room(1, ends.len() + 1, out_offsets),
-    );
-    let valid = questions::first_no(questions::ask_ends(ends), room);
-    let masked = questions::first_no(questions::ask_mask_length(mask, ends), valid);
-    questions::first_no(questions::ask_mask(mask), masked)
+    questions::ask_mask(mask)
+        .and(questions::ask_mask_length(mask, ends))
+        .and(questions::ask_ends(ends))
+        .and(questions::ask_room(0, ends.len(), out_ends))
+        .and(questions::ask_room(1, ends.len() + 1, out_offsets))
 }
 
 // The groups that a mask makes: the end of each, and which runs it has.
@@ -44,10 +42,8 @@ pub fn merge_plan(
 fn group_ids_asks(offsets: &[usize], out_ids: usize) -> Asked
     ensures { λ r. ⌜ shownAsked r ≡ calls.groupIdsAsked (given offsets) («out_ids» ∷ []) ⌝ }
 {
-    questions::first_no(
-        questions::ask_offsets_rise(offsets),
-        questions::ask_room(0, questions::last_offset(offsets), out_ids),
-    )
+    let needed = questions::last_offset(offsets);
+    questions::ask_offsets_rise(offsets).and(questions::ask_room(0, needed, out_ids))
 }
 
 // The group of each run.

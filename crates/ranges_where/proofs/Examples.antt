@@ -25,5 +25,6 @@ ranges =
     ∷ []
 
 pub ranges-hold : Hold ranges
-unfolding operation listed agree paired endsFrom endsValid roomAt roomFrom room sequenceAsked runsOf denseFrom dense joined encodeFrom encode rangesFrom rangesOf rangesWhereAsked rangesWhere rangeStarts rangeEnds
+unfolding operation listed agree paired endsFrom endsValid roomAt roomFrom room sequenceAsked runsOf denseFrom dense joined encodeFrom encode rangesFrom
+    rangesOf rangesWhereAsked rangesWhere rangeStarts rangeEnds
 ranges-hold = (refl, (refl, (refl, tt)))

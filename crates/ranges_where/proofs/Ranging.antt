@@ -72,20 +72,24 @@ push-other p (r ∷ []) e v n =
     (λ t. rw (t, n))
 push-other p (r ∷ q ∷ rs) e v n = rw (push-other (r .end) (q ∷ rs) e v n)
 
--- 1 behind another value does
+-- 1 after another value does
 push-new : (p : ℕ) (d : Runs) (e : ℕ) (v : ℤ) → Marked d false → eqZ v (pos 1) ≡ true
     → rangesFrom p (pushMerged d e v) ≡ rangesFrom p d ++ record { start = lastEnd p d; end = e } ∷ []
 unfolding rangesFrom pushMerged lastOf
 push-new p [] e v m y = rw y
 push-new p (r ∷ []) e v m y =
     by-test (eqZ (r .value) v)
-    (λ t. absurd (let q : r .value ≡ v = eqZ-true (r .value) v t in let f : eqZ v (pos 1) ≡ false = rw q at m in let z : _≡_ {A = Bool} true false = sym y ∙ f in let w : _≡_ {A = ℕ} 0 1 = cc in omega arith))
+    (λ t. absurd (let q : r .value ≡ v = eqZ-true (r .value) v t in
+    let f : eqZ v (pos 1) ≡ false = rw q at m in
+    let z : _≡_ {A = Bool} true false = sym y ∙ f in
+    let w : _≡_ {A = ℕ} 0 1 = cc in
+    omega arith))
     (λ t. rw (t, m, y))
 push-new p (r ∷ q ∷ rs) e v m y =
     let k = push-new (r .end) (q ∷ rs) e v m y in
     by-test (eqZ (r .value) (pos 1)) (λ t. rw (t, k)) (λ t. rw (t, k))
 
--- 1 behind 1 goes on with the last
+-- 1 after 1 goes on with the last
 push-on : (p : ℕ) (d : Runs) (e : ℕ) (v : ℤ) → Marked d true → eqZ v (pos 1) ≡ true → rangesFrom p (pushMerged d e v) ≡ grown (rangesFrom p d) e
 unfolding rangesFrom pushMerged lastOf
 push-on p [] e v m y = absurd (let z : _≡_ {A = ℕ} 0 1 = cc in omega arith)
@@ -103,10 +107,12 @@ push-on p (r ∷ q ∷ rs) e v m y =
 -- ---- the first entries, one more of them
 
 module _ {A : Type 0} (passes : A → Bool) where
-  pub none-more : (xs : List A) (r : ℕ) (d : A) → passes (getD xs r d) ≡ false → any passes (take r xs) ≡ false → r < length xs → any passes (take (r + 1) xs) ≡ false
+  pub none-more : (xs : List A) (r : ℕ) (d : A) → passes (getD xs r d) ≡ false → any passes (take r xs) ≡ false → r < length xs
+      → any passes (take (r + 1) xs) ≡ false
   none-more xs r d e n h = rw (add-one, take-suc xs r d h, any-append, n, e)
 
-  none-fewer : (xs : List A) (r : ℕ) (d : A) → any passes (take (suc r) xs) ≡ false → r < length xs → (any passes (take r xs) ≡ false) × (passes (getD xs r d) ≡ false)
+  none-fewer : (xs : List A) (r : ℕ) (d : A) → any passes (take (suc r) xs) ≡ false → r < length xs
+      → (any passes (take r xs) ≡ false) × (passes (getD xs r d) ≡ false)
   none-fewer [] r d n h = let z : ⊥ = omega arith in absurd z
   none-fewer (x ∷ xs) zero d n h =
       by-test (passes x) (λ t. absurd (let z : _≡_ {A = Bool} true false = rw t at n in let w : _≡_ {A = ℕ} 0 1 = cc in omega arith)) (λ t. (refl, t))
@@ -157,7 +163,8 @@ map-replicate f (suc n) v = ap {B = List ℤ} (λ l. f v ∷ l) (map-replicate f
 -- ---- a loop that writes f of one thing after another, or over the last of them
 
 module _ {P A : Type 0} (f : P → A) where
-  write-over : (done : List P) (p : P) {before now : List A} {n : ℕ} → Written f (done ++ p ∷ []) before now (n + 1) → n < length before → (q : P) {x : A} → x ≡ f q
+  write-over : (done : List P) (p : P) {before now : List A} {n : ℕ} → Written f (done ++ p ∷ []) before now (n + 1) → n < length before → (q : P) {x : A}
+      → x ≡ f q
       → Written f (done ++ q ∷ []) before (set now n x) (n + 1)
   write-over done p {before} {n = n} w h q e =
       let c : n ≡ length done = omega (arith, w .count, length-append done (p ∷ [])) in
@@ -175,7 +182,7 @@ module _ {P A : Type 0} (f : P → A) where
     unfolding over
     first-store x = over-next [] before 0 x refl some
 
-    -- from behind the first store on
+    -- from the first store on
     write-one : (p : P) {x : A} → x ≡ f p → Written f (p ∷ []) (set before 0 x) (set before 0 x) 1
     write-one p e = rw e (record {
       count = refl;
@@ -184,7 +191,8 @@ module _ {P A : Type 0} (f : P → A) where
     })
 
     write-whole : {done : List P} {now : List A} {n : ℕ} (x : A) → Written f done (set before 0 x) now n → 0 < n → now ≡ over (map f done) before
-    write-whole {done} x w h = w .entries ∙ ap (over (map f done)) (first-store x) ∙ over-over (map f done) (x ∷ []) before (rw length-map (omega (arith, w .count)))
+    write-whole {done} x w h = w .entries ∙ ap (over (map f done)) (first-store x)
+        ∙ over-over (map f done) (x ∷ []) before (rw length-map (omega (arith, w .count)))
 
 -- ---- the loop: f is the operation, and the runs before the r-th are seen
 
@@ -208,7 +216,8 @@ module _ (f : ℤ → ℤ) (es vs : List ℤ) where
   module _ (valid : RisingEnds 0 es) (paired : length es ≡ length vs) where
     seen-length : (r : ℕ) → r ≤ length es → length (seen r) ≡ toNat (endBefore es r)
     seen-length r h =
-        rw length-map (length-dense (runsOf (take r es) (take r vs)) (runs-rise 0 (take r es) (take r vs) (rising-take 0 es r valid)) ∙ length-first es vs r h paired)
+        rw length-map (length-dense (runsOf (take r es) (take r vs)) (runs-rise 0 (take r es) (take r vs) (rising-take 0 es r valid))
+        ∙ length-first es vs r h paired)
 
     seen-next : (r : ℕ) → r < length es → seen (suc r) ≡ seen r ++ replicate (toNat (getD es r (pos 0)) - length (seen r)) (f (getD vs r (pos 0)))
     unfolding denseFrom
@@ -266,7 +275,8 @@ module _ (f : ℤ → ℤ) (es vs : List ℤ) where
 
   module _ (valid : RisingEnds 0 es) (paired : length es ≡ length vs) where
     -- the first value that passes begins a range
-    pub range-first : (s₀ e₀ : List ℤ) {r : ℕ} {x y : ℤ} → FirstPassing (λ v. eqZ (f v) (pos 1)) vs r → x ≡ endBefore es r → y ≡ getD es r (pos 0) → r < length es → length es ≤ length s₀ → length es ≤ length e₀
+    pub range-first : (s₀ e₀ : List ℤ) {r : ℕ} {x y : ℤ} → FirstPassing (λ v. eqZ (f v) (pos 1)) vs r
+        → x ≡ endBefore es r → y ≡ getD es r (pos 0) → r < length es → length es ≤ length s₀ → length es ≤ length e₀
         → Ranging (set s₀ 0 x) (set e₀ 0 y) (set s₀ 0 x) (set e₀ 0 y) (record { at = 0; start = x; end = y; inside = true }) y (r + 1)
     range-first s₀ e₀ {r} {x} {y} p ex ey h roomS roomE =
         let none = none-yet valid paired r (omega arith) (p .before) in
@@ -290,7 +300,8 @@ module _ (f : ℤ → ℤ) (es vs : List ℤ) where
           end-before = rw (add-one r) ey;
         }
 
-    module _ {s₁ e₁ s e : List ℤ} {last : Open} {before : ℤ} {r : ℕ} (i : Ranging s₁ e₁ s e last before r) (h : r < length es) (roomS : length es ≤ length s₁) (roomE : length es ≤ length e₁) where
+    module _ {s₁ e₁ s e : List ℤ} {last : Open} {before : ℤ} {r : ℕ} (i : Ranging s₁ e₁ s e last before r) (h : r < length es)
+        (roomS : length es ≤ length s₁) (roomE : length es ≤ length e₁) where
       abbrev value : ℤ
       value = f (getD vs r (pos 0))
 
@@ -300,7 +311,12 @@ module _ (f : ℤ → ℤ) (es vs : List ℤ) where
       more : marks (r + 1) ≡ pushMerged (marks r) end value
       more = marks-more valid paired r h
 
-      module _ {next : Open} {b : Bool} {x y z : ℤ} (eb : b ≡ eqZ value (pos 1)) (en : next ≡ openAfter last b before z) (ez : z ≡ getD es r (pos 0)) (ex : x ≡ next .start) (ey : y ≡ next .end) where
+      module _ {next : Open} {b : Bool} {x y z : ℤ} (eb : b ≡ eqZ value (pos 1)) (en : next ≡ openAfter last b before z)
+          (ez : z ≡ getD es r (pos 0)) (ex : x ≡ next .start) (ey : y ≡ next .end) where
+        -- the next range is written at its place
+        abbrev Next : Type 0
+        Next = Ranging s₁ e₁ (set s (next .at) x) (set e (next .at) y) next z (r + 1)
+
         natural : z ≡ pos (toNat z)
         natural = rw ez (rising-at 0 es r valid h .0)
 
@@ -308,8 +324,8 @@ module _ (f : ℤ → ℤ) (es vs : List ℤ) where
         marked = rw (more, last-push (pos 0) (marks r) end value) (sym (ap (λ (o : Open). o .inside) en ∙ eb))
 
         -- over the last range
-        range-over : next .at ≡ last .at → next .start ≡ last .start → next .end ≡ pos (toNat (next .end)) → rangesFrom 0 (marks (r + 1)) ≡ i .gs ++ rangeOf next ∷ []
-            → Ranging s₁ e₁ (set s (next .at) x) (set e (next .at) y) next z (r + 1)
+        range-over : next .at ≡ last .at → next .start ≡ last .start → next .end ≡ pos (toNat (next .end))
+            → rangesFrom 0 (marks (r + 1)) ≡ i .gs ++ rangeOf next ∷ [] → Next
         range-over at st ne rs =
             let ns : next .start ≡ pos (toNat (next .start)) = rw st (i .natural-start) in
             let g = rangeOf next in
@@ -337,30 +353,31 @@ module _ (f : ℤ → ℤ) (es vs : List ℤ) where
         end-is = ap (λ (o : Open). o .end) en
 
         -- the run does not pass
-        range-kept : b ≡ false → next .at ≡ last .at → next .start ≡ last .start → Ranging s₁ e₁ (set s (next .at) x) (set e (next .at) y) next z (r + 1)
+        range-kept : b ≡ false → next .at ≡ last .at → next .start ≡ last .start → Next
         range-kept tb at st =
             let te : next .end ≡ last .end = rw tb at end-is in
             range-over at st (rw te (i .natural-end)) (rw (more, st, te) (push-other 0 (marks r) end value (sym eb ∙ tb) ∙ i .ranges))
 
         -- it passes as the run before it does
-        range-on : last .inside ≡ true → b ≡ true → next .at ≡ last .at → next .start ≡ last .start → Ranging s₁ e₁ (set s (next .at) x) (set e (next .at) y) next z (r + 1)
+        range-on : last .inside ≡ true → b ≡ true → next .at ≡ last .at → next .start ≡ last .start → Next
         range-on ti tb at st =
             let te : next .end ≡ z = rw tb at end-is in
             range-over at st (rw te natural)
             (rw (more, push-on 0 (marks r) end value (rw ti at (i .inside)) (sym eb ∙ tb), i .ranges, grown-last, st, te, ez))
 
         -- it begins a range
-        range-new : last .inside ≡ false → b ≡ true → next .at ≡ last .at + 1 → next .start ≡ before → Ranging s₁ e₁ (set s (next .at) x) (set e (next .at) y) next z (r + 1)
+        range-new : last .inside ≡ false → b ≡ true → next .at ≡ last .at + 1 → next .start ≡ before → Next
         range-new ti tb at st =
             let te : next .end ≡ z = rw tb at end-is in
             let ns : next .start ≡ pos (toNat (next .start)) = rw (st, i .end-before) (before-natural es r valid (omega arith)) in
             let ne : next .end ≡ pos (toNat (next .end)) = rw te natural in
+            let new = push-new 0 (marks r) end value (rw ti at (i .inside)) (sym eb ∙ tb) in
             let few = i .few in
             record {
               within = omega arith;
               few = rw at (omega arith);
               gs = i .gs ++ rangeOf last ∷ [];
-              ranges = rw (more, push-new 0 (marks r) end value (rw ti at (i .inside)) (sym eb ∙ tb), i .ranges, marks-length valid paired r (omega arith), st, i .end-before, te, ez);
+              ranges = rw (more, new, i .ranges, marks-length valid paired r (omega arith), st, i .end-before, te, ez);
               inside = marked;
               natural-start = ns;
               natural-end = ne;
@@ -370,28 +387,39 @@ module _ (f : ℤ → ℤ) (es vs : List ℤ) where
             }
 
         -- one run more
-        pub range-next : Ranging s₁ e₁ (set s (next .at) x) (set e (next .at) y) next z (r + 1)
+        pub range-next : Next
         range-next =
             by-test (last .inside)
-            (λ ti. let at : next .at ≡ last .at = rw ti at at-is in let st : next .start ≡ last .start = rw ti at start-is in by-test b (λ tb. range-on ti tb at st) (λ tb. range-kept tb at st))
-            (λ ti. by-test b (λ tb. range-new ti tb (rw (ti, tb) at at-is) (rw (ti, tb) at start-is)) (λ tb. range-kept tb (rw (ti, tb) at at-is) (rw (ti, tb) at start-is)))
+            (λ ti. let at : next .at ≡ last .at = rw ti at at-is in
+            let st : next .start ≡ last .start = rw ti at start-is in
+            by-test b (λ tb. range-on ti tb at st) (λ tb. range-kept tb at st))
+            (λ ti. by-test b
+            (λ tb. range-new ti tb (rw (ti, tb) at at-is) (rw (ti, tb) at start-is))
+            (λ tb. range-kept tb (rw (ti, tb) at at-is) (rw (ti, tb) at start-is)))
 
   -- the next range is at most one place further
-  pub range-at : {s₁ e₁ s e : List ℤ} {last : Open} {before : ℤ} {r : ℕ} {next : Open} (b : Bool) (x z : ℤ) → Ranging s₁ e₁ s e last before r → next ≡ openAfter last b x z → r < length es → next .at < length es
+  pub range-at : {s₁ e₁ s e : List ℤ} {last : Open} {before : ℤ} {r : ℕ} {next : Open} (b : Bool) (x z : ℤ)
+      → Ranging s₁ e₁ s e last before r → next ≡ openAfter last b x z → r < length es → next .at < length es
   range-at {last = last} b x z i en h =
       let few = i .few in
       rw en (by-test (not (last .inside) && b) (λ t. rw t (omega arith)) (λ t. rw t (omega arith)))
 
-  -- behind the first store into each buffer
-  pub range-end : (s₀ e₀ : List ℤ) (x y : ℤ) {s e : List ℤ} {last : Open} {before : ℤ} {r : ℕ} → Ranging (set s₀ 0 x) (set e₀ 0 y) s e last before r → length es ≡ length vs → length es ≤ r → 0 < length s₀ → 0 < length e₀
+  -- after the first store into each buffer
+  pub range-end : (s₀ e₀ : List ℤ) (x y : ℤ) {s e : List ℤ} {last : Open} {before : ℤ} {r : ℕ}
+      → Ranging (set s₀ 0 x) (set e₀ 0 y) s e last before r → length es ≡ length vs → length es ≤ r → 0 < length s₀ → 0 < length e₀
       → FilledRanges (rangesFrom 0 (encode (map f (dense (runsOf es vs))))) s₀ s e₀ e (last .at + 1)
   unfolding rangeStarts rangeEnds
   range-end s₀ e₀ x y {r = r} i paired h someS someE =
       rw (rw (take-all r es h, take-all r vs (omega arith)) at (i .ranges))
-      (record { count = i .starts .count; starts = write-whole startOf s₀ someS x (i .starts) (omega arith); ends = write-whole endOf e₀ someE y (i .ends) (omega arith) })
+      (record {
+        count = i .starts .count;
+        starts = write-whole startOf s₀ someS x (i .starts) (omega arith);
+        ends = write-whole endOf e₀ someE y (i .ends) (omega arith);
+      })
 
 -- of a number that a local holds
-pub with-number : (code : ℕ) {n m : ℤ} (rs : Runs) {s s′ e e′ : List ℤ} {k : ℕ} → n ≡ m → FilledRanges (rangesOf code n rs) s s′ e e′ k → FilledRanges (rangesOf code m rs) s s′ e e′ k
+pub with-number : (code : ℕ) {n m : ℤ} (rs : Runs) {s s′ e e′ : List ℤ} {k : ℕ} → n ≡ m → FilledRanges (rangesOf code n rs) s s′ e e′ k
+    → FilledRanges (rangesOf code m rs) s s′ e e′ k
 with-number code rs en f = rw en at f
 
 -- ---- the call
@@ -407,8 +435,10 @@ ranges-yes es vs code s e h =
     let k = sequence-told es vs (length es) (length s) (length e) (y .1 .0) in
     (c .0, c .1, k .0, k .1, k .2, k .3)
 
-pub ranges-written : {q : Question} (rs : List Range) {s s′ e e′ : List ℤ} {n : ℕ} → q ≡ none → FilledRanges rs s s′ e e′ n → WrittenRanges (q otherwise rs) (Counted.Count n) s s′ e e′
+pub ranges-written : {q : Question} (rs : List Range) {s s′ e e′ : List ℤ} {n : ℕ} → q ≡ none → FilledRanges rs s s′ e e′ n
+    → WrittenRanges (q otherwise rs) (Counted.Count n) s s′ e e′
 ranges-written rs h f = rw h (record { answer = ap answers (f .count); starts = f .starts; ends = f .ends })
 
-pub ranges-refused : {q : Question} (rs : List Range) {r : Refusal} {s e : List ℤ} → q ≡ some (paper r) → WrittenRanges (q otherwise rs) (Counted.Refused r) s s e e
+pub ranges-refused : {q : Question} (rs : List Range) {r : Refusal} {s e : List ℤ} → q ≡ some (paper r)
+    → WrittenRanges (q otherwise rs) (Counted.Refused r) s s e e
 ranges-refused rs h = rw h (record { answer = refl; starts = refl; ends = refl })

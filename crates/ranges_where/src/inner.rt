@@ -79,7 +79,8 @@ pub fn ranges_where(
     out_starts: &mut [i64],
     out_ends: &mut [i64],
 ) -> usize
-    requires { ⌜ (7 ≤ code) × (code ≤ 8) × (endsValid (now ends) ≡ none) × (length (now ends) ≡ length (now values)) × (length (now ends) ≤ length (now «out_starts»)) × (length (now ends) ≤ length (now «out_ends»)) ⌝ }
+    requires { ⌜ (7 ≤ code) × (code ≤ 8) × (endsValid (now ends) ≡ none) × (length (now ends) ≡ length (now values))
+        × (length (now ends) ≤ length (now «out_starts»)) × (length (now ends) ≤ length (now «out_ends»)) ⌝ }
     ensures { λ r. ⌜ FilledRanges (rangesOf code number (runsOf (given ends) (given values)))
         (given «out_starts») (after «out_starts») (given «out_ends») (after «out_ends») r ⌝ }
 {

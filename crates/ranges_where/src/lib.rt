@@ -19,10 +19,13 @@ fn ranges_where_asks(
 ) -> Asked
     ensures { λ r. ⌜ shownAsked r ≡ calls.rangesWhereAsked (givenSequence ends values) code («out_starts» ∷ «out_ends» ∷ []) ⌝ }
 {
-    questions::first_no(
-        questions::ask_code(7, 8, code),
-        questions::ask_sequence_into(ends, values, ends.len(), out_starts, out_ends),
-    )
+    questions::ask_code(7, 8, code).and(questions::ask_sequence_into(
+        ends,
+        values,
+        ends.len(),
+        out_starts,
+        out_ends,
+    ))
 }
 
 // The ranges of positions at which the value is equal to, or less than, a number; touching ranges are one.

@@ -10,7 +10,7 @@ use Rattle.column.proofs.Rows.{Row, row, Hold, asRuns}
 use Rattle.from_runs.specs.Calls.{runsFrom}
 use Rattle.rle.specs.Calls.{pushed, pushRunAsked, pushRun, extended, extendToAsked, extendTo}
 
--- A, and a lent entry behind it
+-- A, and a lent entry after it
 abbrev lent : Sequence
 lent = sequence (pos 3 ∷ pos 5 ∷ pos 9 ∷ pos 0 ∷ []) (pos 7 ∷ pos 2 ∷ pos 7 ∷ pos 0 ∷ [])
 
@@ -21,5 +21,6 @@ rows =
     ∷ []
 
 pub examples : Hold rows
-unfolding usedWithin endsFrom endsValid notNegative fits longEnough roomAt roomFrom room runsOf endsOf valuesOf lengthOf denseFrom dense joined encodeFrom encode pushMerged runsFrom pushed pushRunAsked pushRun extended extendToAsked extendTo
+unfolding usedWithin endsFrom endsValid notNegative fits longEnough roomAt roomFrom room runsOf endsOf valuesOf lengthOf denseFrom dense joined encodeFrom
+    encode pushMerged runsFrom pushed pushRunAsked pushRun extended extendToAsked extendTo
 examples = (refl, (refl, tt))

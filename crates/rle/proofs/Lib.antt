@@ -1,5 +1,5 @@
+pub mod After
 pub mod Asks
-pub mod Behind
 pub mod Examples
 pub mod Shown
 pub mod Yes

@@ -22,8 +22,9 @@ module _ (buffers : Sequence) (n : ℕ) where
   pub push-run-shows : (run value : ℤ) → dense (pushed buffers n run value) ≡ dense (runs (used n buffers)) ++ replicate (toNat run) value
   unfolding pushed
   push-run-shows run value =
-      dense-append (runs (used n buffers)) (runsFrom (presentLength n buffers) (run ∷ []) (value ∷ []))
-      ∙ ap (λ (l : List ℤ). dense (runs (used n buffers)) ++ l) (shown-from (presentLength n buffers) (run ∷ []) (value ∷ []) ∙ append-nil (replicate (toNat run) value))
+      let p = presentLength n buffers in
+      let shown = shown-from p (run ∷ []) (value ∷ []) ∙ append-nil (replicate (toNat run) value) in
+      dense-append (runs (used n buffers)) (runsFrom p (run ∷ []) (value ∷ [])) ∙ ap (λ (l : List ℤ). dense (runs (used n buffers)) ++ l) shown
 
   pub extend-to-shows : (requested value : ℤ) → endsValid (used n buffers .ends) ≡ none → presentLength n buffers ≤ toNat requested
       → dense (extended buffers n requested value) ≡ dense (runs (used n buffers)) ++ replicate (toNat requested - presentLength n buffers) value

@@ -19,7 +19,12 @@ module _ (e v : List ℤ) where
   unfolding pushRunAsked
   push-run-yes n run h =
       let y = all-yes
-      (usedWithin n (length e) (length v) ∷ endsValid (take n e) ∷ notNegative n run ∷ fits (presentLength n (sequence e v) + toNat run) ∷ roomForOne n (sequence e v) ∷ []) h in
+      (usedWithin n (length e) (length v)
+      ∷ endsValid (take n e)
+      ∷ notNegative n run
+      ∷ fits (presentLength n (sequence e v) + toNat run)
+      ∷ roomForOne n (sequence e v)
+      ∷ []) h in
       let r = both-told (n + 1) (length e) (length v) (y .1 .1 .1 .1 .0) in
       record { valid = y .1 .0; room-ends = omega arith; room-values = omega arith; natural = y .1 .1 .0; fitting = y .1 .1 .1 .0 }
 
@@ -27,6 +32,10 @@ module _ (e v : List ℤ) where
   unfolding extendToAsked
   extend-to-yes n requested h =
       let y = all-yes
-      (usedWithin n (length e) (length v) ∷ endsValid (take n e) ∷ longEnough requested (pos (presentLength n (sequence e v))) ∷ roomForOne n (sequence e v) ∷ []) h in
+      (usedWithin n (length e) (length v)
+      ∷ endsValid (take n e)
+      ∷ longEnough requested (pos (presentLength n (sequence e v)))
+      ∷ roomForOne n (sequence e v)
+      ∷ []) h in
       let r = both-told (n + 1) (length e) (length v) (y .1 .1 .1 .0) in
       record { valid = y .1 .0; room-ends = omega arith; room-values = omega arith; long = y .1 .1 .0 }

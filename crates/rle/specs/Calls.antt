@@ -18,7 +18,7 @@ used n buffers = sequence (take n (buffers .ends)) (take n (buffers .values))
 abbrev pub presentLength : ℕ → Sequence → ℕ
 presentLength n buffers = lengthOf (runs (used n buffers))
 
--- the used runs, and one more behind them unless it is 0
+-- the used runs, and one more after them unless it is 0
 unfoldable pub pushed : Sequence → ℕ → ℤ → ℤ → Runs
 pushed buffers n run value = runs (used n buffers) ++ runsFrom (presentLength n buffers) (run ∷ []) (value ∷ [])
 
@@ -39,7 +39,7 @@ pushRunAsked buffers n run =
 unfoldable pub pushRun : Sequence → ℕ → ℤ → ℤ → Outcome Runs
 pushRun buffers n run value = pushRunAsked buffers n run otherwise pushed buffers n run value
 
--- the used runs at the present length, else with a run of the value behind them, merged with the last
+-- the used runs at the present length, else with a run of the value after them, merged with the last
 unfoldable pub extended : Sequence → ℕ → ℤ → ℤ → Runs
 extended buffers n requested value =
     let present = runs (used n buffers) in

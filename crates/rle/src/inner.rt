@@ -10,7 +10,7 @@ ghost use Rattle.rle.specs.Calls.{pushed, extended};
 ghost use Rattle.rle.specs.Workers.{Pushable, Extendable};
 ghost use Rattle.column.specs.Lent.{given};
 
-// One more run behind the used entries, none of length 0.
+// One more run after the used entries, none of length 0.
 pub fn push_run(ends: &mut [i64], values: &mut [i64], used: usize, run: i64, value: i64) -> usize
     requires { ⌜ Pushable (now ends) (now values) used run ⌝ }
     ensures { λ r. ⌜ Fills (pushed (givenSequence ends values) used run value) ends values r ⌝ }
@@ -19,7 +19,7 @@ pub fn push_run(ends: &mut [i64], values: &mut [i64], used: usize, run: i64, val
     from_runs::inner::put_run(ends, values, used, run, present + run, value)
 }
 
-// The last of the used entries, as a writer that goes on behind it.
+// The last of the used entries, as a writer that goes on after it.
 fn last_run(values: &[i64], used: usize, value: i64) -> Writer
     requires { ⌜ used ≤ length (now values) ⌝ }
     ensures { λ r. ⌜ (r .at ≡ used - 1) × (used ≡ 0 → r .last ≡ value) × (0 < used → r .last ≡ getD (given values) (used - 1) (pos 0)) ⌝ }

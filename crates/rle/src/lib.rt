@@ -28,7 +28,7 @@ impl Rle {
         Self { runs: 0 }
     }
 
-    // The sequence with one more run behind it, not merged; a run of 0 changes nothing.
+    // The sequence with one more run after it, not merged; a run of 0 changes nothing.
     pub fn push_run(self, ends: &mut [i64], values: &mut [i64], run: i64, value: i64) -> Counted
         ensures { λ r. ⌜ WritesRuns (λ _. calls.pushRun (givenSequence ends values) (self .runs) run value) ends values r ⌝ }
     {
@@ -59,29 +59,28 @@ impl Rle {
     }
 }
 
-// The used entries are read as far as there are any: what is asked behind a "no" does not count.
+// The used entries are read as far as there are any: what is asked after a "no" does not count.
 fn push_run_asks(ends: &[i64], values: &[i64], used: usize, run: i64) -> Asked
     ensures { λ r. ⌜ shownAsked r ≡ calls.pushRunAsked (givenSequence ends values) used run ⌝ }
 {
     let present = sequence::part(ends, 0, used);
-    let room = room_for_one(ends.len(), values.len(), used);
-    let sum = questions::first_no(questions::ask_sum(sequence::length(present), run), room);
-    let natural = questions::first_no(questions::ask_run(used, run), sum);
-    let valid = questions::first_no(questions::ask_ends(present), natural);
-    questions::first_no(questions::ask_used(used, ends.len(), values.len()), valid)
+    let length = sequence::length(present);
+    questions::ask_used(used, ends.len(), values.len())
+        .and(questions::ask_ends(present))
+        .and(questions::ask_run(used, run))
+        .and(questions::ask_sum(length, run))
+        .and(room_for_one(ends.len(), values.len(), used))
 }
 
 fn extend_to_asks(ends: &[i64], values: &[i64], used: usize, length: i64) -> Asked
     ensures { λ r. ⌜ shownAsked r ≡ calls.extendToAsked (givenSequence ends values) used length ⌝ }
 {
     let present = sequence::part(ends, 0, used);
-    let room = room_for_one(ends.len(), values.len(), used);
-    let long = questions::first_no(
-        questions::ask_length(length, sequence::length(present)),
-        room,
-    );
-    let valid = questions::first_no(questions::ask_ends(present), long);
-    questions::first_no(questions::ask_used(used, ends.len(), values.len()), valid)
+    let required = sequence::length(present);
+    questions::ask_used(used, ends.len(), values.len())
+        .and(questions::ask_ends(present))
+        .and(questions::ask_length(length, required))
+        .and(room_for_one(ends.len(), values.len(), used))
 }
 
 // One entry more than the used ones, of which there are any number.

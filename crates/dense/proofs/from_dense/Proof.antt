@@ -25,7 +25,10 @@ same-length-2 c = search needs
 
 returns : tie.Need-returns
 unfolding fromDense
-returns c = runs-written _ (asked-yes (c .before .before .before .before .before .before .before .ask-both .ensures) (c .before .before .before .before .before .enum-told .given .1)) (c .before .before .from-dense .ensures)
+returns c = let call = c .before .before in
+    let told = call .before .before .before in
+    let asked = told .before .before in
+    runs-written _ (asked-yes (asked .ask-both .ensures) (told .enum-told .given .1)) (call .from-dense .ensures)
 
 returns-2 : tie.Need-returns-2
 unfolding fromDense

@@ -13,7 +13,9 @@ enum-told : tie.Need-enum-told
 enum-told c = search needs
 
 to-dense-requires : tie.Need-to-dense-requires
-to-dense-requires c κs = to-dense-yes _ _ (now (c .before .before .before .before .args .out)) (asked-yes (c .before .before .before .to-dense-asks .ensures) (c .before .enum-told .given .1))
+to-dense-requires c κs = let told = c .before in
+    let asked = told .before .before in
+    to-dense-yes _ _ (now (asked .before .args .out)) (asked-yes (asked .to-dense-asks .ensures) (told .enum-told .given .1))
 
 enum-known-asked : tie.Need-enum-known-asked
 enum-known-asked c = search needs
@@ -23,7 +25,10 @@ same-length c = search needs
 
 returns : tie.Need-returns
 unfolding toDense
-returns c = entries-written _ (asked-yes (c .before .before .before .before .before .to-dense-asks .ensures) (c .before .before .before .enum-told .given .1)) (c .before .to-dense .ensures .0) (c .before .to-dense .ensures .1)
+returns c = let call = c .before in
+    let told = call .before .before in
+    let asked = told .before .before in
+    entries-written _ (asked-yes (asked .to-dense-asks .ensures) (told .enum-told .given .1)) (call .to-dense .ensures .0) (call .to-dense .ensures .1)
 
 returns-2 : tie.Need-returns-2
 unfolding toDense

@@ -1,5 +1,11 @@
-use Rattle.dense.proofs.Asks.{to-dense-asked}
+use denote.Ref.{now}
+use Rattle.column.proofs.FirstNo.{Asks, asks-then}
+use Rattle.dense.specs.Calls.{toDenseAsked}
+use Rattle.dense.proofs.Asks.{dense-room}
 use Rattle.num.proofs.Bits.{back}
+use Rattle.column.specs.Questions.{paired, endsValid}
+use Rattle.column.specs.Runs.{sequence}
+use mathlib.Core.List.{[], _∷_}
 use mathlib.Core.Path.{_∙_}
 use borrow.Author.Needs.{needs}
 use Rattle.dense.proofs.to_dense_asks.Statement.{statement}
@@ -17,11 +23,21 @@ ask-sequence-requires c κs = search needs
 ask-room-requires : tie.Need-ask-room-requires
 ask-room-requires c κs = search needs
 
-first-no-requires : tie.Need-first-no-requires
-first-no-requires c κs = search needs
+and-requires : tie.Need-and-requires
+and-requires c κs = search needs
 
 returns : tie.Need-returns
-returns c = to-dense-asked _ _ _ (c .first-no .ensures) (c .before .before .ask-sequence .ensures) (c .before .ask-room .ensures) (c .before .before .before .to-nat .ensures) (back _ (c .before .before .before .before .length .ok) ∙ c .before .before .before .before .length .ensures)
+unfolding toDenseAsked
+returns c = let room = c .before in
+    let whole = room .before in
+    let needed = whole .before in
+    let length = needed .before in
+    let a = length .before .args in
+    let es = now (a .ends) in
+    let vs = now (a .values) in
+    let asked : Asks _ (paired (sequence es vs) ∷ endsValid es ∷ []) = record { told = whole .ask-sequence .ensures } in
+    let end = back _ (length .length .ok) ∙ length .length .ensures in
+    asks-then asked (c .and .ensures) (λ y. dense-room es vs (a .out) y (room .ask-room .ensures) (needed .to-nat .ensures) end) .told
 
 pub to-dense-asks-spec : {M : Type 1} → statement M
 to-dense-asks-spec =
@@ -31,5 +47,5 @@ to-dense-asks-spec =
     to-nat-requires
     ask-sequence-requires
     ask-room-requires
-    first-no-requires
+    and-requires
     returns)

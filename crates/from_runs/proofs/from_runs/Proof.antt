@@ -13,7 +13,10 @@ enum-told : tie.Need-enum-told
 enum-told c = search needs
 
 from-runs-requires : tie.Need-from-runs-requires
-from-runs-requires c κs = let a = c .before .before .before .before .before .args in from-runs-yes (now (a .out-ends)) (now (a .out-values)) _ _ (asked-yes (c .before .before .before .before .from-runs-asks .ensures) (c .before .before .enum-told .given .1))
+from-runs-requires c κs = let told = c .before .before in
+    let asked = told .before .before in
+    let args = asked .before .args in
+    from-runs-yes (now (args .out-ends)) (now (args .out-values)) _ _ (asked-yes (asked .from-runs-asks .ensures) (told .enum-told .given .1))
 
 enum-known-asked : tie.Need-enum-known-asked
 enum-known-asked c = search needs
@@ -26,7 +29,10 @@ same-length-2 c = search needs
 
 returns : tie.Need-returns
 unfolding fromRuns
-returns c = runs-written _ (asked-yes (c .before .before .before .before .before .before .before .from-runs-asks .ensures) (c .before .before .before .before .before .enum-told .given .1)) (c .before .before .from-runs .ensures)
+returns c = let call = c .before .before in
+    let told = call .before .before .before in
+    let asked = told .before .before in
+    runs-written _ (asked-yes (asked .from-runs-asks .ensures) (told .enum-told .given .1)) (call .from-runs .ensures)
 
 returns-2 : tie.Need-returns-2
 unfolding fromRuns

@@ -20,7 +20,9 @@ same-length-2 : tie.Need-same-length-2
 same-length-2 c = search needs
 
 returns : tie.Need-returns
-returns c = let f = c .before .before .before .before .before .before .before .fits in rw (toZ-ofZ (f .length), toZ-ofZ (f .value), repeat-one _ _ _ (f .length)) at (c .before .before .from-runs .ensures)
+returns c = let call = c .before .before in
+    let fits = call .before .before .before .before .before .fits in
+    rw (toZ-ofZ (fits .length), toZ-ofZ (fits .value), repeat-one _ _ _ (fits .length)) at (call .from-runs .ensures)
 
 pub repeat-spec : {M : Type 1} → statement M
 repeat-spec =

@@ -13,7 +13,10 @@ enum-told : tie.Need-enum-told
 enum-told c = search needs
 
 merged-requires : tie.Need-merged-requires
-merged-requires c κs = let s = c .before .before .before .before .before in sequence-told (now (s .args .ends)) (now (s .args .values)) _ _ _ (asked-yes (c .before .before .before .before .ask-sequence-into .ensures) (c .before .before .enum-told .given .1))
+merged-requires c κs = let told = c .before .before in
+    let asked = told .before .before in
+    let a = asked .before .args in
+    sequence-told (now (a .ends)) (now (a .values)) _ _ _ (asked-yes (asked .ask-sequence-into .ensures) (told .enum-told .given .1))
 
 enum-known-asked : tie.Need-enum-known-asked
 enum-known-asked c = search needs
@@ -26,7 +29,10 @@ same-length-2 c = search needs
 
 returns : tie.Need-returns
 unfolding merged
-returns c = runs-written _ (asked-yes (c .before .before .before .before .before .before .before .ask-sequence-into .ensures) (c .before .before .before .before .before .enum-told .given .1)) (c .before .before .merged .ensures)
+returns c = let call = c .before .before in
+    let told = call .before .before .before in
+    let asked = told .before .before in
+    runs-written _ (asked-yes (asked .ask-sequence-into .ensures) (told .enum-told .given .1)) (call .merged .ensures)
 
 returns-2 : tie.Need-returns-2
 unfolding merged

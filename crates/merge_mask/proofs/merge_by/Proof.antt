@@ -1,6 +1,6 @@
 use Rattle.column.proofs.Promised.{asked-yes, asked-no, runs-written, runs-refused}
 use Rattle.merge_mask.specs.Calls.{mergeBy}
-use Rattle.merge_mask.proofs.Asks.{merge-by-yes}
+use Rattle.merge_mask.proofs.Yes.{merge-by-yes}
 use borrow.Author.Needs.{needs}
 use Rattle.merge_mask.proofs.merge_by.Statement.{statement}
 use Rattle.merge_mask.proofs.merge_by.Tie as tie
@@ -12,7 +12,8 @@ enum-told : tie.Need-enum-told
 enum-told c = search needs
 
 merge-by-requires : tie.Need-merge-by-requires
-merge-by-requires c κs = merge-by-yes _ _ _ _ _ (asked-yes (c .before .before .before .before .merge-by-asks .ensures) (c .before .before .enum-told .given .1))
+merge-by-requires c κs = let told = c .before .before in
+    merge-by-yes _ _ _ _ _ (asked-yes (told .before .before .merge-by-asks .ensures) (told .enum-told .given .1))
 
 enum-known-asked : tie.Need-enum-known-asked
 enum-known-asked c = search needs
@@ -25,7 +26,10 @@ same-length-2 c = search needs
 
 returns : tie.Need-returns
 unfolding mergeBy
-returns c = runs-written _ (asked-yes (c .before .before .before .before .before .before .before .merge-by-asks .ensures) (c .before .before .before .before .before .enum-told .given .1)) (c .before .before .merge-by .ensures)
+returns c = let call = c .before .before in
+    let told = call .before .before .before in
+    let asked = told .before .before in
+    runs-written _ (asked-yes (asked .merge-by-asks .ensures) (told .enum-told .given .1)) (call .merge-by .ensures)
 
 returns-2 : tie.Need-returns-2
 unfolding mergeBy

@@ -1,6 +1,6 @@
 use Rattle.column.proofs.Promised.{asked-yes, asked-no, runs-written, runs-refused}
 use Rattle.merge_mask.specs.Calls.{mergeMask}
-use Rattle.merge_mask.proofs.Asks.{merge-mask-yes}
+use Rattle.merge_mask.proofs.Yes.{merge-mask-yes}
 use borrow.Author.Needs.{needs}
 use Rattle.merge_mask.proofs.merge_mask.Statement.{statement}
 use Rattle.merge_mask.proofs.merge_mask.Tie as tie
@@ -12,7 +12,8 @@ enum-told : tie.Need-enum-told
 enum-told c = search needs
 
 merge-mask-requires : tie.Need-merge-mask-requires
-merge-mask-requires c κs = merge-mask-yes _ _ _ _ _ _ (asked-yes (c .before .before .before .before .merge-mask-asks .ensures) (c .before .before .enum-told .given .1))
+merge-mask-requires c κs = let told = c .before .before in
+    merge-mask-yes _ _ _ _ _ _ (asked-yes (told .before .before .merge-mask-asks .ensures) (told .enum-told .given .1))
 
 enum-known-asked : tie.Need-enum-known-asked
 enum-known-asked c = search needs
@@ -25,7 +26,10 @@ same-length-2 c = search needs
 
 returns : tie.Need-returns
 unfolding mergeMask
-returns c = runs-written _ (asked-yes (c .before .before .before .before .before .before .before .merge-mask-asks .ensures) (c .before .before .before .before .before .enum-told .given .1)) (c .before .before .merge-mask .ensures)
+returns c = let call = c .before .before in
+    let told = call .before .before .before in
+    let asked = told .before .before in
+    runs-written _ (asked-yes (asked .merge-mask-asks .ensures) (told .enum-told .given .1)) (call .merge-mask .ensures)
 
 returns-2 : tie.Need-returns-2
 unfolding mergeMask

@@ -22,8 +22,11 @@ same-length c = search needs
 
 returns : tie.Need-returns
 unfolding groupIds
-returns c = let w = c .before .before .group-ids .ensures in
-    entries-written _ (asked-yes (c .before .before .before .before .before .before .group-ids-asks .ensures) (c .before .before .before .before .enum-told .given .1)) (w .0) (w .1)
+returns c = let call = c .before .before in
+    let told = call .before .before in
+    let asked = told .before .before in
+    let w = call .group-ids .ensures in
+    entries-written _ (asked-yes (asked .group-ids-asks .ensures) (told .enum-told .given .1)) (w .0) (w .1)
 
 returns-2 : tie.Need-returns-2
 unfolding groupIds

@@ -13,7 +13,8 @@ enum-told : tie.Need-enum-told
 enum-told c = search needs
 
 merge-plan-requires : tie.Need-merge-plan-requires
-merge-plan-requires c κs = merge-plan-yes _ _ _ _ (asked-yes (c .before .before .before .before .merge-plan-asks .ensures) (c .before .before .enum-told .given .1))
+merge-plan-requires c κs = let told = c .before .before in
+    merge-plan-yes _ _ _ _ (asked-yes (told .before .before .merge-plan-asks .ensures) (told .enum-told .given .1))
 
 enum-known-asked : tie.Need-enum-known-asked
 enum-known-asked c = search needs
@@ -26,7 +27,10 @@ same-length-2 c = search needs
 
 returns : tie.Need-returns
 unfolding mergePlan
-returns c = groups-written _ (asked-yes (c .before .before .before .before .before .before .before .before .merge-plan-asks .ensures) (c .before .before .before .before .before .before .enum-told .given .1)) (c .before .before .before .merge-plan .ensures)
+returns c = let call = c .before .before .before in
+    let told = call .before .before .before in
+    let asked = told .before .before in
+    groups-written _ (asked-yes (asked .merge-plan-asks .ensures) (told .enum-told .given .1)) (call .merge-plan .ensures)
 
 returns-2 : tie.Need-returns-2
 unfolding mergePlan

@@ -15,9 +15,11 @@ enum-told : tie.Need-enum-told
 enum-told c = search needs
 
 ranges-where-requires : tie.Need-ranges-where-requires
-ranges-where-requires c κs = let s = c .before .before .before .before .before in
-    ranges-yes (now (s .args .ends)) (now (s .args .values)) (s .args .code) (now (s .args .out-starts)) (now (s .args .out-ends))
-    (asked-yes (c .before .before .before .before .ranges-where-asks .ensures) (c .before .before .enum-told .given .1))
+ranges-where-requires c κs = let told = c .before .before in
+    let asked = told .before .before in
+    let a = asked .before .args in
+    ranges-yes (now (a .ends)) (now (a .values)) (a .code) (now (a .out-starts)) (now (a .out-ends))
+    (asked-yes (asked .ranges-where-asks .ensures) (told .enum-told .given .1))
 
 enum-known-asked : tie.Need-enum-known-asked
 enum-known-asked c = search needs
@@ -30,9 +32,13 @@ same-length-2 c = search needs
 
 returns : tie.Need-returns
 unfolding rangesWhere
-returns c = let s = c .before .before .before .before .before .before .before .before in
-    ranges-written _ (asked-yes (c .before .before .before .before .before .before .before .ranges-where-asks .ensures) (c .before .before .before .before .before .enum-told .given .1))
-    (with-number (s .args .code) (runsOf (now (s .args .ends)) (now (s .args .values))) (toZ-ofZ (s .fits .number)) (c .before .before .ranges-where .ensures))
+returns c = let call = c .before .before in
+    let told = call .before .before .before in
+    let asked = told .before .before in
+    let s = asked .before in
+    let rs = runsOf (now (s .args .ends)) (now (s .args .values)) in
+    ranges-written _ (asked-yes (asked .ranges-where-asks .ensures) (told .enum-told .given .1))
+    (with-number (s .args .code) rs (toZ-ofZ (s .fits .number)) (call .ranges-where .ensures))
 
 returns-2 : tie.Need-returns-2
 unfolding rangesWhere

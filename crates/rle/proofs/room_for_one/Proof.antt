@@ -15,9 +15,10 @@ ask-both-requires c κs = search needs
 
 returns : tie.Need-returns
 returns c = λ h.
-    let n = c .before .before .args .used in
+    let a = c .before .before .args in
+    let n = a .used in
     let e : min (n + 1) (2 ^ 64 - 1) ≡ n + 1 = omega arith in
-    c .ask-both .ensures ∙ ap (λ (k : ℕ). room (both k) (c .before .before .args .ends ∷ c .before .before .args .values ∷ [])) (c .before .saturating-add .ensures ∙ e)
+    c .ask-both .ensures ∙ ap (λ (k : ℕ). room (both k) (a .ends ∷ a .values ∷ [])) (c .before .saturating-add .ensures ∙ e)
 
 pub room-for-one-spec : {M : Type 1} → statement M
 room-for-one-spec = tie.close (tie.spec saturating-add-requires ask-both-requires returns)

@@ -42,10 +42,7 @@ same-length : tie.Need-same-length Inv-loop μ-loop
 same-length c = c .before .loop .inv .2
 
 returns : tie.Need-returns Inv-loop μ-loop
-returns c = let s = c .before .before in
-    let l = c .before .loop in
-    let e : l .p ≡ s .args .to = omega arith in
-    rw (e, toZ-ofZ (s .fits .value)) at (l .inv .3)
+returns c = let s = c .before .before in let l = c .before .loop in let e : l .p ≡ s .args .to = omega arith in rw (e, toZ-ofZ (s .fits .value)) at (l .inv .3)
 
 pub fill-spec : {M : Type 1} → statement M
 fill-spec =

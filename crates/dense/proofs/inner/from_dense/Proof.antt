@@ -9,7 +9,8 @@ use Rattle.dense.proofs.inner.from_dense.Statement.{statement}
 use Rattle.dense.proofs.inner.from_dense.Tie as tie
 
 abbrev Inv-loop : tie.InvT-loop
-Inv-loop values out-ends₀ out-values₀ first writer₀ i₀ out-ends out-values writer i = (i ≤ length values) × Encoded values out-ends₀ out-ends out-values₀ out-values writer i
+Inv-loop values out-ends₀ out-values₀ first writer₀ i₀ out-ends out-values writer i =
+    (i ≤ length values) × Encoded values out-ends₀ out-ends out-values₀ out-values writer i
 
 abbrev μ-loop : tie.MeasureT-loop
 μ-loop values out-ends₀ out-values₀ first writer₀ i₀ out-ends out-values writer i = length values - i
@@ -63,7 +64,9 @@ same-length-2 c = let l = c .before .before .before .before .before .before .bef
 returns-2 : tie.Need-returns-2 Inv-loop μ-loop
 returns-2 c = let l = c .before .before .before .before .before .before .before in
     let s = l .before .before .before .pre in
-    encoded-end (encoded-on (l .loop .inv .1) (s .0) (s .1) (l .loop .inv .0) (c .before .before .before .push-values .ensures) (l .loop .inv .0) (omega arith)) (s .0) (s .1) (omega arith) (omega arith) (omega arith)
+    let inv = l .loop .inv in
+    let all = encoded-on (inv .1) (s .0) (s .1) (inv .0) (c .before .before .before .push-values .ensures) (inv .0) (omega arith) in
+    encoded-end all (s .0) (s .1) (omega arith) (omega arith) (omega arith)
 
 pub from-dense-spec : {M : Type 1} → statement M
 from-dense-spec =

@@ -13,8 +13,11 @@ cast-push-merged : tie.Need-cast-push-merged
 cast-push-merged c = search needs
 
 push-merged-requires : tie.Need-push-merged-requires
-push-merged-requires c κs = let s = c .before .before .before .before .before .pre in
-    stretch-room (s .1 .written) (s .1 .room-ends) (s .1 .room-values) (omega (arith, s .1 .within)) _ (s .0) (s .1 .within) (c .before .before .before .all-equal .ensures (c .before .before .if1 .taken)) (omega arith)
+push-merged-requires c κs = let test = c .before .before in
+    let s = test .before .before .before .pre in
+    let q = s .1 in
+    stretch-room (q .written) (q .room-ends) (q .room-values) (omega (arith, q .within)) _ (s .0) (q .within)
+    (test .before .all-equal .ensures (test .if1 .taken)) (omega arith)
 
 push-values-requires : tie.Need-push-values-requires
 push-values-requires c κs = search needs
@@ -26,8 +29,12 @@ same-length-2 : tie.Need-same-length-2
 same-length-2 c = search needs
 
 returns : tie.Need-returns
-returns c = let s = c .before .before .before .before .before .before .before .before .pre in
-    encoded-stretch (s .1 .written) (s .1 .room-ends) (s .1 .room-values) (omega (arith, s .1 .within)) _ (s .0) (s .1 .within) (c .before .before .before .before .before .before .all-equal .ensures (c .before .before .before .before .before .if1 .taken)) (c .before .before .push-merged .ensures) (toZ-pos w64 (omega arith))
+returns c = let push = c .before .before in
+    let test = push .before .before .before in
+    let s = test .before .before .before .pre in
+    let q = s .1 in
+    encoded-stretch (q .written) (q .room-ends) (q .room-values) (omega (arith, q .within)) _ (s .0) (q .within)
+    (test .before .all-equal .ensures (test .if1 .taken)) (push .push-merged .ensures) (toZ-pos w64 (omega arith))
 
 same-length-3 : tie.Need-same-length-3
 same-length-3 c = search needs

@@ -11,7 +11,8 @@ use Rattle.dense.proofs.inner.push_values.Statement.{statement}
 use Rattle.dense.proofs.inner.push_values.Tie as tie
 
 abbrev Inv-loop : tie.InvT-loop
-Inv-loop values from to out-ends₀ out-values₀ next₀ i₀ out-ends out-values next i = (from ≤ i) × (i ≤ to) × Encoded values out-ends₀ out-ends out-values₀ out-values next i
+Inv-loop values from to out-ends₀ out-values₀ next₀ i₀ out-ends out-values next i =
+    (from ≤ i) × (i ≤ to) × Encoded values out-ends₀ out-ends out-values₀ out-values next i
 
 abbrev μ-loop : tie.MeasureT-loop
 μ-loop values from to out-ends₀ out-values₀ next₀ i₀ out-ends out-values next i = to - i
@@ -43,8 +44,12 @@ loop-less c = search needs
 loop-again : tie.Need-loop-again Inv-loop μ-loop
 loop-again c = let l = c .before .before .before .before .before .before .before in
     let s = l .before .pre in
-    let h = c .before .before .before .before .before .before .loop-test .taken in
-    (omega arith, omega arith, encoded-value (l .loop .inv .2) (s .room-ends) (s .room-values) (omega arith) (omega arith) (back _ (c .before .before .before .before .before .value .given)) (c .before .before .push-merged .ensures) (toZ-pos w64 (omega arith)))
+    let h = c .before .before .before .before .before .before .loop-test .taken in (
+      omega arith,
+      omega arith,
+      encoded-value (l .loop .inv .2) (s .room-ends) (s .room-values) (omega arith) (omega arith)
+          (back _ (c .before .before .before .before .before .value .given)) (c .before .before .push-merged .ensures) (toZ-pos w64 (omega arith)),
+    )
 
 same-length : tie.Need-same-length Inv-loop μ-loop
 same-length c = let s = c .before .before .pre in encoded-long (c .before .loop .inv .2) (s .room-ends) (s .room-values) (omega arith) .0

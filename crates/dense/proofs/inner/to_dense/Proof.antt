@@ -120,7 +120,8 @@ loop-again c = let x = c .before .before .before .before in
     let t = x .before .loop-test .taken in
     let q = l .before .pre in
     let a = at-run (l .loop .inv) t (q .1) in
-    inv-more (l .loop .inv) t (q .1) (end-nat (a .0) (x .end .given)) (back _ (c .before .before .before .value .given)) (c .before .fill .kept .0) (c .before .fill .ensures)
+    let fill = c .before .fill in
+    inv-more (l .loop .inv) t (q .1) (end-nat (a .0) (x .end .given)) (back _ (c .before .before .before .value .given)) (fill .kept .0) (fill .ensures)
 
 same-length : tie.Need-same-length Inv-loop μ-loop
 same-length c = c .before .loop .inv .long

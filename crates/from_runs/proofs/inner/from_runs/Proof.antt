@@ -72,12 +72,15 @@ module _ {runs values e₀ v₀ e v : List ℤ} {end : ℤ} {n i : ℕ} (m : Inv
     inv-more same le lv er ev ee d =
         let k = toNat (getD runs i (pos 0)) in
         let q = ee ∙ inv-sum er in
+        let x = getD values i (pos 0) in
         let f = put-filled (m .filled) (m .p) k _ (er ∙ inv-run) q d (omega (arith, m .few)) (omega (arith, m .few)) in
+        let next = runs-next (m .p) i k runs values h (omega arith) inv-run in
+        let rest = runsFrom (m .p + k) (drop (i + 1) runs) (drop (i + 1) values) in
         record {
           p = m .p + k;
-          done = m .done ++ one (m .p) k (getD values i (pos 0));
+          done = m .done ++ one (m .p) k x;
           filled = rw ev at f;
-          whole = m .whole ∙ ap (λ (l : Runs). m .done ++ l) (runs-next (m .p) i k runs values h (omega arith) inv-run) ∙ sym (append-assoc (m .done) (one (m .p) k (getD values i (pos 0))) (runsFrom (m .p + k) (drop (i + 1) runs) (drop (i + 1) values)));
+          whole = m .whole ∙ ap (λ (l : Runs). m .done ++ l) next ∙ sym (append-assoc (m .done) (one (m .p) k x) rest);
           yes = runs-yes (m .p) i runs h (m .yes);
           reached = q;
           within = omega arith;
@@ -111,9 +114,11 @@ add-end : tie.Need-add-end Inv-loop μ-loop
 add-end c = let l = c .before .before .before in inv-fits (l .loop .inv) (c .before .before .loop-test .taken) (back _ (c .before .run .given))
 
 put-run-requires : tie.Need-put-run-requires Inv-loop μ-loop
-put-run-requires c κs = let l = c .before .before .before .before .before in
-    let t = c .before .before .before .before .loop-test .taken in
-    (omega (arith, t, l .loop .inv .few, l .loop .inv .long-ends, l .before .pre .2), omega (arith, t, l .loop .inv .few, l .loop .inv .long-values, l .before .pre .3))
+put-run-requires c κs = let test = c .before .before .before .before in
+    let l = test .before in
+    let inv = l .loop .inv in
+    let t = test .loop-test .taken in
+    (omega (arith, t, inv .few, inv .long-ends, l .before .pre .2), omega (arith, t, inv .few, inv .long-values, l .before .pre .3))
 
 add-i : tie.Need-add-i Inv-loop μ-loop
 add-i c = search needs
@@ -122,11 +127,15 @@ loop-less : tie.Need-loop-less Inv-loop μ-loop
 loop-less c = search needs
 
 loop-again : tie.Need-loop-again Inv-loop μ-loop
-loop-again c = let l = c .before .before .before .before .before .before .before .before in
-    let t = c .before .before .before .before .before .before .before .loop-test .taken in
+loop-again c = let put = c .before .before in
+    let value = put .before .before .before in
+    let run = value .before in
+    let test = run .before in
+    let l = test .before in
+    let t = test .loop-test .taken in
     let s = l .before .pre in
-    let r = back (getD (l .before .args .runs .now) (l .loop .i) (pos 0)) (c .before .before .before .before .before .before .run .given) in
-    inv-more (l .loop .inv) t (s .0) (s .2) (s .3) r (back _ (c .before .before .before .before .before .value .given)) (toZ-ofZ (inv-fits (l .loop .inv) t r)) (c .before .before .put-run .ensures)
+    let r = back (getD (l .before .args .runs .now) (l .loop .i) (pos 0)) (run .run .given) in
+    inv-more (l .loop .inv) t (s .0) (s .2) (s .3) r (back _ (value .value .given)) (toZ-ofZ (inv-fits (l .loop .inv) t r)) (put .put-run .ensures)
 
 same-length : tie.Need-same-length Inv-loop μ-loop
 same-length c = c .before .loop .inv .long-ends

@@ -49,8 +49,8 @@ same-length-2 : tie.Need-same-length-2
 same-length-2 c = search needs
 
 returns : tie.Need-returns
-returns c =
-    wrote-run _ _ _ _ _ _ _ _ (c .before .before .before .place-after .ensures) (c .before .before .kept-after .ensures) (back _ (c .before .end .given)) (back _ (c .value .given))
+returns c = let kept = c .before .before in
+    wrote-run _ _ _ _ _ _ _ _ (kept .before .place-after .ensures) (kept .kept-after .ensures) (back _ (c .before .end .given)) (back _ (c .value .given))
 
 pub write-run-spec : {M : Type 1} → statement M
 write-run-spec =

@@ -27,7 +27,7 @@ loop-less c = omega arith
 
 loop-again : tie.Need-loop-again Inv-loop μ-loop
 loop-again c = let l = c .before in
-    let s = c .before .before in
+    let s = l .before in
     filling-more (l .loop .inv) (s .pre .2) (put-one _ _ _ _ (omega arith) (omega (arith, l .loop .inv .long)))
 
 same-length : tie.Need-same-length Inv-loop μ-loop

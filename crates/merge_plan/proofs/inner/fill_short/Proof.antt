@@ -20,7 +20,9 @@ loop-less : tie.Need-loop-less Inv-loop μ-loop
 loop-less c = let p = c .before .before .put-ids .ensures in omega (arith, p .some, p .within)
 
 loop-again : tie.Need-loop-again Inv-loop μ-loop
-loop-again c = filling-more (c .before .before .before .before .before .loop .inv) (c .before .before .before .before .before .before .before .pre .2) (c .before .before .put-ids .ensures)
+loop-again c = let put = c .before .before in
+    let l = put .before .before .before in
+    filling-more (l .loop .inv) (l .before .before .pre .2) (put .put-ids .ensures)
 
 same-length : tie.Need-same-length Inv-loop μ-loop
 same-length c = c .before .loop .inv .long

@@ -32,7 +32,7 @@ shared-slice-read-to c = search needs
 
 fill-group-requires : tie.Need-fill-group-requires Inv-loop μ-loop
 fill-group-requires c κs = let l = c .before .before .before in
-    let s = c .before .before .before .before .before .before .before in
+    let s = l .before .before .before .before in
     numbering-room (l .loop .inv) (s .pre .0) (l .before .last-offset .ensures) (s .pre .1) (c .before .before .loop-test .taken)
 
 add-group : tie.Need-add-group Inv-loop μ-loop
@@ -42,16 +42,18 @@ loop-less : tie.Need-loop-less Inv-loop μ-loop
 loop-less c = omega arith
 
 loop-again : tie.Need-loop-again Inv-loop μ-loop
-loop-again c = let l = c .before .before .before .before .before .before in
-    let s = c .before .before .before .before .before .before .before .before .before .before in
-    numbering-more (l .loop .inv) (s .pre .0) (l .before .last-offset .ensures) (s .pre .1) (c .before .before .before .before .before .loop-test .taken) (c .before .before .fill-group .ensures) (c .before .before .fill-group .kept .0)
+loop-again c = let test = c .before .before .before .before .before in
+    let l = test .before in
+    let s = l .before .before .before .before in
+    let fill = c .before .before .fill-group in
+    numbering-more (l .loop .inv) (s .pre .0) (l .before .last-offset .ensures) (s .pre .1) (test .loop-test .taken) (fill .ensures) (fill .kept .0)
 
 same-length : tie.Need-same-length Inv-loop μ-loop
 same-length c = c .before .loop .inv .long
 
 returns : tie.Need-returns Inv-loop μ-loop
 returns c = let l = c .before in
-    let s = c .before .before .before .before .before in
+    let s = l .before .before .before .before in
     numbering-end (l .loop .inv) (s .pre .0) (l .before .last-offset .ensures) (s .pre .1) (c .loop-test .left)
 
 pub group-ids-spec : {M : Type 1} → statement M

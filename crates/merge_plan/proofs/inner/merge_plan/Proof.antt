@@ -1,7 +1,7 @@
 use denote.Ref.{now}
 use Rattle.merge_mask.proofs.Groups.{groups-count}
 use Prim.Native.Nat.{ℕ, _-_}
-use mathlib.Core.Path.{refl, ap}
+use mathlib.Core.Path.{refl, ap, _∙_}
 use native.Mathlib.Omega.{arith}
 use lib.ListN.{length, length-set}
 use Rattle.num.proofs.Bits.{back}
@@ -40,13 +40,16 @@ add-write-group : tie.Need-add-write-group Inv-loop μ-loop
 add-write-group c = omega (arith, c .before .before .before .before .loop .inv .within)
 
 write-group-requires : tie.Need-write-group-requires Inv-loop μ-loop
-write-group-requires c κs = grouping-room (c .before .before .before .before .loop .inv) (c .before .before .before .before .before .before .before .before .pre .1) (rw length-set (c .before .before .before .before .before .before .before .before .pre .2))
+write-group-requires c κs = let l = c .before .before .before .before in
+    let s = l .before .before .before .before in
+    grouping-room (l .loop .inv) (s .pre .1) (rw length-set (s .pre .2))
 
 shared-slice-read-place-after : tie.Need-shared-slice-read-place-after Inv-loop μ-loop
 shared-slice-read-place-after c = search needs
 
 place-after-requires : tie.Need-place-after-requires Inv-loop μ-loop
-place-after-requires c κs = omega (arith, c .before .before .before .before .before .before .before .before .before .loop .inv .planning .few, c .before .before .before .before .before .before .before .before .before .loop .inv .within)
+place-after-requires c κs = let l = c .before .before .before .before .before .before .before .before .before in
+    omega (arith, l .loop .inv .planning .few, l .loop .inv .within)
 
 add-run : tie.Need-add-run Inv-loop μ-loop
 add-run c = omega (arith, c .before .before .before .before .before .before .before .before .before .before .loop .inv .within)
@@ -55,9 +58,12 @@ loop-less : tie.Need-loop-less Inv-loop μ-loop
 loop-less c = search needs
 
 loop-again : tie.Need-loop-again Inv-loop μ-loop
-loop-again c = let l = c .before .before .before .before .before .before .before .before .before .before in
-    let s = c .before .before .before .before .before .before .before .before .before .before .before .before .before .before in
-    grouping-more (l .loop .inv) (s .pre .1) (rw length-set (s .pre .2)) (c .before .before .before .before .before .write-group .ensures) (back _ (c .before .before .before .before .before .before .before .before .end .given)) refl (omega (arith, s .pre .0)) (c .place-after .ensures)
+loop-again c = let write = c .before .before .before .before .before in
+    let end = write .before .before .before in
+    let l = end .before .before in
+    let s = l .before .before .before .before in
+    grouping-more (l .loop .inv) (s .pre .1) (rw length-set (s .pre .2)) (write .write-group .ensures) (back _ (end .end .given))
+    refl (omega (arith, s .pre .0)) (c .place-after .ensures)
 
 mul-end-2 : tie.Need-mul-end-2 Inv-loop μ-loop
 mul-end-2 c = omega (arith, c .before .loop .inv .within)
@@ -69,28 +75,39 @@ add-write-group-2 : tie.Need-add-write-group-2 Inv-loop μ-loop
 add-write-group-2 c = omega (arith, c .before .before .before .before .loop .inv .within)
 
 write-group-requires-2 : tie.Need-write-group-requires-2 Inv-loop μ-loop
-write-group-requires-2 c κs = grouping-room (c .before .before .before .before .loop .inv) (c .before .before .before .before .before .before .before .before .pre .1) (rw length-set (c .before .before .before .before .before .before .before .before .pre .2))
+write-group-requires-2 c κs = let l = c .before .before .before .before in
+    let s = l .before .before .before .before in
+    grouping-room (l .loop .inv) (s .pre .1) (rw length-set (s .pre .2))
 
 mask-ones-requires : tie.Need-mask-ones-requires Inv-loop μ-loop
 mask-ones-requires c κs = search needs
 
 sub-result : tie.Need-sub-result Inv-loop μ-loop
-sub-result c = let s = c .before .before .before .before .before .before .before .before .before .before .before .before .before in omega (arith, c .mask-ones .ensures, groups-count (now (s .args .ends)) (now (s .args .mask)) (s .pre .0))
+sub-result c = let s = c .before .before .before .before .before .before .before .before .before .before .before .before .before in
+    omega (arith, c .mask-ones .ensures, groups-count (now (s .args .ends)) (now (s .args .mask)) (s .pre .0))
 
 same-length-2 : tie.Need-same-length-2 Inv-loop μ-loop
-same-length-2 c = let l = c .before .before .before .before .before .before .before .before .before in
-    let s = c .before .before .before .before .before .before .before .before .before .before .before .before .before in
-    grouping-long (l .loop .inv) (s .pre .1) (rw length-set (s .pre .2)) (c .before .before .before .before .write-group2 .ensures) (back _ (c .before .before .before .before .before .before .before .end2 .given)) refl .0
+same-length-2 c = let write = c .before .before .before .before in
+    let end = write .before .before .before in
+    let l = end .before .before in
+    let s = l .before .before .before .before in
+    grouping-long (l .loop .inv) (s .pre .1) (rw length-set (s .pre .2)) (write .write-group2 .ensures) (back _ (end .end2 .given)) refl .0
 
 same-length-3 : tie.Need-same-length-3 Inv-loop μ-loop
-same-length-3 c = let l = c .before .before .before .before .before .before .before .before .before in
-    let s = c .before .before .before .before .before .before .before .before .before .before .before .before .before in
-    omega (arith, length-set (now (s .args .out-offsets)) 0 0, grouping-long (l .loop .inv) (s .pre .1) (rw length-set (s .pre .2)) (c .before .before .before .before .write-group2 .ensures) (back _ (c .before .before .before .before .before .before .before .end2 .given)) refl .1)
+same-length-3 c = let write = c .before .before .before .before in
+    let end = write .before .before .before in
+    let l = end .before .before in
+    let s = l .before .before .before .before in
+    grouping-long (l .loop .inv) (s .pre .1) (rw length-set (s .pre .2)) (write .write-group2 .ensures) (back _ (end .end2 .given)) refl .1
+    ∙ length-set (now (s .args .out-offsets)) 0 0
 
 returns-2 : tie.Need-returns-2 Inv-loop μ-loop
-returns-2 c = let l = c .before .before .before .before .before .before .before .before .before in
-    let s = c .before .before .before .before .before .before .before .before .before .before .before .before .before in
-    grouping-end (l .loop .inv) (s .pre .1) (rw length-set (s .pre .2)) (c .before .before .before .before .write-group2 .ensures) (back _ (c .before .before .before .before .before .before .before .end2 .given)) refl _ refl (omega (arith, s .pre .0, l .loop .inv .within)) (s .pre .0) (ap (λ (k : ℕ). length (now (s .args .ends)) - k) (c .mask-ones .ensures))
+returns-2 c = let write = c .before .before .before .before in
+    let end = write .before .before .before in
+    let l = end .before .before in
+    let s = l .before .before .before .before in
+    grouping-end (l .loop .inv) (s .pre .1) (rw length-set (s .pre .2)) (write .write-group2 .ensures) (back _ (end .end2 .given))
+    refl _ refl (omega (arith, s .pre .0, l .loop .inv .within)) (s .pre .0) (ap (λ (k : ℕ). length (now (s .args .ends)) - k) (c .mask-ones .ensures))
 
 pub merge-plan-spec : {M : Type 1} → statement M
 merge-plan-spec =

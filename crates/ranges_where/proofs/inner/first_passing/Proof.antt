@@ -11,6 +11,7 @@ use mir.Facts.{toZ-ofZ}
 use denote.Ref.{now}
 use Rattle.num.specs.Numbers.{eqZ, operation}
 use Rattle.num.proofs.Bits.{back}
+use Rattle.num.proofs.Operation.{comparison-operation}
 use Rattle.column.specs.Lists.{any}
 use Rattle.ranges_where.specs.Workers.{passing, FirstPassing}
 use Rattle.ranges_where.proofs.Ranging.{none-more}
@@ -23,7 +24,8 @@ module _ (code : ℕ) (n : ℤ) {x v : ℤ} {b : Bool} (ex : x ≡ v) (eb : b �
   passes-is et = sym (rw ex at eb) ∙ et
 
 module _ (code : ℕ) {n m : ℤ} (en : n ≡ m) (vs : List ℤ) (i : ℕ) where
-  found : {x : ℤ} {b : Bool} → x ≡ getD vs i (pos 0) → b ≡ eqZ (operation code x n) (pos 1) → b ≡ true → any (passing code n) (take i vs) ≡ false → i < length vs → FirstPassing (passing code m) vs i
+  found : {x : ℤ} {b : Bool} → x ≡ getD vs i (pos 0) → b ≡ eqZ (operation code x n) (pos 1) → b ≡ true
+      → any (passing code n) (take i vs) ≡ false → i < length vs → FirstPassing (passing code m) vs i
   found ex eb et none h = rw (← en) (record { within = omega arith; before = none; here = λ k. passes-is code n ex eb et })
 
   not-found : i ≤ length vs → any (passing code n) (take i vs) ≡ false → length vs ≤ i → FirstPassing (passing code m) vs i
@@ -48,10 +50,13 @@ holds-requires : tie.Need-holds-requires Inv-loop μ-loop
 holds-requires c κs = search needs
 
 returns : tie.Need-returns Inv-loop μ-loop
-returns c = let l = c .before .before .before .before in
+returns c = let holds = c .before in
+    let value = holds .before in
+    let test = value .before in
+    let l = test .before in
     let s = l .before in
-    let t = c .before .before .before .loop-test .taken in
-    found (s .args .code) (toZ-ofZ (s .fits .number)) (now (s .args .values)) (l .loop .i) (back _ (c .before .before .holds-arg .given)) (c .before .holds .ensures (s .pre .0) (s .pre .1)) (c .if1 .taken) (l .loop .inv .1) t
+    found (s .args .code) (toZ-ofZ (s .fits .number)) (now (s .args .values)) (l .loop .i) (back _ (value .holds-arg .given))
+    (holds .holds .ensures ∙ comparison-operation _ _ _ (s .pre .0) (s .pre .1)) (c .if1 .taken) (l .loop .inv .1) (test .loop-test .taken)
 
 add-i : tie.Need-add-i Inv-loop μ-loop
 add-i c = search needs
@@ -60,16 +65,25 @@ loop-less : tie.Need-loop-less Inv-loop μ-loop
 loop-less c = search needs
 
 loop-again : tie.Need-loop-again Inv-loop μ-loop
-loop-again c = let l = c .before .before .before .before in
+loop-again c = let holds = c .before in
+    let value = holds .before in
+    let test = value .before in
+    let l = test .before in
     let s = l .before in
-    let t = c .before .before .before .loop-test .taken in (
+    let a = s .args in
+    let n = toZ w64 (ofZ w64 (a .number)) in
+    let t = test .loop-test .taken in (
       omega (arith, t),
-      none-more (passing (s .args .code) (toZ w64 (ofZ w64 (s .args .number)))) (now (s .args .values)) (l .loop .i) (pos 0)
-          (passes-is (s .args .code) (toZ w64 (ofZ w64 (s .args .number))) (back _ (c .before .before .holds-arg .given)) (c .before .holds .ensures (s .pre .0) (s .pre .1)) (c .if1 .left)) (l .loop .inv .1) t,
+      none-more (passing (a .code) n) (now (a .values)) (l .loop .i) (pos 0)
+          (passes-is (a .code) n (back _ (value .holds-arg .given)) (holds .holds .ensures ∙ comparison-operation _ _ _ (s .pre .0) (s .pre .1)) (c .if1 .left))
+          (l .loop .inv .1) t,
     )
 
 returns-2 : tie.Need-returns-2 Inv-loop μ-loop
-returns-2 c = let s = c .before .before in let l = c .before in not-found (s .args .code) (toZ-ofZ (s .fits .number)) (now (s .args .values)) (l .loop .i) (l .loop .inv .0) (l .loop .inv .1) (c .loop-test .left)
+returns-2 c = let l = c .before in
+    let s = l .before in
+    let inv = l .loop .inv in
+    not-found (s .args .code) (toZ-ofZ (s .fits .number)) (now (s .args .values)) (l .loop .i) (inv .0) (inv .1) (c .loop-test .left)
 
 pub first-passing-spec : {M : Type 1} → statement M
 first-passing-spec =

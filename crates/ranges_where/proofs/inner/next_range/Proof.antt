@@ -24,21 +24,26 @@ choose-requires c κs = search needs
 choose-requires-2 : tie.Need-choose-requires-2
 choose-requires-2 c κs = search needs
 
-told : (c : tie.After-struct-told) → toZ w64 (ofZ w64 (c .before .before .before .args .last .start)) ≡ c .before .before .before .args .last .start
+told : (c : tie.After-struct-told) → let last = c .before .before .before .args .last in toZ w64 (ofZ w64 (last .start)) ≡ last .start
 told c = search needs
 
-told-2 : (c : tie.After-struct-told2) → toZ w64 (ofZ w64 (c .before .before .before .before .before .args .last .end)) ≡ c .before .before .before .before .before .args .last .end
+told-2 : (c : tie.After-struct-told2) → let last = c .before .before .before .before .before .args .last in toZ w64 (ofZ w64 (last .end)) ≡ last .end
 told-2 c = search needs
 
-open-is : (last : Open) (passes : Bool) (start end : ℤ) {new : Bool} {at : ℕ} {x y a b d e : ℤ} → new ≡ not (last .inside) && passes → at ≡ cond new (last .at + 1) (last .at)
+open-is : (last : Open) (passes : Bool) (start end : ℤ) {new : Bool} {at : ℕ} {x y a b d e : ℤ}
+    → new ≡ not (last .inside) && passes → at ≡ cond new (last .at + 1) (last .at)
     → x ≡ cond new a b → a ≡ start → b ≡ last .start → y ≡ cond passes d e → d ≡ end → e ≡ last .end
     → _≡_ {A = Open} (record { at = at; start = x; end = y; inside = passes }) (openAfter last passes start end)
 open-is last passes start end en ea ex p q ey r t = rw (ea, ex, ey, p, q, r, t, en)
 
 returns : tie.Need-returns
-returns c = let s = c .before .before .before .before .before .before in
-    open-is (s .args .last) (s .args .passes) (s .args .start) (s .args .end) (c .before .before .before .before .before .begins .ensures) (c .before .before .before .before .place .ensures)
-    (back _ (c .before .before .choose .ok) ∙ c .before .before .choose .ensures) (toZ-ofZ (s .fits .start)) (told (c .before .before .before)) (back _ (c .choose2 .ok) ∙ c .choose2 .ensures) (toZ-ofZ (s .fits .end)) (told-2 (c .before))
+returns c = let start = c .before .before in
+    let place = start .before .before in
+    let begins = place .before in
+    let s = begins .before in
+    open-is (s .args .last) (s .args .passes) (s .args .start) (s .args .end) (begins .begins .ensures) (place .place .ensures)
+    (back _ (start .choose .ok) ∙ start .choose .ensures) (toZ-ofZ (s .fits .start)) (told (start .before)) (back _ (c .choose2 .ok) ∙ c .choose2 .ensures)
+    (toZ-ofZ (s .fits .end)) (told-2 (c .before))
 
 pub next-range-spec : {M : Type 1} → statement M
 next-range-spec =

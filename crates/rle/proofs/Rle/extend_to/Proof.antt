@@ -14,7 +14,10 @@ enum-told : tie.Need-enum-told
 enum-told c = search needs
 
 extend-to-requires : tie.Need-extend-to-requires
-extend-to-requires c κs = let a = c .before .before .before .before .before .before .before .args in extend-to-yes (now (a .ends)) (now (a .values)) _ _ (asked-yes (c .before .before .before .before .extend-to-asks .ensures) (c .before .before .enum-told .given .1))
+extend-to-requires c κs = let told = c .before .before in
+    let asked = told .before .before in
+    let a = asked .before .before .before .args in
+    extend-to-yes (now (a .ends)) (now (a .values)) _ _ (asked-yes (asked .extend-to-asks .ensures) (told .enum-told .given .1))
 
 enum-known-asked : tie.Need-enum-known-asked
 enum-known-asked c = search needs
@@ -27,9 +30,13 @@ same-length-2 c = search needs
 
 returns : tie.Need-returns
 unfolding extendTo
-returns c = let s = c .before .before .before .before .before .before .before .before .before .before in
+returns c = let call = c .before .before in
+    let told = call .before .before .before in
+    let asked = told .before .before in
+    let s = asked .before .before .before in
     let f = toZ-ofZ (s .fits .length) in
-    runs-written _ (asked-yes (rw f at (c .before .before .before .before .before .before .before .extend-to-asks .ensures)) (c .before .before .before .before .before .enum-told .given .1)) (rw (f, toZ-ofZ (s .fits .value)) at (c .before .before .extend-to .ensures))
+    let yes = asked-yes (rw f at (asked .extend-to-asks .ensures)) (told .enum-told .given .1) in
+    runs-written _ yes (rw (f, toZ-ofZ (s .fits .value)) at (call .extend-to .ensures))
 
 same-length-3 : tie.Need-same-length-3
 same-length-3 c = search needs
@@ -39,8 +46,9 @@ same-length-4 c = search needs
 
 returns-2 : tie.Need-returns-2
 unfolding extendTo
-returns-2 c = let s = c .before .before .before .before .before .before in
-    runs-refused _ (asked-no _ (rw (toZ-ofZ (s .fits .length)) at (c .before .before .before .extend-to-asks .ensures)) (c .before .asked .given .1))
+returns-2 c = let asked = c .before .before .before in
+    let s = asked .before .before .before in
+    runs-refused _ (asked-no _ (rw (toZ-ofZ (s .fits .length)) at (asked .extend-to-asks .ensures)) (c .before .asked .given .1))
 
 pub extend-to-spec : {M : Type 1} → statement M
 extend-to-spec =

@@ -14,7 +14,10 @@ enum-told : tie.Need-enum-told
 enum-told c = search needs
 
 push-run-requires : tie.Need-push-run-requires
-push-run-requires c κs = let a = c .before .before .before .before .before .before .before .args in push-run-yes (now (a .ends)) (now (a .values)) _ _ (asked-yes (c .before .before .before .before .push-run-asks .ensures) (c .before .before .enum-told .given .1))
+push-run-requires c κs = let told = c .before .before in
+    let asked = told .before .before in
+    let a = asked .before .before .before .args in
+    push-run-yes (now (a .ends)) (now (a .values)) _ _ (asked-yes (asked .push-run-asks .ensures) (told .enum-told .given .1))
 
 enum-known-asked : tie.Need-enum-known-asked
 enum-known-asked c = search needs
@@ -27,9 +30,13 @@ same-length-2 c = search needs
 
 returns : tie.Need-returns
 unfolding pushRun
-returns c = let s = c .before .before .before .before .before .before .before .before .before .before in
+returns c = let call = c .before .before in
+    let told = call .before .before .before in
+    let asked = told .before .before in
+    let s = asked .before .before .before in
     let f = toZ-ofZ (s .fits .run) in
-    runs-written _ (asked-yes (rw f at (c .before .before .before .before .before .before .before .push-run-asks .ensures)) (c .before .before .before .before .before .enum-told .given .1)) (rw (f, toZ-ofZ (s .fits .value)) at (c .before .before .push-run .ensures))
+    let yes = asked-yes (rw f at (asked .push-run-asks .ensures)) (told .enum-told .given .1) in
+    runs-written _ yes (rw (f, toZ-ofZ (s .fits .value)) at (call .push-run .ensures))
 
 same-length-3 : tie.Need-same-length-3
 same-length-3 c = search needs
@@ -39,8 +46,9 @@ same-length-4 c = search needs
 
 returns-2 : tie.Need-returns-2
 unfolding pushRun
-returns-2 c = let s = c .before .before .before .before .before .before in
-    runs-refused _ (asked-no _ (rw (toZ-ofZ (s .fits .run)) at (c .before .before .before .push-run-asks .ensures)) (c .before .asked .given .1))
+returns-2 c = let asked = c .before .before .before in
+    let s = asked .before .before .before in
+    runs-refused _ (asked-no _ (rw (toZ-ofZ (s .fits .run)) at (asked .push-run-asks .ensures)) (c .before .asked .given .1))
 
 pub push-run-spec : {M : Type 1} → statement M
 push-run-spec =

@@ -6,7 +6,7 @@ use mir.Syntax.{w64}
 use mir.Val.{toZ, ofZ}
 use mir.Facts.{toZ-ofZ}
 use Rattle.num.proofs.Bits.{back}
-use Rattle.rle.proofs.Behind.{present-length, extend-same, extend-at, extend-filled}
+use Rattle.rle.proofs.After.{present-length, extend-same, extend-at, extend-filled}
 use borrow.Author.Needs.{needs}
 use Rattle.rle.proofs.inner.extend_to.Statement.{statement}
 use Rattle.rle.proofs.inner.extend_to.Tie as tie
@@ -21,23 +21,28 @@ same-length : tie.Need-same-length
 same-length c = search needs
 
 returns : tie.Need-returns
-returns c = let s = c .before .before .before .before in
+returns c = let length = c .before in
+    let part = length .before in
+    let s = part .before .before in
     let a = s .args in
     let q = s .pre in
-    let x = back (c .before .length .result) (c .before .length .ok) ∙ present-length (now (a .ends)) (now (a .values)) (a .used) (q .valid) (q .room-ends) (q .room-values) (c .before .length .ensures) (c .before .before .part .ensures) in
+    let told = present-length (now (a .ends)) (now (a .values)) (a .used) (q .valid) (q .room-ends) (q .room-values) in
+    let x = back (length .length .result) (length .length .ok) ∙ told (length .length .ensures) (part .part .ensures) in
     extend-same _ _ _ _ q _ (sym (toZ-ofZ (s .fits .length)) ∙ ap (toZ w64) (c .if1 .taken) ∙ x)
 
 last-run-requires : tie.Need-last-run-requires
 last-run-requires c κs = le-of-lt (c .before .before .before .before .before .pre .room-values)
 
 push-merged-requires : tie.Need-push-merged-requires
-push-merged-requires c κs = let q = c .before .before .before .before .before .before .before .before .pre in
-    let r = c .before .before .last-run .ensures in
+push-merged-requires c κs = let last = c .before .before in
+    let q = last .before .before .before .before .before .before .pre in
+    let r = last .last-run .ensures in
     let p = extend-at _ _ _ _ q (r .0) (r .1) (r .2) in
     (omega (arith, r .0, q .room-ends), omega (arith, p, q .room-ends), omega (arith, p, q .room-values))
 
 add-result : tie.Need-add-result
-add-result c = let q = c .before .before .before .before .before .before .before .before .before .before .before .before .pre in
+add-result c =
+    let q = c .before .before .before .before .before .before .before .before .before .before .before .before .pre in
     let r = c .before .before .before .before .before .before .last-run .ensures in
     let p = extend-at _ _ _ _ q (r .0) (r .1) (r .2) in
     omega (arith, p, q .room-ends, c .before .before .before .push-merged .ensures .place)
@@ -49,14 +54,20 @@ same-length-3 : tie.Need-same-length-3
 same-length-3 c = search needs
 
 returns-2 : tie.Need-returns-2
-returns-2 c = let s = c .before .before .before .before .before .before .before .before .before .before .before .before in
+returns-2 c = let push = c .before .before .before in
+    let last = push .before .before .before in
+    let test = last .before .before in
+    let length = test .before in
+    let part = length .before in
+    let s = part .before .before in
     let a = s .args in
     let q = s .pre in
-    let x = present-length (now (a .ends)) (now (a .values)) (a .used) (q .valid) (q .room-ends) (q .room-values) (c .before .before .before .before .before .before .before .before .before .length .ensures) (c .before .before .before .before .before .before .before .before .before .before .part .ensures) in
-    let r = c .before .before .before .before .before .before .last-run .ensures in
-    let l = toZ-ofZ (s .fits .length) in
-    rw (toZ-ofZ (s .fits .value)) at
-    (extend-filled _ _ _ _ q (r .0) (r .1) (r .2) (λ e. c .before .before .before .before .before .before .before .before .if1 .left (ap (ofZ w64) (e ∙ sym x))) l (c .before .before .before .push-merged .ensures))
+    let told = present-length (now (a .ends)) (now (a .values)) (a .used) (q .valid) (q .room-ends) (q .room-values) in
+    let x = told (length .length .ensures) (part .part .ensures) in
+    let r = last .last-run .ensures in
+    rw (toZ-ofZ (s .fits .value))
+    at (extend-filled _ _ _ _ q (r .0) (r .1) (r .2) (λ e. test .if1 .left (ap (ofZ w64) (e ∙ sym x))) (toZ-ofZ (s .fits .length))
+    (push .push-merged .ensures))
 
 pub extend-to-spec : {M : Type 1} → statement M
 extend-to-spec =

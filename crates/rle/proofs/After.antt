@@ -1,4 +1,4 @@
--- A run behind the used entries of two lent buffers: put there, or merged with the last.
+-- A run after the used entries of two lent buffers: put there, or merged with the last.
 -- Assumes nothing.
 use Prim.Native.Nat.{ℕ, zero, suc, _+_, _-_, _≤_, _<_}
 use mathlib.Core.Bool.{true}
@@ -38,7 +38,8 @@ module _ (e v : List ℤ) (n : ℕ) where
   present = presentLength n (sequence e v)
 
   -- their length, as the code reads it
-  pub present-length : {x : ℤ} {es : List ℤ} → endsValid (take n e) ≡ none → n < length e → n < length v → x ≡ lengthOfEnds es → es ≡ part 0 n e → x ≡ pos present
+  pub present-length : {x : ℤ} {es : List ℤ} → endsValid (take n e) ≡ none → n < length e → n < length v
+      → x ≡ lengthOfEnds es → es ≡ part 0 n e → x ≡ pos present
   present-length valid le lv ex ep =
       ex ∙ ap lengthOfEnds (ep ∙ first-part n e) ∙ length-of-ends (take n e) (take n v) valid (used-paired n e v (le-of-lt le) (le-of-lt lv))
 
@@ -58,7 +59,8 @@ module _ (e v : List ℤ) (n : ℕ) where
         → PutRun e e′ v v′ n run′ end value′ m → Filled (pushed (sequence e v) n run value) e e′ v v′ m
     unfolding pushed
     push-filled er ee ev d =
-        let f = put-filled (used-filled n e v (le-of-lt (q .room-ends)) (le-of-lt (q .room-values)) (q .valid)) present (toNat run) _ (er ∙ push-natural) ee d (q .room-ends) (q .room-values) in
+        let entries = used-filled n e v (le-of-lt (q .room-ends)) (le-of-lt (q .room-values)) (q .valid) in
+        let f = put-filled entries present (toNat run) _ (er ∙ push-natural) ee d (q .room-ends) (q .room-values) in
         rw (← push-natural, ev) at f
 
   -- ---- extend_to
@@ -85,7 +87,7 @@ module _ (e v : List ℤ) (n : ℕ) where
       merging : Merging (usedRuns n e v (le-of-lt (q .room-ends)) (le-of-lt (q .room-values))) value e v e v w
       merging = used-merging n e v (le-of-lt (q .room-ends)) (le-of-lt (q .room-values)) (q .valid) value at-last (last-value n refl)
 
-      -- the new run goes at most behind the used entries
+      -- the new run goes at most one place after the used entries
       pub extend-at : nextPlace w value ≤ n
       extend-at = rw (used-count n e v (le-of-lt (q .room-ends)) (le-of-lt (q .room-values))) at (merge-at merging value (λ z. refl))
 
