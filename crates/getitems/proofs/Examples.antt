@@ -27,5 +27,6 @@ rows =
     ∷ []
 
 pub examples : Hold rows
-unfolding agree paired endsFrom endsValid eachFrom intervalAt intervals roomAt roomFrom room runsOf endsOf valuesOf lengthOf offsetsFrom flatEnds flatValues cut sliceRuns intervalRuns getitemsAsked getitems
+unfolding agree paired endsFrom endsValid eachFrom intervalAt intervals roomAt roomFrom room runsOf endsOf valuesOf lengthOf offsetsFrom flatEnds flatValues cut
+    sliceRuns intervalRuns getitemsAsked getitems
 examples = (refl, (refl, tt))

@@ -36,14 +36,16 @@ item-at (s ∷ ss) [] rs i l h = let z : ⊥ = omega arith in absurd z
 item-at (s ∷ ss) (e ∷ es) rs zero l h = refl
 item-at (s ∷ ss) (e ∷ es) rs (suc i) l h = item-at ss es rs i (omega arith) (omega arith)
 
-pub counts-are : (starts stops es vs : List ℤ) → endsValid es ≡ none → length es ≡ length vs → intervalCounts starts stops es ≡ map length (intervalRuns starts stops (runsOf es vs))
+pub counts-are : (starts stops es vs : List ℤ) → endsValid es ≡ none → length es ≡ length vs
+    → intervalCounts starts stops es ≡ map length (intervalRuns starts stops (runsOf es vs))
 unfolding intervalCounts intervalRuns
 counts-are [] stops es vs v l = refl
 counts-are (s ∷ ss) [] es vs v l = refl
 counts-are (s ∷ ss) (e ∷ ts) es vs v l = ap₂ (λ (n : ℕ) (ns : List ℕ). n ∷ ns) (touched-count s e es vs v l) (counts-are ss ts es vs v l)
 
 -- the slice of the interval at i
-module _ (es vs starts stops : List ℤ) (valid : endsValid es ≡ none) (l : length es ≡ length vs) (m : length starts ≡ length stops) (i : ℕ) (h : i < length starts)
+module _ (es vs starts stops : List ℤ) (valid : endsValid es ≡ none) (l : length es ≡ length vs) (m : length starts ≡ length stops) (i : ℕ)
+    (h : i < length starts)
     {x y : ℤ} (ex : x ≡ getD starts i (pos 0)) (ey : y ≡ getD stops i (pos 0)) where
   abbrev item : Runs
   item = getD (intervalRuns starts stops (runsOf es vs)) i []
@@ -51,7 +53,8 @@ module _ (es vs starts stops : List ℤ) (valid : endsValid es ≡ none) (l : le
   item-is : sliceRuns x y (runsOf es vs) ≡ item
   item-is = ap₂ (λ (a b : ℤ). sliceRuns a b (runsOf es vs)) ex ey ∙ sym (item-at starts stops (runsOf es vs) i m h)
 
-  pub item-sliceable : {first : ℕ} → (endsValid es ≡ none → first ≡ found es 0 (getD starts i (pos 0))) → (e v : List ℤ) (used : ℕ) → used + length item ≤ length e → used + length item ≤ length v
+  pub item-sliceable : {first : ℕ} → (endsValid es ≡ none → first ≡ found es 0 (getD starts i (pos 0))) → (e v : List ℤ) (used : ℕ)
+      → used + length item ≤ length e → used + length item ≤ length v
       → SliceAt es vs first x y (take (length e - used) (drop used e)) (take (length v - used) (drop used v))
   item-sliceable f e v used he hv = record {
     valid = valid;

@@ -1,4 +1,4 @@
--- The reductions of the slices of intervals, and the questions of that call, as the code joins them.
+-- The reductions of the slices of intervals, and what the questions of that call tell.
 -- Assumes nothing.
 use Prim.Native.Nat.{ℕ, _<_}
 use mathlib.Core.Option.{none}
@@ -6,10 +6,9 @@ use mathlib.Core.List.{List, [], _∷_, map}
 use mathlib.Core.Path.{_≡_, ap, ap₂, sym, _∙_}
 use lib.IntN.{ℤ, pos}
 use lib.ListN.{length, getD, length-map, List·getD-map}
-use Rattle.column.specs.Asking.{Question, firstNo}
 use Rattle.column.specs.Questions.{listed, agree, paired, endsValid, intervals, room, both}
 use Rattle.column.specs.Runs.{sequence, Runs}
-use Rattle.column.proofs.FirstNo.{all-yes, asked-next, asked-last}
+use Rattle.column.proofs.FirstNo.{all-yes}
 use Rattle.column.proofs.Told.{agree-told, both-told}
 use Rattle.slice.specs.Calls.{sliceRuns}
 use Rattle.getitems.specs.Calls.{intervalRuns, sliceReduceAsked}
@@ -22,38 +21,23 @@ abbrev pub reductions : ℕ → ℤ → List ℤ → List ℤ → Runs → List 
 reductions code ddof starts stops rs = map (reduction code ddof) (intervalRuns starts stops rs)
 
 -- the interval at i
-pub interval-reduced : (starts stops : List ℤ) (rs : Runs) (code : ℕ) (ddof : ℤ) (m : length starts ≡ length stops) (i : ℕ) (h : i < length starts) {x y : ℤ} {r : Reduction}
-    → x ≡ getD starts i (pos 0) → y ≡ getD stops i (pos 0) → r ≡ reduction code ddof (sliceRuns x y rs) → r ≡ getD (reductions code ddof starts stops rs) i (reduction code ddof [])
+pub interval-reduced : (starts stops : List ℤ) (rs : Runs) (code : ℕ) (ddof : ℤ) (m : length starts ≡ length stops) (i : ℕ)
+    (h : i < length starts) {x y : ℤ} {r : Reduction} → x ≡ getD starts i (pos 0) → y ≡ getD stops i (pos 0)
+    → r ≡ reduction code ddof (sliceRuns x y rs) → r ≡ getD (reductions code ddof starts stops rs) i (reduction code ddof [])
 interval-reduced starts stops rs code ddof m i h ex ey er =
     er
     ∙ ap₂ (λ (a b : ℤ). reduction code ddof (sliceRuns a b rs)) ex ey
     ∙ ap (reduction code ddof) (sym (item-at starts stops rs i m h))
     ∙ sym (List·getD-map (reduction code ddof) (intervalRuns starts stops rs) i [])
 
-pub length-reductions : (code : ℕ) (ddof : ℤ) (starts stops : List ℤ) (rs : Runs) → length starts ≡ length stops → length (reductions code ddof starts stops rs) ≡ length starts
+pub length-reductions : (code : ℕ) (ddof : ℤ) (starts stops : List ℤ) (rs : Runs) → length starts ≡ length stops
+    → length (reductions code ddof starts stops rs) ≡ length starts
 length-reductions code ddof starts stops rs m = rw length-map (length-items starts stops rs m)
 
 -- ---- the call
 
-module _ (es vs starts stops : List ℤ) (code k b : ℕ) where
-  pub reduce-asked : {q c d f g n o p s u v : Question} → q ≡ firstNo (c ∷ d ∷ []) → c ≡ listed 0 2 code
-      → d ≡ firstNo (f ∷ g ∷ []) → f ≡ agree 3 (length es) (length vs)
-      → g ≡ firstNo (n ∷ o ∷ []) → n ≡ agree 8 (length starts) (length stops)
-      → o ≡ firstNo (p ∷ s ∷ []) → p ≡ endsValid es
-      → s ≡ firstNo (u ∷ v ∷ []) → u ≡ intervals starts stops
-      → v ≡ room (both (length starts)) (k ∷ b ∷ [])
-      → q ≡ sliceReduceAsked (sequence es vs) starts stops code (k ∷ b ∷ [])
-  unfolding sliceReduceAsked paired
-  reduce-asked hq hc hd hf hg hn ho hp hs hu hv =
-      let r = room (both (length starts)) (k ∷ b ∷ []) in
-      asked-next (listed 0 2 code) (agree 3 (length es) (length vs) ∷ agree 8 (length starts) (length stops) ∷ endsValid es ∷ intervals starts stops ∷ r ∷ []) hq hc
-      (λ y. asked-next (agree 3 (length es) (length vs)) (agree 8 (length starts) (length stops) ∷ endsValid es ∷ intervals starts stops ∷ r ∷ []) hd hf
-      (λ y. asked-next (agree 8 (length starts) (length stops)) (endsValid es ∷ intervals starts stops ∷ r ∷ []) hg hn
-      (λ y. asked-next (endsValid es) (intervals starts stops ∷ r ∷ []) ho hp
-      (λ y. asked-last (intervals starts stops) hs hu (λ y. hv)))))
-
-pub reduce-yes : (es vs starts stops : List ℤ) (code : ℕ) (k b : List ℕ) → sliceReduceAsked (sequence es vs) starts stops code (length k ∷ length b ∷ []) ≡ none
-    → Reducible (sequence es vs) starts stops k b
+pub reduce-yes : (es vs starts stops : List ℤ) (code : ℕ) (k b : List ℕ)
+    → sliceReduceAsked (sequence es vs) starts stops code (length k ∷ length b ∷ []) ≡ none → Reducible (sequence es vs) starts stops k b
 unfolding sliceReduceAsked paired
 reduce-yes es vs starts stops code k b h =
     let y = all-yes (listed 0 2 code ∷ paired (sequence es vs) ∷ agree 8 (length starts) (length stops) ∷ endsValid es ∷ intervals starts stops

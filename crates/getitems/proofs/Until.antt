@@ -12,17 +12,16 @@ use lib.ListN.{length, getD, drop, set, length-drop}
 use lib.Seq.{getD-drop}
 use lib.Dec.{ltb}
 use borrow.Author.Tests.{leb-true, ltb-true, ltb-false, lt-ltb, le-ltb}
-use Rattle.num.specs.Numbers.{smallerOf, largerOf}
-use Rattle.num.proofs.Tests.{by-test}
+use Rattle.num.specs.Numbers.{smallerOf}
+use Rattle.num.proofs.Tests.{by-test, le-lt}
 use Rattle.column.specs.Questions.{endsValid}
 use Rattle.column.specs.Runs.{toNat, runsOf, lengthOfEnds, Filled}
-use Rattle.column.proofs.Naturals.{le-lt}
-use Rattle.slice.specs.declared.search.TouchedRuns.{TouchedRuns}
+use Rattle.slice.specs.declared.inner.search.TouchedRuns.{TouchedRuns}
 use Rattle.slice.specs.Calls.{firstWhere, firstEndAbove, sliceRuns}
 use Rattle.slice.specs.Workers.{firstEndAtLeast, touchedBy, Touches}
 use Rattle.slice.proofs.Searching.{where-below, where-at, least-above}
 use Rattle.slice.proofs.Slicing.{Slicing, slicing-start, slicing-next, slicing-end}
-use Rattle.slice.proofs.Touching.{touched-none, touched-some, touched-inside, touches, touched-count, cut-touched}
+use Rattle.slice.proofs.Touching.{Clamped, touched-none, touched-some, touched-inside, touches, touched-count, cut-touched}
 use Rattle.getitems.specs.Workers.{sought, found, SliceAt}
 
 -- ---- two tests, of which the looser passes all that the stricter does: the stricter one's end is looked for from the looser one's on
@@ -42,7 +41,8 @@ above-at-least : (x y : ℕ) → x < y → (e : ℤ) → leZ (pos y) e ≡ true 
 above-at-least x y h (pos e) t = lt-ltb x e (omega (arith, leb-true y e t))
 above-at-least x y h (negsuc e) t = cc
 
-least-on : (x y : ℕ) (es : List ℤ) → x < y → firstEndAbove (pos x) es + firstEndAtLeast (pos y) (drop (firstEndAbove (pos x) es) es) ≡ firstEndAtLeast (pos y) es
+least-on : (x y : ℕ) (es : List ℤ) → x < y → firstEndAbove (pos x) es + firstEndAtLeast (pos y) (drop (firstEndAbove (pos x) es) es) ≡ firstEndAtLeast (pos y)
+    es
 unfolding firstEndAbove firstEndAtLeast
 least-on x y es h = where-on (λ e. ltZ (pos x) e) (λ e. leZ (pos y) e) (above-at-least x y h) es
 
@@ -72,7 +72,8 @@ module _ (start stop : ℤ) (es : List ℤ) (k : 0 < touchedBy start stop es .co
   last-found =
       let h = ltb-true x y ordered in
       let m : suc (y - 1) ≡ y = omega arith in
-      let e : firstEndAbove (pos (y - 1)) es ≡ firstEndAtLeast (pos y) es = sym (least-above (y - 1) es) ∙ ap (λ (n : ℕ). firstEndAtLeast (pos n) es) m in
+      let e : firstEndAbove (pos (y - 1)) es ≡ firstEndAtLeast (pos y) es =
+      sym (least-above (y - 1) es) ∙ ap (λ (n : ℕ). firstEndAtLeast (pos n) es) m in
       rw ordered (omega (arith, least-on x y es h))
 
   -- a touched run that ends below the slice's end is not the last
@@ -93,16 +94,16 @@ module _ (start stop : ℤ) (es : List ℤ) (k : 0 < touchedBy start stop es .co
 
 -- ---- as the code finds them
 
-module _ (start stop : ℤ) (es : List ℤ) {f t : ℤ} (ef : f ≡ largerOf start (pos 0)) (et : t ≡ smallerOf stop (lengthOfEnds es)) (v : endsValid es ≡ none) where
+module _ {es : List ℤ} {start stop f t : ℤ} (c : Clamped es start stop f t) (v : endsValid es ≡ none) where
   pub count-none : leZ t f ≡ true → 0 ≡ touchedBy start stop es .count
-  count-none b = ap (λ (r : TouchedRuns). r .count) (touched-none start stop es ef et v b)
+  count-none b = ap (λ (r : TouchedRuns). r .count) (touched-none c v b)
 
   module _ (b : leZ t f ≡ false) where
     abbrev some : TouchedRuns
     some = record { first = firstEndAbove f es; count = firstEndAtLeast t (drop (firstEndAbove f es) es) + 1; start = f; end = t }
 
     some-is : some ≡ touchedBy start stop es
-    some-is = touched-some start stop es ef et v b refl refl
+    some-is = touched-some c v b refl refl
 
     pub count-some : 0 < touchedBy start stop es .count
     count-some = rw (sym some-is) (omega arith)
@@ -115,7 +116,8 @@ module _ (start stop : ℤ) (es : List ℤ) {f t : ℤ} (ef : f ≡ largerOf sta
           let j = last-found start stop es count-some in
           (omega (arith, count-some), omega (arith, count-some))
 
-      pub held-touched : {n : ℕ} → n ≡ touchedBy start stop es .count → _≡_ {A = TouchedRuns} (record { first = first; count = n; start = f; end = t }) (touchedBy start stop es)
+      pub held-touched : {n : ℕ} → n ≡ touchedBy start stop es .count
+          → _≡_ {A = TouchedRuns} (record { first = first; count = n; start = f; end = t }) (touchedBy start stop es)
       held-touched d =
           let i : first ≡ some .first = e ∙ first-found start stop es count-some ∙ ap (λ (r : TouchedRuns). r .first) (sym some-is) in
           let j = d ∙ ap (λ (r : TouchedRuns). r .count) (sym some-is) in
@@ -123,7 +125,7 @@ module _ (start stop : ℤ) (es : List ℤ) {f t : ℤ} (ef : f ≡ largerOf sta
 
 -- ---- the slice written, up to the run that is the last
 
--- n of its runs are written, and whether there are more is told
+-- n of its runs are written, and a flag says whether there are more
 pub record Until (t : TouchedRuns) (es vs e₀ e v₀ v : List ℤ) (n : ℕ) (more : Bool) : Type 0 where
   pub slicing : Slicing t es vs e₀ e v₀ v n
   pub told : more ≡ ltb n (t .count)
@@ -152,8 +154,8 @@ module _ {es vs e₀ v₀ : List ℤ} {first : ℕ} {start stop : ℤ} (p : Slic
       pub until-more : more ≡ true → n < t .count
       until-more h = ltb-true n (t .count) (sym (u .told) ∙ h)
 
-      pub until-next : more ≡ true → {x y z w : ℤ} → x ≡ getD es (t .first + n) (pos 0) → y ≡ smallerOf x (t .end) → z ≡ y -ℤ t .start → w ≡ getD vs (t .first + n) (pos 0)
-          → Until t es vs e₀ (set e n z) v₀ (set v n w) (n + 1) (ltZ x (t .end))
+      pub until-next : more ≡ true → {x y z w : ℤ} → x ≡ getD es (t .first + n) (pos 0) → y ≡ smallerOf x (t .end)
+          → z ≡ y -ℤ t .start → w ≡ getD vs (t .first + n) (pos 0) → Until t es vs e₀ (set e n z) v₀ (set v n w) (n + 1) (ltZ x (t .end))
       until-next h ex ey ez ew =
           let k = until-more h in
           let c : n < touchedBy start stop es .count = rw et at k in

@@ -14,6 +14,10 @@ use Rattle.getitems.specs.Calls.{intervalRuns}
 
 -- ---- searches beside each other
 
+-- how many: the constant BLOCK
+abbrev pub blockSize : ℕ
+blockSize = 16
+
 -- a position as clamped to the sequence, or so many before it
 unfoldable pub sought : List ℤ → ℕ → ℤ → ℕ
 sought es back p = min (toNat p) (toNat (lengthOfEnds es)) - back
@@ -22,27 +26,27 @@ sought es back p = min (toNat p) (toNat (lengthOfEnds es)) - back
 abbrev pub found : List ℤ → ℕ → ℤ → ℕ
 found es back p = firstEndAbove (pos (sought es back p)) es
 
--- sixteen searches, of which so many ends are left
+-- a block of searches, of which so many ends are left
 pub record Halvings (es : List ℤ) (qs ls : List ℕ) (size : ℕ) : Type 0 where
-  pub places-many : length qs ≡ 16
-  pub lows-many : length ls ≡ 16
-  pub small : (d : ℕ) → d < 16 → getD qs d 0 < 2 ^ 63
-  pub halves : (d : ℕ) → d < 16 → Halving (getD qs d 0) es (getD ls d 0) size
+  pub places-many : length qs ≡ blockSize
+  pub lows-many : length ls ≡ blockSize
+  pub small : (d : ℕ) → d < blockSize → getD qs d 0 < 2 ^ 63
+  pub halves : (d : ℕ) → d < blockSize → Halving (getD qs d 0) es (getD ls d 0) size
 
 -- those of the block at `from` begin
 pub record Begun (es ps : List ℤ) (from back : ℕ) (qs ls : List ℕ) : Type 0 where
   pub halvings : Halvings es qs ls (length es)
-  pub places : (d : ℕ) → d < 16 → getD qs d 0 ≡ sought es back (getD ps (from + d) (pos 0))
+  pub places : (d : ℕ) → d < blockSize → getD qs d 0 ≡ sought es back (getD ps (from + d) (pos 0))
 
 -- they have ended
 pub record Searched (es ps : List ℤ) (back from : ℕ) (bs : List ℕ) : Type 0 where
-  pub within : (d : ℕ) → d < 16 → getD bs d 0 ≤ length es
-  pub found-all : endsValid es ≡ none → (d : ℕ) → d < 16 → getD bs d 0 ≡ found es back (getD ps (from + d) (pos 0))
+  pub within : (d : ℕ) → d < blockSize → getD bs d 0 ≤ length es
+  pub found-all : endsValid es ≡ none → (d : ℕ) → d < blockSize → getD bs d 0 ≡ found es back (getD ps (from + d) (pos 0))
 
 -- before the position at i is looked for: those of its block are found, unless it is the first of the block
 pub record Kept (es ps : List ℤ) (back : ℕ) (bs : List ℕ) (i : ℕ) : Type 0 where
-  pub room : length bs ≡ 16
-  pub kept : (i % 16 ≡ 0 → ⊥) → Searched es ps back (i / 16 * 16) bs
+  pub room : length bs ≡ blockSize
+  pub kept : (i % blockSize ≡ 0 → ⊥) → Searched es ps back (i / blockSize * blockSize) bs
 
 -- ---- the calls
 
@@ -52,7 +56,7 @@ intervalCounts [] stops es = []
 intervalCounts (s ∷ ss) [] es = []
 intervalCounts (s ∷ ss) (e ∷ stops) es = touchedBy s e es .count ∷ intervalCounts ss stops es
 
--- every question of getitems answered "yes"
+-- what is known once getitems is not refused
 pub record Gettable (s : Sequence) (starts stops : List ℤ) (x : List ℕ) (e v : List ℤ) : Type 0 where
   pub valid : endsValid (s .ends) ≡ none
   pub paired : length (s .ends) ≡ length (s .values)
@@ -69,7 +73,7 @@ pub record SliceAt (es vs : List ℤ) (first : ℕ) (start stop : ℤ) (e v : Li
   pub room-ends : length (sliceRuns start stop (runsOf es vs)) ≤ length e
   pub room-values : length (sliceRuns start stop (runsOf es vs)) ≤ length v
 
--- every question of slice_reduce answered "yes"
+-- what is known once slice_reduce is not refused
 pub record Reducible (s : Sequence) (starts stops : List ℤ) (k b : List ℕ) : Type 0 where
   pub valid : endsValid (s .ends) ≡ none
   pub paired : length (s .ends) ≡ length (s .values)

@@ -1,7 +1,7 @@
 // Workers that assume what the calls have asked.
 pub mod searches;
 
-use column::sequence;
+use slice::inner::search;
 ghost use Prim.Native.Nat.{_<_, _^_};
 ghost use mathlib.Core.List.{map};
 ghost use mathlib.Core.Option.{none};
@@ -24,8 +24,9 @@ pub fn count_at(ends: &[i64], start: i64, stop: i64, first: usize, last: usize) 
         (endsValid (given ends)
         ≡ none → first ≡ found (given ends) 0 start → last ≡ found (given ends) 1 stop → r ≡ touchedBy start stop (given ends) .count) ⌝ }
 {
-    let from = num::larger(start, 0);
-    let to = num::smaller(stop, sequence::length(ends));
+    let interval = search::clamped(ends, start, stop);
+    let from = interval.start;
+    let to = interval.end;
     if to <= from {
         return 0;
     }
@@ -49,8 +50,9 @@ fn slice_at(
     requires { ⌜ SliceAt (now ends) (now values) first start stop (now «out_ends») (now «out_values») ⌝ }
     ensures { λ r. ⌜ Fills (sliceRuns start stop (runsOf (given ends) (given values))) «out_ends» «out_values» r ⌝ }
 {
-    let from = num::larger(start, 0);
-    let to = num::smaller(stop, sequence::length(ends));
+    let interval = search::clamped(ends, start, stop);
+    let from = interval.start;
+    let to = interval.end;
     if to <= from {
         return 0;
     }
@@ -67,7 +69,7 @@ fn slice_at(
     n
 }
 
-// The slice of each interval, behind those of the intervals before it.
+// The slice of each interval, after those of the intervals before it.
 pub fn getitems(
     ends: &[i64],
     values: &[i64],
@@ -77,7 +79,8 @@ pub fn getitems(
     out_ends: &mut [i64],
     out_values: &mut [i64],
 ) -> usize
-    requires { ⌜ Gettable (sequence (now ends) (now values)) (now starts) (now stops) (now «out_offsets») (now «out_ends») (now «out_values») ⌝ }
+    requires { ⌜ Gettable
+        (sequence (now ends) (now values)) (now starts) (now stops) (now «out_offsets») (now «out_ends») (now «out_values») ⌝ }
     ensures { λ r. ⌜ FillsFlat
         (intervalRuns (given starts) (given stops) (runsOf (given ends) (given values))) «out_offsets» «out_ends» «out_values» r ⌝ }
 {

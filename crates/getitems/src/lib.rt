@@ -22,7 +22,7 @@ ghost use Rattle.getitems.specs.Calls as calls;
 ghost use Rattle.getitems.specs.Workers.{intervalCounts};
 ghost use Rattle.column.specs.Lent.{given};
 
-// How many runs the slices of all intervals have.
+// How many runs the slices of all intervals have, saturating at usize::MAX.
 fn count_runs(ends: &[i64], starts: &[i64], stops: &[i64]) -> usize
     ensures { λ r. ⌜
         (endsValid (given ends) ≡ none →
@@ -61,11 +61,11 @@ fn getitems_asks(
         ≡ calls.getitemsAsked (givenSequence ends values) (given starts) (given stops) («out_offsets» ∷ «out_ends» ∷ «out_values» ∷ [])) ⌝ }
 {
     let runs = count_runs(ends, starts, stops);
-    let room = questions::ask_flat_room(starts.len() + 1, runs, out_offsets, out_ends, out_values);
-    let inside = questions::first_no(questions::ask_intervals(starts, stops), room);
-    let valid = questions::first_no(questions::ask_ends(ends), inside);
-    let paired = questions::first_no(questions::ask_lengths(8, starts.len(), stops.len()), valid);
-    questions::first_no(questions::ask_lengths(3, ends.len(), values.len()), paired)
+    questions::ask_lengths(3, ends.len(), values.len())
+        .and(questions::ask_lengths(8, starts.len(), stops.len()))
+        .and(questions::ask_ends(ends))
+        .and(questions::ask_intervals(starts, stops))
+        .and(questions::ask_flat_room(starts.len() + 1, runs, out_offsets, out_ends, out_values))
 }
 
 // The slices of many intervals, laid flat.
@@ -122,12 +122,12 @@ fn slice_reduce_asks(
     ensures { λ r. ⌜ shownAsked
         r ≡ calls.sliceReduceAsked (givenSequence ends values) (given starts) (given stops) code («out_kinds» ∷ «out_bits» ∷ []) ⌝ }
 {
-    let room = questions::ask_both(starts.len(), out_kinds, out_bits);
-    let inside = questions::first_no(questions::ask_intervals(starts, stops), room);
-    let valid = questions::first_no(questions::ask_ends(ends), inside);
-    let paired = questions::first_no(questions::ask_lengths(8, starts.len(), stops.len()), valid);
-    let lengths = questions::first_no(questions::ask_lengths(3, ends.len(), values.len()), paired);
-    questions::first_no(questions::ask_code(0, 2, code), lengths)
+    questions::ask_code(0, 2, code)
+        .and(questions::ask_lengths(3, ends.len(), values.len()))
+        .and(questions::ask_lengths(8, starts.len(), stops.len()))
+        .and(questions::ask_ends(ends))
+        .and(questions::ask_intervals(starts, stops))
+        .and(questions::ask_both(starts.len(), out_kinds, out_bits))
 }
 
 // The sum, mean or variance of the slice of each interval, by code: kind bytes, and 64 bits for each.

@@ -46,7 +46,8 @@ module _ (es vs : List ℤ) (l : length es ≡ length vs) where
     reduced-whole : endsValid es ≡ none → r .reduction ≡ reduction code ddof (runsOf es vs)
     reduced-whole n = w .answer (rises-whole n) ∙ ap (reduction code ddof) (whole-runs es vs l)
 
-    pub reduces-whole : firstNo (listed 0 2 code ∷ paired (sequence es vs) ∷ []) ≡ none → {x : Reduced} → shownReduced x ≡ endsPass (r .runs) (length es) otherwise r .reduction
+    pub reduces-whole : firstNo (listed 0 2 code ∷ paired (sequence es vs) ∷ []) ≡ none → {x : Reduced}
+        → shownReduced x ≡ endsPass (r .runs) (length es) otherwise r .reduction
         → Reduces (reduce (sequence es vs) code ddof) x
     unfolding reduce
     reduces-whole q {x} e =
@@ -54,16 +55,20 @@ module _ (es vs : List ℤ) (l : length es ≡ length vs) where
         let a = asked-whole (r .runs) (w .asked) in
         let e′ : shownReduced x ≡ endsValid es otherwise r .reduction = e ∙ ap (λ (p : Question). p otherwise r .reduction) a in
         record {
-          answer = e′ ∙ same-answer (endsValid es) (r .reduction) (reduction code ddof (runsOf es vs)) reduced-whole ∙ sym (rw (y .0, y .1 .0, alone (endsValid es)));
+          answer = e′ ∙ same-answer (endsValid es) (r .reduction) (reduction code ddof (runsOf es vs)) reduced-whole
+              ∙ sym (rw (y .0, y .1 .0, alone (endsValid es)));
           finite = finite-answer x (endsValid es) (r .reduction) e′ (λ n. w .finite (rises-whole n));
         }
 
-  pub sum-whole : SFits w64 (lengthOfEnds es) → {runs : ℕ} {total : ℤ} → SumOf (wholeOf es) es vs runs total → paired (sequence es vs) ≡ none → endsPass runs (length es) otherwise total ≡ sum (sequence es vs)
+  pub sum-whole : SFits w64 (lengthOfEnds es) → {runs : ℕ} {total : ℤ} → SumOf (wholeOf es) es vs runs total → paired (sequence es vs) ≡ none
+      → endsPass runs (length es) otherwise total ≡ sum (sequence es vs)
   unfolding sum reduction
   sum-whole f {runs} {total} s q =
       let w = sum-reduced (wholeOf es) es vs (whole-window es vs l f) (pos 0) refl s in
       let k : endsValid es ≡ none → total ≡ sumRuns (runsOf es vs) = λ n. let z = reduced-whole 0 (pos 0) w n in cc in
-      ap (λ (p : Question). p otherwise total) (asked-whole runs (s .asked)) ∙ same-answer (endsValid es) total (sumRuns (runsOf es vs)) k ∙ sym (rw (q, alone (endsValid es)))
+      ap (λ (p : Question). p otherwise total) (asked-whole runs (s .asked))
+      ∙ same-answer (endsValid es) total (sumRuns (runsOf es vs)) k
+      ∙ sym (rw (q, alone (endsValid es)))
 
 -- ---- what was refused before
 

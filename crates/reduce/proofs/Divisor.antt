@@ -13,7 +13,7 @@ use borrow.Author.Tests.{leb-true, leb-false, le-leb, lt-leb}
 use Rattle.num.specs.Numbers.{wrap, largerOf}
 use Rattle.num.proofs.Tests.{by-test}
 use Rattle.column.specs.Runs.{toNat}
-use Rattle.slice.proofs.Difference.{difference}
+use Rattle.num.proofs.Difference.{difference}
 use Rattle.reduce.specs.Workers.{divisorOf}
 
 -- a length above ddof, less ddof

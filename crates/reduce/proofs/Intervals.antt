@@ -21,7 +21,7 @@ use Rattle.column.specs.Paper.{answers, paper}
 use Rattle.column.specs.Questions.{endsValid}
 use Rattle.column.specs.Runs.{runsOf}
 use Rattle.column.proofs.Buffer.{Written, write-start, write-next}
-use Rattle.slice.specs.declared.search.TouchedRuns.{TouchedRuns}
+use Rattle.slice.specs.declared.inner.search.TouchedRuns.{TouchedRuns}
 use Rattle.slice.specs.Workers.{touchedBy}
 use Rattle.slice.specs.Calls.{sliceRuns}
 use Rattle.reduce.specs.declared.Reduction.{Reduction}
@@ -32,14 +32,15 @@ use Rattle.reduce.proofs.Windows.{window-of, window-rises, window-slice
 
 -- a float of an answer has bits
 pub finite-no-nan : (x : Float) → T (finite x) → T (not (isNan x))
-unfolding isNan finite
+unfolding isNan
 finite-no-nan nan h = absurd h
 finite-no-nan (inf s) h = tt
 finite-no-nan (fin s m e) h = tt
 
 -- ---- of a slice, by the runs that the code found
 
-module _ (es vs : List ℤ) (valid : endsValid es ≡ none) (l : length es ≡ length vs) (x y : ℤ) {t : TouchedRuns} (et : endsValid es ≡ none → t ≡ touchedBy x y es) where
+module _ (es vs : List ℤ) (valid : endsValid es ≡ none) (l : length es ≡ length vs) (x y : ℤ) {t : TouchedRuns}
+    (et : endsValid es ≡ none → t ≡ touchedBy x y es) where
   pub slice-window : mag (t .end) < 2 ^ 63 → Window t es vs
   slice-window f = rw (et valid) (window-of x y es vs valid l (rw (et valid) at f))
 
@@ -65,7 +66,8 @@ filling-start rs k₀ b₀ = record { kinds = write-start kindOf k₀; bits = wr
 pub filling-next : {rs : List Reduction} {k₀ k b₀ b : List ℕ} {i : ℕ} → Filling rs k₀ k b₀ b i → i < length rs → length rs ≤ length k₀ → length rs ≤ length b₀
     → {r : Reduction} (d : Reduction) → r ≡ getD rs i d → {x y : ℕ} → x ≡ kindOf r → y ≡ bitsOf r → Filling rs k₀ (set k i x) b₀ (set b i y) (i + 1)
 filling-next {rs = rs} {i = i} s h hk hb {r} d er ex ey =
-    let next : take (i + 1) rs ≡ take i rs ++ r ∷ [] = ap (λ (n : ℕ). take n rs) (add-one i) ∙ take-suc rs i d h ∙ ap (λ (a : Reduction). take i rs ++ a ∷ []) (sym er) in
+    let next : take (i + 1) rs ≡ take i rs ++ r ∷ [] = ap (λ (n : ℕ). take n rs) (add-one i) ∙ take-suc rs i d h
+    ∙ ap (λ (a : Reduction). take i rs ++ a ∷ []) (sym er) in
     record {
       kinds = rw next (write-next kindOf (s .kinds) (omega arith) r ex);
       bits = rw next (write-next bitsOf (s .bits) (omega arith) r ey);
@@ -79,8 +81,10 @@ filling-end {rs = rs} {i = i} s h =
 
 -- ---- what a worker wrote, after a "yes" to every question, is what a call promises; and so is what was there, after a "no"
 
-pub reductions-written : {q : Question} (rs : List Reduction) {k k′ b b′ : List ℕ} {n : ℕ} → q ≡ none → FilledReductions rs k k′ b b′ n → WrittenReductions (q otherwise rs) (Counted.Count n) k k′ b b′
+pub reductions-written : {q : Question} (rs : List Reduction) {k k′ b b′ : List ℕ} {n : ℕ} → q ≡ none → FilledReductions rs k k′ b b′ n
+    → WrittenReductions (q otherwise rs) (Counted.Count n) k k′ b b′
 reductions-written rs h f = rw h (record { answer = ap answers (f .count); kinds = f .kinds; bits = f .bits })
 
-pub reductions-refused : {q : Question} (rs : List Reduction) {r : Refusal} {k b : List ℕ} → q ≡ some (paper r) → WrittenReductions (q otherwise rs) (Counted.Refused r) k k b b
+pub reductions-refused : {q : Question} (rs : List Reduction) {r : Refusal} {k b : List ℕ} → q ≡ some (paper r)
+    → WrittenReductions (q otherwise rs) (Counted.Refused r) k k b b
 reductions-refused rs h = rw h (record { answer = refl; kinds = refl; bits = refl })

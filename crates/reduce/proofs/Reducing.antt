@@ -15,7 +15,7 @@ use mir.Syntax.{w64}
 use mir.Val.{SFits}
 use borrow.Author.Tests.{leb-true, leb-false, ne-eqb, le-leb, lt-leb, lt-ltb}
 use Rattle.num.specs.Numbers.{wrap}
-use Rattle.num.proofs.Tests.{by-test}
+use Rattle.num.proofs.Tests.{by-test, both-true}
 use Rattle.float.specs.Float.{converted, Within}
 use Rattle.float.proofs.Converted.{converted-one}
 use Rattle.float.proofs.Operations.{div-within}
@@ -25,9 +25,8 @@ use Rattle.column.specs.Runs.{toNat, runsOf, lengthOf, lastFrom}
 use Rattle.column.proofs.Ends.{from-check, runs-rise}
 use Rattle.column.proofs.Naturals.{to-nat-below}
 use Rattle.column.proofs.Rising.{Rising}
-use Rattle.column.proofs.Told.{both-true}
-use Rattle.slice.specs.declared.search.TouchedRuns.{TouchedRuns}
-use Rattle.slice.proofs.Difference.{difference-of}
+use Rattle.slice.specs.declared.inner.search.TouchedRuns.{TouchedRuns}
+use Rattle.num.proofs.Difference.{difference-of}
 use Rattle.reduce.specs.declared.Reduction.{Reduction}
 use Rattle.reduce.specs.declared.Reduction.the-variants.{Whole, Fraction, Nothing}
 use Rattle.reduce.specs.Calls.{foldRuns, addWeight, addProduct, addSquare, plusZero, sumRuns, meanOf, varianceOf, hasVariance, reduction}
@@ -52,7 +51,8 @@ module _ (t : TouchedRuns) (es vs : List ℤ) (mean : Float) (d : ℤ) (nat : d 
       let z : toNat d ≡ 0 = omega (arith, leb-true (toNat d) 0 (ap (λ (z : ℤ). leZ z (pos 0)) (sym nat) ∙ h)) in
       record { none-by-zero = λ e. refl; answer = λ n. absurd (n (nat ∙ ap pos z)); finite = tt }
 
-  pub variance-some : leZ d (pos 0) ≡ false → SFits w64 d → {total x : Float} → SquaresOf mean t es vs total → Within 180 mean → x ≡ div binary64 total (converted d)
+  pub variance-some : leZ d (pos 0) ≡ false → SFits w64 d → {total x : Float} → SquaresOf mean t es vs total → Within 180 mean
+      → x ≡ div binary64 total (converted d)
       → VarianceBy d t es vs mean (Fraction (record { mean = mean; variance = x }))
   variance-some h f {total} {x} q k ex =
       let p : 0 < toNat d = leb-false (toNat d) 0 (ap (λ (z : ℤ). leZ z (pos 0)) (sym nat) ∙ h) in
@@ -72,7 +72,8 @@ module _ (t : TouchedRuns) (es vs : List ℤ) (w : Window t es vs) where
   rising-runs n = runs-rise (toNat (t .start)) (windowEnds t es) (windowValues t vs)
       (from-check (toNat (t .start)) 0 (windowEnds t es) (ap (λ (z : ℤ). endsFrom 0 z (windowEnds t es)) (sym (w .natural)) ∙ n))
 
-  folds : {A : Type 0} (step : A → ℕ → ℤ → A) (a : A) → Rises → foldRuns step a (toNat (t .start)) (runsOf (windowEnds t es) (windowValues t vs)) ≡ foldRuns step a 0 (windowRuns t es vs)
+  folds : {A : Type 0} (step : A → ℕ → ℤ → A) (a : A) → Rises
+      → foldRuns step a (toNat (t .start)) (runsOf (windowEnds t es) (windowValues t vs)) ≡ foldRuns step a 0 (windowRuns t es vs)
   folds step a n = fold-counted step a (toNat (t .start)) _ (rising-runs n)
 
   -- where not all ends rise, they are refused
@@ -84,11 +85,13 @@ module _ (t : TouchedRuns) (es vs : List ℤ) (w : Window t es vs) where
 
   -- ---- the sum
 
-  pub sum-reduced : (ddof : ℤ) {code runs : ℕ} {total : ℤ} → code ≡ 0 → SumOf t es vs runs total → ReducesWindow code ddof t es vs (record { runs = runs; reduction = Whole total })
+  pub sum-reduced : (ddof : ℤ) {code runs : ℕ} {total : ℤ} → code ≡ 0 → SumOf t es vs runs total
+      → ReducesWindow code ddof t es vs (record { runs = runs; reduction = Whole total })
   unfolding reduction sumRuns
   sum-reduced ddof {code} {runs} {total} e s = record {
     asked = s .asked;
-    answer = λ n. rw e (ap Whole (s .folded n ∙ wrapped-fold (toNat (t .start)) (runsOf (windowEnds t es) (windowValues t vs)) ∙ ap wrap (folds addWeight (pos 0) n)));
+    answer = λ n. rw e
+        (ap Whole (s .folded n ∙ wrapped-fold (toNat (t .start)) (runsOf (windowEnds t es) (windowValues t vs)) ∙ ap wrap (folds addWeight (pos 0) n)));
     finite = λ n. tt;
   }
 
@@ -149,7 +152,8 @@ module _ (t : TouchedRuns) (es vs : List ℤ) (w : Window t es vs) where
         unfolding meanOf
         mean-is = ex ∙ ap₂ (div binary64) (et ∙ folds addProduct plusZero n) (ap converted length-is)
 
-        pub mean-reduced : (ddof : ℤ) {code : ℕ} → code ≡ 1 → Within 180 total → ReducesWindow code ddof t es vs (record { runs = t .count; reduction = Fraction (record { mean = x; variance = x }) })
+        pub mean-reduced : (ddof : ℤ) {code : ℕ} → code ≡ 1 → Within 180 total
+            → ReducesWindow code ddof t es vs (record { runs = t .count; reduction = Fraction (record { mean = x; variance = x }) })
         unfolding reduction
         mean-reduced ddof {code} c k =
             let f = within-finite 180 x (mean-within k) in
@@ -160,20 +164,22 @@ module _ (t : TouchedRuns) (es vs : List ℤ) (w : Window t es vs) where
             }
 
         -- the variance around it
-        pub variance-reduced : (ddof : ℤ) {code : ℕ} → (code ≡ 0 → ⊥) → (code ≡ 1 → ⊥) → (d : ℤ) → d ≡ divisorOf (t .end -ℤ t .start) ddof → (r : Reduction) → VarianceBy d t es vs x r
-            → ReducesWindow code ddof t es vs (record { runs = t .count; reduction = r })
+        pub variance-reduced : (ddof : ℤ) {code : ℕ} → (code ≡ 0 → ⊥) → (code ≡ 1 → ⊥) → (d : ℤ) → d ≡ divisorOf (t .end -ℤ t .start) ddof
+            → (r : Reduction) → VarianceBy d t es vs x r → ReducesWindow code ddof t es vs (record { runs = t .count; reduction = r })
         unfolding reduction hasVariance divisorOf varianceOf
         variance-reduced ddof {code} c0 c1 d ed r v =
             let rs = windowRuns t es vs in
             let left = pos (lengthOf rs) -ℤ ddof in
             let b = leZ (pos 1) left && ltZ left (pos (2 ^ 63)) in
-            let ed′ : d ≡ cond b left (pos 0) = ed ∙ ap (λ (z : ℤ). cond (leZ (pos 1) (z -ℤ ddof) && ltZ (z -ℤ ddof) (pos (2 ^ 63))) (z -ℤ ddof) (pos 0)) length-is in
+            let ed′ : d ≡ cond b left (pos 0) =
+            ed ∙ ap (λ (z : ℤ). cond (leZ (pos 1) (z -ℤ ddof) && ltZ (z -ℤ ddof) (pos (2 ^ 63))) (z -ℤ ddof) (pos 0)) length-is in
             record {
               asked = all-asked;
               answer = λ _. rw (ne-eqb code 0 c0, ne-eqb code 1 c1, lt-ltb 0 (lengthOf rs) length-some) (by-test b
                   (λ y. let e : d ≡ left = ed′ ∙ rw y in
                   let q = v .answer (λ z. not-zero left (both-true _ _ y .0) (sym e ∙ z)) in
-                  rw (y, ← mean-is) (q ∙ ap₂ (λ (a : Float) (z : ℤ). Fraction (record { mean = x; variance = div binary64 a (converted z) })) (folds (addSquare x) plusZero n) e))
+                  rw (y, ← mean-is)
+                  (q ∙ ap₂ (λ (a : Float) (z : ℤ). Fraction (record { mean = x; variance = div binary64 a (converted z) })) (folds (addSquare x) plusZero n) e))
                   (λ y. let e : d ≡ pos 0 = ed′ ∙ rw y in rw y (v .none-by-zero e)));
               finite = λ _. v .finite;
             }

@@ -34,7 +34,8 @@ fold-adds a p (r ∷ rs) =
     let w = pos (r .end - p) *ℤ r .value in
     let d = adds (denseFrom (r .end) rs) in
     fold-adds (a +ℤ w) (r .end) rs ∙ +ℤ-assoc a w d
-    ∙ ap (λ (z : ℤ). a +ℤ z) (ap (λ (z : ℤ). z +ℤ d) (sym (adds-replicate (r .end - p) (r .value))) ∙ sym (adds-append (replicate (r .end - p) (r .value)) (denseFrom (r .end) rs)))
+    ∙ ap (λ (z : ℤ). a +ℤ z) (ap (λ (z : ℤ). z +ℤ d) (sym (adds-replicate (r .end - p) (r .value)))
+    ∙ sym (adds-append (replicate (r .end - p) (r .value)) (denseFrom (r .end) rs)))
 
 pub sum-dense : (rs : Runs) → sumRuns rs ≡ wrap (adds (dense rs))
 unfolding sumRuns dense

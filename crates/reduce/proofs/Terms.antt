@@ -1,4 +1,5 @@
--- What a step of a mean or of a variance adds, and how large a sum can become: the terms of a mean are below 2^126, its sums below 2^180, however many they are;
+-- What a step of a mean or of a variance adds, and how large a sum can become: the terms of a mean are below 2^126, its sums below 2^180,
+-- however many they are;
 -- those of a variance below 2^423 and 2^480.
 -- Assumes nothing.
 use Prim.Native.Nat.{ℕ}

@@ -17,7 +17,7 @@ use Rattle.column.specs.Questions.{endsFrom}
 use Rattle.column.specs.Runs.{toNat, runsOf, lastFrom}
 use Rattle.column.specs.Workers.{RisingEnds}
 use Rattle.column.proofs.Ends.{from-check, rising-yes}
-use Rattle.slice.specs.declared.search.TouchedRuns.{TouchedRuns}
+use Rattle.slice.specs.declared.inner.search.TouchedRuns.{TouchedRuns}
 use Rattle.reduce.specs.Calls.{foldRuns}
 use Rattle.reduce.specs.Workers.{Walked, Window, bodyOf, windowEnds, windowValues, Totalled}
 use Rattle.reduce.proofs.Walking.{rising-front, rising-no}
@@ -72,7 +72,8 @@ module _ (t : TouchedRuns) (es vs : List ℤ) (w : Window t es vs) where
     ends-long = rw (ends-are, length-append, body-long t es (w .inside)) (omega (arith, some))
 
     pub body-walked : {A : Type 0} {step : A → ℕ → ℤ → A} {P : A → Type 0} {first : A} {i : ℕ} {end : ℤ} {total : A}
-        → Walked step P first (toNat (t .start)) (bodyOf t es) (bodyOf t vs) i end total → Walked step P first (toNat (t .start)) (windowEnds t es) (windowValues t vs) i end total
+        → Walked step P first (toNat (t .start)) (bodyOf t es) (bodyOf t vs) i end total
+        → Walked step P first (toNat (t .start)) (windowEnds t es) (windowValues t vs) i end total
     body-walked k = rw (ends-are, values-are) (walked-more (t .end ∷ []) _ k bodies-paired)
 
     values-long : length (windowEnds t es) ≡ length (windowValues t vs)
@@ -82,8 +83,10 @@ module _ (t : TouchedRuns) (es vs : List ℤ) (w : Window t es vs) where
     end-in-body i h = rw ends-are (List·getD-append (bodyOf t es) (t .end ∷ []) (pos 0) i (rw (body-long t es (w .inside)) h))
 
     -- where the ends of all rise
-    pub body-rises : endsFrom 0 (t .start) (windowEnds t es) ≡ none → RisingEnds (toNat (t .start)) (bodyOf t es) × (ltZ (lastFrom (pos (toNat (t .start))) (bodyOf t es)) (t .end) ≡ true)
-    body-rises n = rising-front (toNat (t .start)) (bodyOf t es) (t .end) (rw ends-are at (from-check (toNat (t .start)) 0 (windowEnds t es) (sym from-start ∙ n)))
+    pub body-rises : endsFrom 0 (t .start) (windowEnds t es) ≡ none → RisingEnds (toNat (t .start)) (bodyOf t es)
+        × (ltZ (lastFrom (pos (toNat (t .start))) (bodyOf t es)) (t .end) ≡ true)
+    body-rises n = rising-front (toNat (t .start)) (bodyOf t es) (t .end)
+        (rw ends-are at (from-check (toNat (t .start)) 0 (windowEnds t es) (sym from-start ∙ n)))
 
     pub last-end : (i : ℕ) → i ≡ t .count - 1 → getD (windowEnds t es) i (pos 0) ≡ t .end
     last-end i e =
@@ -103,7 +106,8 @@ module _ (t : TouchedRuns) (es vs : List ℤ) (w : Window t es vs) where
       pub total-refused : i < t .count → ltZ end (getD (windowEnds t es) i (pos 0)) ≡ false → Totalled step P first t es vs i total
       total-refused h g =
           let q : endsFrom 0 (t .start) (windowEnds t es) ≡ refusal 4 (pos i ∷ []) =
-          from-start ∙ rising-no 0 (toNat (t .start)) (windowEnds t es) i (k .rising) (rw ends-long h) (rw (← k .last) g) ∙ ap (λ (n : ℕ). refusal 4 (pos n ∷ [])) (zero-add i) in
+          from-start ∙ rising-no 0 (toNat (t .start)) (windowEnds t es) i (k .rising) (rw ends-long h) (rw (← k .last) g)
+          ∙ ap (λ (n : ℕ). refusal 4 (pos n ∷ [])) (zero-add i) in
           record {
             asked = q ∙ sym (rw (lt-leb (t .count) i h));
             folded = λ e. absurd (let z : _≡_ {A = Question} (refusal 4 (pos i ∷ [])) none = sym q ∙ e in let x : _≡_ {A = ℕ} 0 1 = cc in omega arith);
@@ -116,7 +120,8 @@ module _ (t : TouchedRuns) (es vs : List ℤ) (w : Window t es vs) where
           let a : take i (windowEnds t es) ≡ windowEnds t es = take-all i (windowEnds t es) (rw ends-long (omega arith)) in
           let b : take i (windowValues t vs) ≡ windowValues t vs = take-all i (windowValues t vs) (rw (← values-long, ends-long) (omega arith)) in
           record {
-            asked = from-start ∙ rising-yes 0 (toNat (t .start)) (windowEnds t es) (rw a at (k .rising)) ∙ sym (rw (le-leb (t .count) (t .count) (omega arith)));
+            asked = from-start ∙ rising-yes 0 (toNat (t .start)) (windowEnds t es) (rw a at (k .rising))
+                ∙ sym (rw (le-leb (t .count) (t .count) (omega arith)));
             folded = λ n. rw (a, b) at (k .folded);
             kept = k .kept;
           }

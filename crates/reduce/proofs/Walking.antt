@@ -21,11 +21,16 @@ use Rattle.column.specs.Asking.{refusal}
 use Rattle.column.specs.Questions.{endsFrom}
 use Rattle.column.specs.Runs.{toNat, runsOf, lastFrom}
 use Rattle.column.specs.Workers.{RisingEnds}
-use Rattle.slice.proofs.Difference.{difference-of, difference-fits}
+use Rattle.num.proofs.Difference.{difference-of, difference-fits}
 use Rattle.reduce.specs.Calls.{foldRuns}
 use Rattle.reduce.specs.Workers.{Walked, Stopped, ExactRun, ExactUpTo, ExactProducts}
 
--- ---- one end more behind ends that rise
+-- ---- an entry as a local holds it
+
+abbrev pub heldAt : List ℤ → ℕ → ℤ
+heldAt xs i = toZ w64 (ofZ w64 (getD xs i (pos 0)))
+
+-- ---- one end more after ends that rise
 
 pub above : (p : ℕ) (e : ℤ) → ltZ (pos p) e ≡ true → (e ≡ pos (toNat e)) × (p < toNat e)
 above p (pos n) h = (refl, ltb-true p n h)
@@ -41,14 +46,14 @@ last-above p [] r = omega arith
 last-above p (pos x ∷ xs) r = omega (arith, last-above x xs (r .2), r .1)
 last-above p (negsuc x ∷ xs) r = absurd (let z : _≡_ {A = ℕ} 0 1 = cc in omega arith)
 
-pub last-behind : (p : ℤ) (xs : List ℤ) (e : ℤ) → lastFrom p (xs ++ e ∷ []) ≡ e
-last-behind p [] e = refl
-last-behind p (x ∷ xs) e = last-behind x xs e
+pub last-after : (p : ℤ) (xs : List ℤ) (e : ℤ) → lastFrom p (xs ++ e ∷ []) ≡ e
+last-after p [] e = refl
+last-after p (x ∷ xs) e = last-after x xs e
 
-pub rising-behind : (p : ℕ) (xs : List ℤ) (e : ℤ) → RisingEnds p xs → ltZ (lastFrom (pos p) xs) e ≡ true → RisingEnds p (xs ++ e ∷ [])
-rising-behind p [] e r h = let a = above p e h in (a .0, a .1, tt)
-rising-behind p (pos x ∷ xs) e r h = (r .0, r .1, rising-behind x xs e (r .2) h)
-rising-behind p (negsuc x ∷ xs) e r h = absurd (let z : _≡_ {A = ℕ} 0 1 = cc in omega arith)
+pub rising-after : (p : ℕ) (xs : List ℤ) (e : ℤ) → RisingEnds p xs → ltZ (lastFrom (pos p) xs) e ≡ true → RisingEnds p (xs ++ e ∷ [])
+rising-after p [] e r h = let a = above p e h in (a .0, a .1, tt)
+rising-after p (pos x ∷ xs) e r h = (r .0, r .1, rising-after x xs e (r .2) h)
+rising-after p (negsuc x ∷ xs) e r h = absurd (let z : _≡_ {A = ℕ} 0 1 = cc in omega arith)
 
 pub rising-front : (p : ℕ) (xs : List ℤ) (e : ℤ) → RisingEnds p (xs ++ e ∷ []) → RisingEnds p xs × (ltZ (lastFrom (pos p) xs) e ≡ true)
 rising-front p [] (pos e) r = (tt, lt-ltb p e (r .1))
@@ -56,14 +61,14 @@ rising-front p [] (negsuc e) r = absurd (let z : _≡_ {A = ℕ} 0 1 = cc in ome
 rising-front p (pos x ∷ xs) e r = let f = rising-front x xs e (r .2) in ((r .0, r .1, f .0), f .1)
 rising-front p (negsuc x ∷ xs) e r = absurd (let z : _≡_ {A = ℕ} 0 1 = cc in omega arith)
 
-pub fold-behind : {A : Type 0} (step : A → ℕ → ℤ → A) (a : A) (p : ℕ) (xs ys : List ℤ) (e v : ℤ) → RisingEnds p xs → length xs ≡ length ys
+pub fold-after : {A : Type 0} (step : A → ℕ → ℤ → A) (a : A) (p : ℕ) (xs ys : List ℤ) (e v : ℤ) → RisingEnds p xs → length xs ≡ length ys
     → foldRuns step a p (runsOf (xs ++ e ∷ []) (ys ++ v ∷ [])) ≡ step (foldRuns step a p (runsOf xs ys)) (toNat e - toNat (lastFrom (pos p) xs)) v
 unfolding foldRuns runsOf
-fold-behind step a p [] [] e v r l = refl
-fold-behind step a p [] (y ∷ ys) e v r l = let z : ⊥ = omega arith in absurd z
-fold-behind step a p (x ∷ xs) [] e v r l = let z : ⊥ = omega arith in absurd z
-fold-behind step a p (pos x ∷ xs) (y ∷ ys) e v r l = fold-behind step (step a (x - p) y) x xs ys e v (r .2) (omega arith)
-fold-behind step a p (negsuc x ∷ xs) (y ∷ ys) e v r l = absurd (let z : _≡_ {A = ℕ} 0 1 = cc in omega arith)
+fold-after step a p [] [] e v r l = refl
+fold-after step a p [] (y ∷ ys) e v r l = let z : ⊥ = omega arith in absurd z
+fold-after step a p (x ∷ xs) [] e v r l = let z : ⊥ = omega arith in absurd z
+fold-after step a p (pos x ∷ xs) (y ∷ ys) e v r l = fold-after step (step a (x - p) y) x xs ys e v (r .2) (omega arith)
+fold-after step a p (negsuc x ∷ xs) (y ∷ ys) e v r l = absurd (let z : _≡_ {A = ℕ} 0 1 = cc in omega arith)
 
 -- ---- a run whose end rises
 
@@ -107,7 +112,8 @@ module _ {A : Type 0} (step : A → ℕ → ℤ → A) (P : A → Type 0) (first
   unfolding foldRuns runsOf
   walked-start k s = record { inside = omega arith; rising = tt; last = s; folded = refl; kept = k }
 
-module _ {A : Type 0} {step : A → ℕ → ℤ → A} {P : A → Type 0} {first : A} {p : ℕ} {es vs : List ℤ} {i : ℕ} {end : ℤ} {total : A} (w : Walked step P first p es vs i end total) where
+module _ {A : Type 0} {step : A → ℕ → ℤ → A} {P : A → Type 0} {first : A} {p : ℕ} {es vs : List ℤ} {i : ℕ} {end : ℤ} {total : A}
+    (w : Walked step P first p es vs i end total) where
   pub end-natural : end ≡ pos (toNat end)
   end-natural = rw (w .last) (last-natural p (take i es) (w .rising))
 
@@ -120,12 +126,14 @@ module _ {A : Type 0} {step : A → ℕ → ℤ → A} {P : A → Type 0} {first
         let values : take (i + 1) vs ≡ take i vs ++ v ∷ [] = rw (add-one i, take-suc vs i (pos 0) (omega arith), ev) in
         let g′ : ltZ (lastFrom (pos p) (take i es)) e ≡ true = rw (← w .last) g in
         let long : length (take i es) ≡ length (take i vs) = length-take-le i es (omega arith) ∙ sym (length-take-le i vs (omega arith)) in
-        let m : toNat run ≡ toNat e - toNat (lastFrom (pos p) (take i es)) = ap toNat (er ∙ run-is end-natural e g) ∙ ap (λ (z : ℤ). toNat e - toNat z) (w .last) in
+        let m : toNat run ≡ toNat e - toNat (lastFrom (pos p) (take i es)) =
+        ap toNat (er ∙ run-is end-natural e g) ∙ ap (λ (z : ℤ). toNat e - toNat z) (w .last) in
+        let one = fold-after step first p (take i es) (take i vs) e v (w .rising) long in
         record {
           inside = omega arith;
-          rising = rw ends (rising-behind p (take i es) e (w .rising) g′);
-          last = rw ends (sym (last-behind (pos p) (take i es) e));
-          folded = et ∙ ap₂ (λ (a : A) (n : ℕ). step a n v) (w .folded) m ∙ sym (rw (ends, values) (fold-behind step first p (take i es) (take i vs) e v (w .rising) long));
+          rising = rw ends (rising-after p (take i es) e (w .rising) g′);
+          last = rw ends (sym (last-after (pos p) (take i es) e));
+          folded = et ∙ ap₂ (λ (a : A) (n : ℕ). step a n v) (w .folded) m ∙ sym (rw (ends, values) one);
           kept = k;
         }
 
@@ -137,8 +145,8 @@ module _ {A : Type 0} {step : A → ℕ → ℤ → A} {P : A → Type 0} {first
 
 -- ---- runs that are converted with nothing rounded
 
-pub exact-next : {p : ℕ} {es vs : List ℤ} {i : ℕ} {end : ℤ} {total : Float} → ExactProducts p es vs i end total → {e v : ℤ} → e ≡ getD es i (pos 0) → v ≡ getD vs i (pos 0)
-    → ExactRun end e v → ExactUpTo (i + 1) p es vs
+pub exact-next : {p : ℕ} {es vs : List ℤ} {i : ℕ} {end : ℤ} {total : Float} → ExactProducts p es vs i end total
+    → {e v : ℤ} → e ≡ getD es i (pos 0) → v ≡ getD vs i (pos 0) → ExactRun end e v → ExactUpTo (i + 1) p es vs
 exact-next {p} {es} {vs} {i} x ee ev r j h =
     by-test (ltb j i)
     (λ t. x .exact j (ltb-true j i t))

@@ -21,17 +21,18 @@ use Rattle.column.specs.Runs.{Runs, toNat, runsOf, lastEnd, lengthOf, lastFrom,
 use Rattle.column.specs.Workers.{RisingEnds}
 use Rattle.column.proofs.Ends.{rising, rising-yes, length-of-ends}
 use Rattle.column.proofs.Rising.{Rising}
-use Rattle.slice.specs.declared.search.TouchedRuns.{TouchedRuns}
+use Rattle.slice.specs.declared.inner.search.TouchedRuns.{TouchedRuns}
 use Rattle.slice.specs.Calls.{firstWhere, firstEndAbove, cut, sliceRuns}
 use Rattle.slice.specs.Workers.{firstEndAtLeast, touchedBy}
-use Rattle.slice.proofs.Difference.{difference-fits}
+use Rattle.num.proofs.Difference.{difference-fits}
 use Rattle.slice.proofs.Touching.{count-inside, rising-lower}
 use Rattle.reduce.specs.Calls.{foldRuns}
 use Rattle.reduce.specs.Workers.{Window, wholeOf, windowEnds, windowValues, windowRuns, countedFrom}
 
 -- ---- the touched runs are a window
 
-pub window-of : (start end : ℤ) (es vs : List ℤ) → endsValid es ≡ none → length es ≡ length vs → mag (touchedBy start end es .end) < 2 ^ 63 → Window (touchedBy start end es) es vs
+pub window-of : (start end : ℤ) (es vs : List ℤ) → endsValid es ≡ none → length es ≡ length vs → mag (touchedBy start end es .end) < 2 ^ 63
+    → Window (touchedBy start end es) es vs
 unfolding touchedBy
 window-of start end es vs v l f =
     let x = toNat start in
@@ -66,7 +67,8 @@ some-runs n = ne-eqb (n + 1) 0 (λ e. omega arith)
 all-but-last : (n : ℕ) → n + 1 - 1 ≡ n
 all-but-last n = omega arith
 
-pub window-rises : (start end : ℤ) (es : List ℤ) → endsValid es ≡ none → endsFrom 0 (touchedBy start end es .start) (windowEnds (touchedBy start end es) es) ≡ none
+pub window-rises : (start end : ℤ) (es : List ℤ) → endsValid es ≡ none
+    → endsFrom 0 (touchedBy start end es .start) (windowEnds (touchedBy start end es) es) ≡ none
 unfolding touchedBy windowEnds endsFrom
 window-rises start end es v =
     let x = toNat start in
@@ -74,7 +76,8 @@ window-rises start end es v =
     let ds = drop (firstEndAbove (pos x) es) es in
     let n = firstEndAtLeast (pos y) ds in
     by-test (ltb x y)
-    (λ t. rw (t, some-runs n, all-but-last n) (rising-yes 0 x (take n ds ++ pos y ∷ []) (rising-up x y ds (rising-above x 0 es (rising es v)) (ltb-true x y t))))
+    (λ t. rw (t, some-runs n, all-but-last n)
+    (rising-yes 0 x (take n ds ++ pos y ∷ []) (rising-up x y ds (rising-above x 0 es (rising es v)) (ltb-true x y t))))
     (λ t. rw t)
 
 -- ---- its runs are those of the slice
@@ -95,7 +98,8 @@ cut-up x y (negsuc e ∷ es) (v ∷ vs) r l = absurd (let z : _≡_ {A = ℕ} 0 
 
 cut-within : (x y p : ℕ) (es vs : List ℤ) → RisingEnds p es → length es ≡ length vs
     → let ds = drop (firstEndAbove (pos x) es) es in
-    countedFrom x (runsOf (take (firstEndAtLeast (pos y) ds) ds ++ pos y ∷ []) (take (firstEndAtLeast (pos y) ds + 1) (drop (firstEndAbove (pos x) es) vs))) ≡ cut x y (runsOf es vs)
+    countedFrom x (runsOf (take (firstEndAtLeast (pos y) ds) ds ++ pos y ∷ []) (take (firstEndAtLeast (pos y) ds + 1) (drop (firstEndAbove (pos x) es) vs)))
+    ≡ cut x y (runsOf es vs)
 unfolding cut runsOf firstEndAbove firstWhere firstEndAtLeast countedFrom
 cut-within x y p [] [] r l = refl
 cut-within x y p [] (v ∷ vs) r l = let z : ⊥ = omega arith in absurd z
@@ -106,7 +110,8 @@ cut-within x y p (pos e ∷ es) (v ∷ vs) r l =
     (λ t. rw (t, le-leb e x (ltb-false x e t)) (cut-within x y e es vs (r .2) (omega arith)))
 cut-within x y p (negsuc e ∷ es) (v ∷ vs) r l = absurd (let z : _≡_ {A = ℕ} 0 1 = cc in omega arith)
 
-pub window-slice : (start end : ℤ) (es vs : List ℤ) → endsValid es ≡ none → length es ≡ length vs → windowRuns (touchedBy start end es) es vs ≡ sliceRuns start end (runsOf es vs)
+pub window-slice : (start end : ℤ) (es vs : List ℤ) → endsValid es ≡ none → length es ≡ length vs
+    → windowRuns (touchedBy start end es) es vs ≡ sliceRuns start end (runsOf es vs)
 unfolding touchedBy windowEnds windowValues sliceRuns runsOf countedFrom
 window-slice start end es vs v l =
     let n : toNat (lengthOfEnds es) ≡ lengthOf (runsOf es vs) = ap toNat (length-of-ends es vs v l) in
@@ -153,7 +158,8 @@ whole-window es vs l f = record {
 
 -- ---- steps over runs counted from the start of a window
 
-fold-counted-from : {A : Type 0} (step : A → ℕ → ℤ → A) (a : A) (p q : ℕ) (rs : Runs) → p ≤ q → Rising q rs → foldRuns step a q rs ≡ foldRuns step a (q - p) (countedFrom p rs)
+fold-counted-from : {A : Type 0} (step : A → ℕ → ℤ → A) (a : A) (p q : ℕ) (rs : Runs) → p ≤ q → Rising q rs
+    → foldRuns step a q rs ≡ foldRuns step a (q - p) (countedFrom p rs)
 unfolding foldRuns countedFrom
 fold-counted-from step a p q [] h v = refl
 fold-counted-from step a p q (r ∷ rs) h v =
@@ -180,10 +186,12 @@ module _ (t : TouchedRuns) (es vs : List ℤ) where
   unfolding windowEnds runsOf countedFrom
   counted-none e = rw (eq-eqb (t .count) 0 e)
 
-  pub counted-length : length es ≡ length vs → 0 < t .count → t .first + t .count ≤ length es → lengthOf (windowRuns t es vs) ≡ toNat (t .end) - toNat (t .start)
+  pub counted-length : length es ≡ length vs → 0 < t .count → t .first + t .count ≤ length es
+      → lengthOf (windowRuns t es vs) ≡ toNat (t .end) - toNat (t .start)
   unfolding windowEnds windowValues lengthOf
   counted-length l h i =
       let z : eqb (t .count) 0 ≡ false = ne-eqb (t .count) 0 (λ e. omega arith) in
-      let m : length (take (t .count - 1) (drop (t .first) es)) ≡ t .count - 1 = length-take-le (t .count - 1) (drop (t .first) es) (rw length-drop (omega arith)) in
+      let m : length (take (t .count - 1) (drop (t .first) es)) ≡ t .count - 1 = length-take-le (t .count - 1) (drop (t .first) es)
+      (rw length-drop (omega arith)) in
       let k : length (take (t .count) (drop (t .first) vs)) ≡ t .count = length-take-le (t .count) (drop (t .first) vs) (rw length-drop (omega arith)) in
       rw z (last-counted (toNat (t .start)) 0 (take (t .count - 1) (drop (t .first) es)) (t .end) (take (t .count) (drop (t .first) vs)) (omega arith))

@@ -17,7 +17,7 @@ use Rattle.column.specs.Asking.{Question, refusal, _unless_}
 use Rattle.column.specs.Questions.{endsFrom}
 use Rattle.column.specs.Runs.{Run, Runs, toNat, runsOf, lastFrom, lengthOfEnds, over}
 use Rattle.column.specs.Workers.{RisingEnds}
-use Rattle.slice.specs.declared.search.TouchedRuns.{TouchedRuns}
+use Rattle.slice.specs.declared.inner.search.TouchedRuns.{TouchedRuns}
 use Rattle.reduce.specs.declared.inner.WindowReduction.{WindowReduction}
 use Rattle.reduce.specs.declared.Reduction.{Reduction}
 use Rattle.reduce.specs.declared.Reduction.the-variants.{Fraction, Nothing}

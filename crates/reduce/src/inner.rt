@@ -1,8 +1,8 @@
 // Workers that assume what the calls have asked. A walk passes runs as long as their ends rise, so that question 4 is asked on the way.
 use crate::Moments;
 use crate::Reduction;
-use slice::search;
-use slice::search::TouchedRuns;
+use slice::inner::search;
+use slice::inner::search::TouchedRuns;
 ghost use Prim.Native.Nat.{_≤_, _^_};
 ghost use mathlib.Core.Bool.{true, _&&_};
 ghost use mathlib.Core.Option.{none};
@@ -14,7 +14,8 @@ ghost use Rattle.column.specs.Questions.{endsValid};
 ghost use Rattle.column.specs.Runs.{toNat, runsOf};
 ghost use Rattle.slice.specs.Calls.{sliceRuns};
 ghost use Rattle.reduce.specs.Calls.{addProduct, addSquare, reduction, FiniteReduction, kindOf, bitsOf};
-ghost use Rattle.reduce.specs.Workers.{addWrapped, WalkedSum, StoppedSum, SumOf, ProductsOf, ExactProducts, AllProducts, AroundMean, WalkedSquares, Squarable, SquaresOf, ExactRun, Window, divisorOf, VarianceBy, ReducesWindow};
+ghost use Rattle.reduce.specs.Workers.{addWrapped, WalkedSum, StoppedSum, SumOf, ProductsOf, ExactProducts, AllProducts, AroundMean, WalkedSquares};
+ghost use Rattle.reduce.specs.Workers.{Squarable, SquaresOf, ExactRun, Window, divisorOf, VarianceBy, ReducesWindow};
 ghost use Rattle.column.specs.Lent.{given};
 
 // How far a sum came: how many runs, the end of the last of them, and their total.

@@ -7,7 +7,7 @@ use column::error::Error;
 use column::error::InKey;
 use column::error::Refusal;
 use column::sequence;
-use slice::search::TouchedRuns;
+use slice::inner::search::TouchedRuns;
 ghost use mathlib.Core.Path.{_≡_};
 ghost use Rattle.column.specs.Asking.{shownAsked, _otherwise_};
 ghost use Rattle.column.specs.Runs.{givenSequence};
@@ -109,10 +109,11 @@ fn reduction_answer(window: WindowReduction, count: usize) -> Reduced
 pub fn reduce(ends: &[i64], values: &[i64], code: u8, ddof: i64) -> Reduced
     ensures { λ r. ⌜ Reduces (calls.reduce (givenSequence ends values) code ddof) r ⌝ }
 {
-    let asked = questions::first_no(
-        questions::ask_code(0, 2, code),
-        questions::ask_lengths(3, ends.len(), values.len()),
-    );
+    let asked = questions::ask_code(0, 2, code).and(questions::ask_lengths(
+        3,
+        ends.len(),
+        values.len(),
+    ));
     match asked {
         Asked::Yes => {
             let window = whole(ends);

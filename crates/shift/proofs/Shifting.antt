@@ -1,4 +1,4 @@
--- A sequence moved up or down: what is left of it, by the run at which it is cut, and the fill before or behind it.
+-- A sequence moved up or down: what is left of it, by the run at which it is cut, and the fill before or after it.
 -- Assumes nothing.
 use Prim.Native.Nat.{ℕ, zero, suc, _+_, _-_, _≤_, _<_, _^_, min}
 use mathlib.Core.Bool.{Bool, true, false}
@@ -14,7 +14,7 @@ use lib.Signed.{mag, ltZ}
 use borrow.Author.Tests.{leb-true, leb-false, ltb-true, ltb-false}
 use mir.Syntax.{w64}
 use mir.Val.{SFits, toZ, ofZ}
-use mir.Facts.{toZ-ofZ}
+use mir.Facts.{toZ-ofZ, toZ-pos}
 use Rattle.num.proofs.Bits.{back}
 use Rattle.num.proofs.Tests.{by-test}
 use Rattle.column.specs.declared.inner.Writer.{Writer}
@@ -47,13 +47,13 @@ drop-front zero n v xs h = let e : n - 0 ≡ n = omega arith in rw e
 drop-front (suc k) zero v xs h = let z : ⊥ = omega arith in absurd z
 drop-front (suc k) (suc n) v xs h = let e : suc n - suc k ≡ n - k = omega arith in drop-front k n v xs (omega arith) ∙ rw e
 
-take-behind : (k n : ℕ) (v : ℤ) (xs : List ℤ) → take (n + k) (replicate n v ++ xs) ≡ replicate n v ++ take k xs
-take-behind k zero v xs = let e : 0 + k ≡ k = omega arith in rw e
-take-behind k (suc n) v xs = let e : suc n + k ≡ suc (n + k) = omega arith in rw e (ap {B = List ℤ} (λ l. v ∷ l) (take-behind k n v xs))
+take-after : (k n : ℕ) (v : ℤ) (xs : List ℤ) → take (n + k) (replicate n v ++ xs) ≡ replicate n v ++ take k xs
+take-after k zero v xs = let e : 0 + k ≡ k = omega arith in rw e
+take-after k (suc n) v xs = let e : suc n + k ≡ suc (n + k) = omega arith in rw e (ap {B = List ℤ} (λ l. v ∷ l) (take-after k n v xs))
 
-drop-behind : (k n : ℕ) (v : ℤ) (xs : List ℤ) → drop (n + k) (replicate n v ++ xs) ≡ drop k xs
-drop-behind k zero v xs = let e : 0 + k ≡ k = omega arith in rw e
-drop-behind k (suc n) v xs = let e : suc n + k ≡ suc (n + k) = omega arith in rw e (drop-behind k n v xs)
+drop-after : (k n : ℕ) (v : ℤ) (xs : List ℤ) → drop (n + k) (replicate n v ++ xs) ≡ drop k xs
+drop-after k zero v xs = let e : 0 + k ≡ k = omega arith in rw e
+drop-after k (suc n) v xs = let e : suc n + k ≡ suc (n + k) = omega arith in rw e (drop-after k n v xs)
 
 -- one run shows them
 encode-constant : (k : ℕ) (v : ℤ) → 0 < k → length (encode (replicate k v)) ≡ 1
@@ -85,7 +85,7 @@ left-above p q (e ∷ es) (v ∷ vs) r l h =
     (λ t. let k : m ≤ q = ltb-false q m (sym (test-end q (r .0)) ∙ t) in
     let n : q - p ≡ m - p + (q - m) = omega (arith, r .1) in
     let i = left-above m q es vs (r .2) (omega arith) k in
-    rw t (record { rises = i .rises; shown = i .shown ∙ sym (rw n (drop-behind (q - m) (m - p) v (denseFrom m (runsOf es vs)))) }))
+    rw t (record { rises = i .rises; shown = i .shown ∙ sym (rw n (drop-after (q - m) (m - p) v (denseFrom m (runsOf es vs)))) }))
 
 -- up to q: the runs before the one found, and a part of that
 record Front (p q f : ℕ) (es vs : List ℤ) : Type 0 where
@@ -95,7 +95,8 @@ record Front (p q f : ℕ) (es vs : List ℤ) : Type 0 where
   shown : denseFrom p (runsOf (take f es) (take f vs)) ++ replicate (suc q - lastEnd p (runsOf (take f es) (take f vs))) (getD vs f (pos 0))
       ≡ take (suc q - p) (denseFrom p (runsOf es vs))
 
-front-above : (p q : ℕ) (es vs : List ℤ) → RisingEnds p es → length es ≡ length vs → p ≤ q → firstEndAbove (pos q) es < length es → Front p q (firstEndAbove (pos q) es) es vs
+front-above : (p q : ℕ) (es vs : List ℤ) → RisingEnds p es → length es ≡ length vs → p ≤ q → firstEndAbove (pos q) es < length es
+    → Front p q (firstEndAbove (pos q) es) es vs
 unfolding firstEndAbove firstWhere runsOf denseFrom
 front-above p q [] vs r l h w = let z : ⊥ = omega arith in absurd z
 front-above p q (e ∷ es) [] r l h w = let z : ⊥ = omega arith in absurd z
@@ -108,13 +109,14 @@ front-above p q (e ∷ es) (v ∷ vs) r l h w =
     let n : suc q - p ≡ m - p + (suc q - m) = omega (arith, r .1) in
     let i = front-above m q es vs (r .2) (omega arith) k (let x : suc (firstEndAbove (pos q) es) < suc (length es) = rw t at w in omega arith) in
     let f = firstEndAbove (pos q) es in
+    let whole = runsOf (take f es) (take f vs) in
     rw t (record {
       rises = (r .0, r .1, i .rises);
       low = i .low;
       last = ap (λ (z : ℤ). toNat (lastFrom z (take f es))) (r .0) ∙ i .last;
-      shown = append-assoc (replicate (m - p) v) (denseFrom m (runsOf (take f es) (take f vs))) (replicate (suc q - lastEnd m (runsOf (take f es) (take f vs))) (getD vs f (pos 0)))
+      shown = append-assoc (replicate (m - p) v) (denseFrom m whole) (replicate (suc q - lastEnd m whole) (getD vs f (pos 0)))
           ∙ ap (λ (l : List ℤ). replicate (m - p) v ++ l) (i .shown)
-          ∙ sym (rw n (take-behind (suc q - m) (m - p) v (denseFrom m (runsOf es vs))));
+          ∙ sym (rw n (take-after (suc q - m) (m - p) v (denseFrom m (runsOf es vs))));
     }))
 
 -- the first end above a position that is not past the last is inside
@@ -142,6 +144,19 @@ part-front n xs = let e : n - 0 ≡ n = omega arith in ap (λ (k : ℕ). take k 
 
 part-back : {A : Type 0} (n m : ℕ) (xs : List A) → length xs ≤ m → part n m xs ≡ drop n xs
 part-back n m xs h = take-all (m - n) (drop n xs) (rw length-drop (omega arith))
+
+-- down: l is the first run that is left, and pe and pv are the ends and values from it on
+pub record DownCut (es vs : List ℤ) (by l : ℕ) (value : ℤ) (pe pv : List ℤ) : Type 0 where
+  pub first : l ≡ firstEndAbove (pos by) es
+  pub shown : value ≡ getD vs l (pos 0)
+  pub ends : pe ≡ part l (length es) es
+  pub values : pv ≡ part l (length es) vs
+
+-- up: l is the run at which it is cut, and pe and pv are the ends and values before it
+pub record UpCut (es vs : List ℤ) (last l : ℕ) (pe pv : List ℤ) : Type 0 where
+  pub first : l ≡ firstEndAbove (pos last) es
+  pub ends : pe ≡ part 0 l es
+  pub values : pv ≡ part 0 l vs
 
 module _ {es vs : List ℤ} {by n : ℕ} {e₀ v₀ : List ℤ} (q : Shiftable es vs by n e₀ v₀) where
   rises : RisingEnds 0 es
@@ -172,55 +187,63 @@ module _ {es vs : List ℤ} {by n : ℕ} {e₀ v₀ : List ℤ} (q : Shiftable e
   pub last-inside : {l : ℕ} → l ≡ firstEndAbove (pos (n - by - 1)) es → l < length es
   last-inside e = rw e (inside (n - by - 1) (omega (arith, q .short)))
 
-  pub fill-place : (fill : ℤ) → (0 + 1 < 2 ^ 64) × (nextPlace (record { at = 0; last = fill }) fill < length e₀) × (nextPlace (record { at = 0; last = fill }) fill < length v₀)
+  pub fill-place : (fill : ℤ) → let next = nextPlace (record { at = 0; last = fill }) fill in (0 + 1 < 2 ^ 64) × (next < length e₀) × (next < length v₀)
   fill-place fill =
       let a = merge-at (merge-start fill e₀ v₀) fill (λ z. refl) in
       (omega arith, omega (arith, q .room-ends), omega (arith, q .room-values))
 
   -- a run of the fill up to k
-  pub fill-run : (fill : ℤ) {z : ℤ} {e v : List ℤ} {w : Writer} (k : ℕ) → 0 < k → PushedMerged (record { at = 0; last = fill }) z fill e₀ e v₀ v w → z ≡ pos k
-      → Merging (encode (replicate k fill)) fill e₀ v₀ e v w
+  pub fill-run : (fill : ℤ) {z : ℤ} {e v : List ℤ} {w : Writer} (k : ℕ) → 0 < k
+      → PushedMerged (record { at = 0; last = fill }) z fill e₀ e v₀ v w → z ≡ pos k → Merging (encode (replicate k fill)) fill e₀ v₀ e v w
   unfolding encode encodeFrom
   fill-run fill k h d ez =
       let m : k - 0 ≡ k = omega arith in
-      merge-more (merge-start fill e₀ v₀) fill (λ z. refl) k d ez (rw m at (encode-up [] k fill h)) (omega (arith, q .room-ends)) (omega (arith, q .room-values))
+      merge-more (merge-start fill e₀ v₀) fill (λ z. refl) k d ez (rw m at (encode-up [] k fill h)) (omega (arith, q .room-ends))
+      (omega (arith, q .room-values))
 
-  -- one run more, up to n, behind values that end before it
-  last-place : (ys : List ℤ) {first : ℤ} {e v : List ℤ} {w : Writer} (x : ℤ) → Merging (encode ys) first e₀ v₀ e v w → 0 < length ys → length (encode ys) ≤ length es
-      → length e₀ < 2 ^ 63 → (w .at + 1 < 2 ^ 64) × (nextPlace w x < length e) × (nextPlace w x < length v)
+  -- one run more, up to n, after values that end before it
+  last-place : (ys : List ℤ) {first : ℤ} {e v : List ℤ} {w : Writer} (x : ℤ) → Merging (encode ys) first e₀ v₀ e v w
+      → 0 < length ys → length (encode ys) ≤ length es → length e₀ < 2 ^ 63 → (w .at + 1 < 2 ^ 64) × (nextPlace w x < length e) × (nextPlace w x < length v)
   last-place ys x m h few short =
       let c = encode-pos ys h in
       let a = merge-at m x (λ z. let f : ⊥ = omega arith in absurd f) in
       (omega (arith, m .at-last, q .room-ends), omega (arith, m .long-ends, q .room-ends), omega (arith, m .long-values, q .room-values))
 
-  last-run : (ys : List ℤ) {first x z : ℤ} {e v e′ v′ : List ℤ} {w next : Writer} → Merging (encode ys) first e₀ v₀ e v w → 0 < length ys → length (encode ys) ≤ length es
-      → length ys < n → PushedMerged w z x e e′ v v′ next → z ≡ pos n → Merging (encode (ys ++ replicate (n - length ys) x)) first e₀ v₀ e′ v′ next
+  last-run : (ys : List ℤ) {first x z : ℤ} {e v e′ v′ : List ℤ} {w next : Writer} → Merging (encode ys) first e₀ v₀ e v w
+      → 0 < length ys → length (encode ys) ≤ length es → length ys < n → PushedMerged w z x e e′ v v′ next → z ≡ pos n
+      → Merging (encode (ys ++ replicate (n - length ys) x)) first e₀ v₀ e′ v′ next
   last-run ys {x = x} m h few short d ez =
       let c = encode-pos ys h in
       merge-more m x (λ z. let f : ⊥ = omega arith in absurd f) n d ez (encode-up ys n x short) (omega (arith, q .room-ends)) (omega (arith, q .room-values))
 
   -- the buffers stay as long, and the place is one of theirs
-  kept : {first x z : ℤ} {rs : Runs} {e v e′ v′ : List ℤ} {w next : Writer} → Merging rs first e₀ v₀ e v w → (w .at + 1 < 2 ^ 64) × (nextPlace w x < length e) × (nextPlace w x < length v)
-      → PushedMerged w z x e e′ v v′ next → length e₀ < 2 ^ 63 → (next .at + 1 < 2 ^ 64) × (length e′ ≡ length e₀) × (length v′ ≡ length v₀)
-  kept m r d short = (omega (arith, d .place, r .1, m .long-ends), ap length (d .ends) ∙ rw length-set (m .long-ends), ap length (d .values) ∙ rw length-set (m .long-values))
+  kept : {first x z : ℤ} {rs : Runs} {e v e′ v′ : List ℤ} {w next : Writer} → Merging rs first e₀ v₀ e v w
+      → (w .at + 1 < 2 ^ 64) × (nextPlace w x < length e) × (nextPlace w x < length v) → PushedMerged w z x e e′ v v′ next → length e₀ < 2 ^ 63
+      → (next .at + 1 < 2 ^ 64) × (length e′ ≡ length e₀) × (length v′ ≡ length v₀)
+  kept m r d short = (
+    omega (arith, d .place, r .1, m .long-ends),
+    ap length (d .ends) ∙ rw length-set (m .long-ends),
+    ap length (d .values) ∙ rw length-set (m .long-values),
+  )
 
-  pub filled : (ys : List ℤ) {first : ℤ} {e v : List ℤ} {w : Writer} → Merging (encode ys) first e₀ v₀ e v w → 0 < length ys → Filled (encode ys) e₀ e v₀ v (w .at + 1)
+  pub filled : (ys : List ℤ) {first : ℤ} {e v : List ℤ} {w : Writer} → Merging (encode ys) first e₀ v₀ e v w → 0 < length ys
+      → Filled (encode ys) e₀ e v₀ v (w .at + 1)
   filled ys m h = merge-end m (encode-pos ys h)
 
-  -- ---- down: l is the first run that is left, of which pe and pv are the ends and values
+  -- ---- down
 
-  module _ {l : ℕ} {pe pv : List ℤ} (el : l ≡ firstEndAbove (pos by) es) (tp : pe ≡ part l (length es) es) (tv : pv ≡ part l (length es) vs) where
+  module _ {l : ℕ} {value : ℤ} {pe pv : List ℤ} (cut : DownCut es vs by l value pe pv) where
     ep : pe ≡ drop l es
-    ep = tp ∙ part-back l (length es) es (omega arith)
+    ep = cut .ends ∙ part-back l (length es) es (omega arith)
 
     ev : pv ≡ drop l vs
-    ev = tv ∙ part-back l (length es) vs (omega (arith, q .paired))
+    ev = cut .values ∙ part-back l (length es) vs (omega (arith, q .paired))
 
     left : Left 0 by l es vs
-    left = rw el (left-above 0 by es vs rises (q .paired) (omega arith))
+    left = rw (cut .first) (left-above 0 by es vs rises (q .paired) (omega arith))
 
     below : l < length es
-    below = first-inside el
+    below = first-inside (cut .first)
 
     count-left : length pe ≡ length es - l
     count-left = ap length ep ∙ length-drop l es
@@ -240,32 +263,37 @@ module _ {es vs : List ℤ} {by n : ℕ} {e₀ v₀ : List ℤ} (q : Shiftable e
     unfolding ys
     length-ys = length-drop by xs ∙ rw long
 
-    down-behind : {value : ℤ} → value ≡ getD vs l (pos 0) → Behind [] value e₀ v₀ e₀ v₀ (record { at = 0; last = value }) pe pv
-    down-behind {value} h = record {
+    first-shown : value ≡ getD pv 0 (pos 0)
+    first-shown =
+        let z : l + 0 ≡ l = omega arith in
+        cut .shown ∙ sym (ap (λ (l′ : List ℤ). getD l′ 0 (pos 0)) ev ∙ getD-drop l vs 0 (pos 0) ∙ rw z)
+
+    down-behind : Behind [] value e₀ v₀ e₀ v₀ (record { at = 0; last = value }) pe pv
+    down-behind = record {
       merging = merge-start value e₀ v₀;
-      started = λ _ _. h ∙ sym (ap (λ (l′ : List ℤ). getD l′ 0 (pos 0)) ev ∙ getD-drop l vs 0 (pos 0) ∙ (let z : l + 0 ≡ l = omega arith in rw z));
+      started = λ _ _. first-shown;
       room-ends = omega (arith, count-left, q .room-ends);
       room-values = omega (arith, count-left, q .room-values);
     }
 
-    pub down-appendable : {value : ℤ} → value ≡ getD vs l (pos 0) → Appendable by 0 pe pv e₀ v₀ (record { at = 0; last = value })
-    down-appendable {value} h = record {
+    pub down-appendable : Appendable by 0 pe pv e₀ v₀ (record { at = 0; last = value })
+    down-appendable = record {
       movable = record { rising = rw ep (left .rises); fitting = omega (arith, last-left, q .fitting); paired = paired-left };
       done = [];
       first = value;
       e₀ = e₀;
       v₀ = v₀;
-      behind = down-behind h;
+      behind = down-behind;
     }
       where
         last-left : toNat (lastFrom (pos by) pe) ≤ n
         last-left = rw ep (last-drop 0 by es l rises (q .short) last-is)
 
     -- all that is left is written
-    down-merging : {value : ℤ} {e v : List ℤ} {w : Writer} → value ≡ getD vs l (pos 0) → Appended by 0 pe pv e₀ e v₀ v (record { at = 0; last = value }) w → Merging (encode ys) value e₀ v₀ e v w
+    down-merging : {e v : List ℤ} {w : Writer} → Appended by 0 pe pv e₀ e v₀ v (record { at = 0; last = value }) w → Merging (encode ys) value e₀ v₀ e v w
     unfolding encode encodeFrom
-    down-merging {value} h a =
-        let m = a [] value e₀ v₀ (down-behind h) in
+    down-merging a =
+        let m = a [] value e₀ v₀ down-behind in
         let r : Rising by (runsOf pe pv) = runs-rise by pe pv (rw ep (left .rises)) in
         rw (push-shown by [] (runsOf pe pv) r ∙ ap encode shown-left) at m
 
@@ -276,48 +304,48 @@ module _ {es vs : List ℤ} {by n : ℕ} {e₀ v₀ : List ℤ} (q : Shiftable e
         rw (sym (push-shown by [] (runsOf pe pv) r ∙ ap encode shown-left))
         (omega (arith, push-few [] (moved by 0 (runsOf pe pv)), length-moved by 0 (runsOf pe pv), length-runs pe pv paired-left, count-left))
 
-    module _ {value : ℤ} (h : value ≡ getD vs l (pos 0)) {e v : List ℤ} {w : Writer} (a : Appended by 0 pe pv e₀ e v₀ v (record { at = 0; last = value }) w) where
+    module _ {e v : List ℤ} {w : Writer} (a : Appended by 0 pe pv e₀ e v₀ v (record { at = 0; last = value }) w) where
       pub down-long : (length e ≡ length e₀) × (length v ≡ length v₀)
-      down-long = let m = down-merging h a in (m .long-ends, m .long-values)
+      down-long = let m = down-merging a in (m .long-ends, m .long-values)
 
       pub down-at : w .at ≤ length es
-      down-at = omega (arith, down-merging h a .at-last, few-left)
+      down-at = omega (arith, down-merging a .at-last, few-left)
 
       pub down-whole : (fill : ℤ) → by ≡ 0 → Filled (encode (shiftedDown by fill (dense (runsOf es vs)))) e₀ e v₀ v (w .at + 1)
       unfolding xs ys
       down-whole fill z =
           let m : drop by (dense (runsOf es vs)) ++ replicate by fill ≡ drop by (dense (runsOf es vs)) = rw z (append-nil (dense (runsOf es vs))) in
-          rw m (filled (drop by (dense (runsOf es vs))) (down-merging h a) (omega (arith, length-ys, q .short)))
+          rw m (filled (drop by (dense (runsOf es vs))) (down-merging a) (omega (arith, length-ys, q .short)))
 
       pub down-room : (fill : ℤ) → length e₀ < 2 ^ 63 → (w .at + 1 < 2 ^ 64) × (nextPlace w fill < length e) × (nextPlace w fill < length v)
-      down-room fill short = last-place ys fill (down-merging h a) (omega (arith, length-ys, q .short)) few-left short
+      down-room fill short = last-place ys fill (down-merging a) (omega (arith, length-ys, q .short)) few-left short
 
       pub down-kept : {fill z : ℤ} {e′ v′ : List ℤ} {next : Writer} → PushedMerged w z fill e e′ v v′ next → length e₀ < 2 ^ 63
           → (next .at + 1 < 2 ^ 64) × (length e′ ≡ length e₀) × (length v′ ≡ length v₀)
-      down-kept {fill} d short = kept (down-merging h a) (down-room fill short) d short
+      down-kept {fill} d short = kept (down-merging a) (down-room fill short) d short
 
       pub down-end : {fill z : ℤ} {e′ v′ : List ℤ} {next : Writer} → 0 < by → PushedMerged w z fill e e′ v v′ next → z ≡ pos n
           → Filled (encode (shiftedDown by fill (dense (runsOf es vs)))) e₀ e′ v₀ v′ (next .at + 1)
       unfolding xs ys
       down-end {fill} some d ez =
           let m : n - length (drop by (dense (runsOf es vs))) ≡ by = omega (arith, length-ys, q .short) in
-          let k = last-run ys (down-merging h a) (omega (arith, length-ys, q .short)) few-left (omega (arith, length-ys, q .short)) d ez in
+          let k = last-run ys (down-merging a) (omega (arith, length-ys, q .short)) few-left (omega (arith, length-ys, q .short)) d ez in
           rw m at (filled (ys ++ replicate (n - length ys) fill) k (rw length-append (omega (arith, length-ys, q .short))))
 
-  -- ---- up: l is the run at which it is cut, and pe and pv are the ends and values before it
+  -- ---- up
 
-  module _ (some : 0 < by) {l : ℕ} {pe pv : List ℤ} (el : l ≡ firstEndAbove (pos (n - by - 1)) es) (tp : pe ≡ part 0 l es) (tv : pv ≡ part 0 l vs) (fill : ℤ) where
+  module _ (some : 0 < by) {l : ℕ} {pe pv : List ℤ} (cut : UpCut es vs (n - by - 1) l pe pv) (fill : ℤ) where
     pe-is : pe ≡ take l es
-    pe-is = tp ∙ part-front l es
+    pe-is = cut .ends ∙ part-front l es
 
     pv-is : pv ≡ take l vs
-    pv-is = tv ∙ part-front l vs
+    pv-is = cut .values ∙ part-front l vs
 
     up-below : l < length es
-    up-below = last-inside el
+    up-below = last-inside (cut .first)
 
     front : Front 0 (n - by - 1) l es vs
-    front = rw el (front-above 0 (n - by - 1) es vs rises (q .paired) (omega arith) (rw el at up-below))
+    front = rw (cut .first) (front-above 0 (n - by - 1) es vs rises (q .paired) (omega arith) (rw (cut .first) at up-below))
 
     count-front : length pe ≡ l
     count-front = ap length pe-is ∙ length-take-le l es (omega (arith, up-below))
@@ -334,9 +362,14 @@ module _ {es vs : List ℤ} {by n : ℕ} {e₀ v₀ : List ℤ} (q : Shiftable e
 
     length-zs : length zs ≡ by + end-front
     unfolding zs end-front dense lengthOf
-    length-zs = rw (length-append, length-replicate, pe-is, pv-is) (ap (λ (k : ℕ). by + k) (length-dense (runsOf (take l es) (take l vs)) (runs-rise 0 (take l es) (take l vs) (front .rises))))
+    length-zs =
+        let r = runs-rise 0 (take l es) (take l vs) (front .rises) in
+        rw (length-append, length-replicate, pe-is, pv-is) (ap (λ (k : ℕ). by + k) (length-dense (runsOf (take l es) (take l vs)) r))
 
-    module _ {e v : List ℤ} {w : Writer} (m : Merging (encode (replicate by fill)) fill e₀ v₀ e v w) where
+    module _ {e v : List ℤ} {w : Writer} (d : PushedMerged (record { at = 0; last = fill }) (toZ w64 by) fill e₀ e v₀ v w) where
+      m : Merging (encode (replicate by fill)) fill e₀ v₀ e v w
+      m = fill-run fill by some d (toZ-pos w64 (omega (arith, q .short, q .fitting)))
+
       one : length (encode (replicate by fill)) ≡ 1
       one = encode-constant by fill some
 
@@ -370,15 +403,18 @@ module _ {es vs : List ℤ} {by n : ℕ} {e₀ v₀ : List ℤ} (q : Shiftable e
             let k = a (encode (replicate by fill)) fill e₀ v₀ up-behind in
             let r : Rising 0 (runsOf pe pv) = runs-rise 0 pe pv (rw pe-is (front .rises)) in
             let b : length (replicate by fill) ≡ by = length-replicate by fill in
-            rw (ap (λ (o : ℕ). pushAll (encode (replicate by fill)) (moved 0 o (runsOf pe pv))) (sym b) ∙ push-shown 0 (replicate by fill) (runsOf pe pv) r) at k
+            rw (ap (λ (o : ℕ). pushAll (encode (replicate by fill)) (moved 0 o (runsOf pe pv))) (sym b) ∙ push-shown 0 (replicate by fill) (runsOf pe pv) r)
+            at k
 
         few-front : length (encode zs) ≤ length es
         unfolding zs
         few-front =
             let r : Rising 0 (runsOf pe pv) = runs-rise 0 pe pv (rw pe-is (front .rises)) in
             let b : length (replicate by fill) ≡ by = length-replicate by fill in
+            let few = push-few (encode (replicate by fill)) (moved 0 (length (replicate by fill)) (runsOf pe pv)) in
+            let as-many = length-moved 0 (length (replicate by fill)) (runsOf pe pv) in
             rw (sym (push-shown 0 (replicate by fill) (runsOf pe pv) r))
-            (omega (arith, push-few (encode (replicate by fill)) (moved 0 (length (replicate by fill)) (runsOf pe pv)), one, length-moved 0 (length (replicate by fill)) (runsOf pe pv), length-runs pe pv paired-front, count-front, up-below))
+            (omega (arith, few, one, as-many, length-runs pe pv paired-front, count-front, up-below))
 
         pub up-room : (x : ℤ) → length e₀ < 2 ^ 63 → (w′ .at + 1 < 2 ^ 64) × (nextPlace w′ x < length e′) × (nextPlace w′ x < length v′)
         up-room x short = last-place zs x up-merging (omega (arith, length-zs, some)) few-front short
@@ -410,7 +446,8 @@ module _ {es vs : List ℤ} {by n : ℕ} {e₀ v₀ : List ℤ} (q : Shiftable e
 
 -- the fill alone, up to the length
 pub fill-kept : {es vs : List ℤ} {n : ℕ} {e₀ v₀ : List ℤ} (q : Shiftable es vs 0 n e₀ v₀) {fill z : ℤ} {e v : List ℤ} {w : Writer}
-    → PushedMerged (record { at = 0; last = fill }) z fill e₀ e v₀ v w → length e₀ < 2 ^ 63 → (w .at + 1 < 2 ^ 64) × (length e ≡ length e₀) × (length v ≡ length v₀)
+    → PushedMerged (record { at = 0; last = fill }) z fill e₀ e v₀ v w → length e₀ < 2 ^ 63
+    → (w .at + 1 < 2 ^ 64) × (length e ≡ length e₀) × (length v ≡ length v₀)
 fill-kept {e₀ = e₀} {v₀ = v₀} q {fill} d short = kept q (merge-start fill e₀ v₀) (fill-place q fill) d short
 
 module _ (fill : ℤ) (ys : List ℤ) where
@@ -461,21 +498,23 @@ module _ (es vs : List ℤ) (valid : endsValid es ≡ none) (distance fill : ℤ
   pub shift-all : lengthOf (runsOf es vs) ≤ natAbs distance → replicate (lengthOf (runsOf es vs)) fill ≡ shiftValues distance fill (dense (runsOf es vs))
   shift-all h = rw shown-length at (values-all fill (dense (runsOf es vs)) distance (rw shown-length h))
 
-  pub shift-up : ltZ (pos 0) distance ≡ true → natAbs distance < lengthOf (runsOf es vs) → shiftedUp (natAbs distance) fill (dense (runsOf es vs)) ≡ shiftValues distance fill (dense (runsOf es vs))
+  pub shift-up : ltZ (pos 0) distance ≡ true → natAbs distance < lengthOf (runsOf es vs)
+      → shiftedUp (natAbs distance) fill (dense (runsOf es vs)) ≡ shiftValues distance fill (dense (runsOf es vs))
   shift-up t h = values-up fill (dense (runsOf es vs)) distance t (rw shown-length h)
 
-  pub shift-down : ltZ (pos 0) distance ≡ false → natAbs distance < lengthOf (runsOf es vs) → shiftedDown (natAbs distance) fill (dense (runsOf es vs)) ≡ shiftValues distance fill (dense (runsOf es vs))
+  pub shift-down : ltZ (pos 0) distance ≡ false → natAbs distance < lengthOf (runsOf es vs)
+      → shiftedDown (natAbs distance) fill (dense (runsOf es vs)) ≡ shiftValues distance fill (dense (runsOf es vs))
   shift-down t h = values-down fill (dense (runsOf es vs)) distance t (rw shown-length h)
 
 -- ---- one run more at most is left
 
--- what runs show behind values takes no more than those runs
-behind-few : (s : ℕ) (xs : List ℤ) (rs : Runs) → Rising s rs → length (encode (xs ++ denseFrom s rs)) ≤ length (encode xs) + length rs
-behind-few s xs rs h = rw (sym (push-shown s xs rs h)) (omega (arith, push-few (encode xs) (moved s (length xs) rs), length-moved s (length xs) rs))
+-- what runs show after values takes no more than those runs
+after-few : (s : ℕ) (xs : List ℤ) (rs : Runs) → Rising s rs → length (encode (xs ++ denseFrom s rs)) ≤ length (encode xs) + length rs
+after-few s xs rs h = rw (sym (push-shown s xs rs h)) (omega (arith, push-few (encode xs) (moved s (length xs) rs), length-moved s (length xs) rs))
 
 append-few : (xs ys : List ℤ) → length (encode (xs ++ ys)) ≤ length (encode xs) + length (encode ys)
 unfolding dense
-append-few xs ys = rw (dense-encode ys) at (behind-few 0 xs (encode ys) (valid-encode ys))
+append-few xs ys = rw (dense-encode ys) at (after-few 0 xs (encode ys) (valid-encode ys))
 
 constant-few : (k : ℕ) (v : ℤ) → length (encode (replicate k v)) ≤ 1
 unfolding encode encodeFrom
@@ -494,10 +533,10 @@ drop-few k p (r ∷ rs) h =
     let n = r .end - p in
     by-test (leb k n)
     (λ t. rw (drop-front k n (r .value) (denseFrom (r .end) rs) (leb-true k n t))
-    (omega (arith, behind-few (r .end) (replicate (n - k) (r .value)) rs (h .1), constant-few (n - k) (r .value))))
+    (omega (arith, after-few (r .end) (replicate (n - k) (r .value)) rs (h .1), constant-few (n - k) (r .value))))
     (λ t. let e : k ≡ n + (k - n) = omega (arith, leb-false k n t) in
     let q : drop k (replicate n (r .value) ++ denseFrom (r .end) rs) ≡ drop (k - n) (denseFrom (r .end) rs) =
-    ap (λ (i : ℕ). drop i (replicate n (r .value) ++ denseFrom (r .end) rs)) e ∙ drop-behind (k - n) n (r .value) (denseFrom (r .end) rs) in
+    ap (λ (i : ℕ). drop i (replicate n (r .value) ++ denseFrom (r .end) rs)) e ∙ drop-after (k - n) n (r .value) (denseFrom (r .end) rs) in
     rw q (omega (arith, drop-few (k - n) (r .end) rs (h .1))))
 
 pub shift-few : (distance fill : ℤ) (rs : Runs) → Rising 0 rs → length (encode (shiftValues distance fill (dense rs))) ≤ length rs + 1
@@ -505,7 +544,8 @@ unfolding shiftValues dense
 shift-few (pos n) fill rs h =
     let ys = take (length (denseFrom 0 rs) - n) (denseFrom 0 rs) in
     let m = min n (length (denseFrom 0 rs)) in
-    omega (arith, append-few (replicate m fill) ys, constant-few m fill, take-few (length (denseFrom 0 rs) - n) (denseFrom 0 rs) (omega arith), drop-few 0 0 rs h)
+    let front = take-few (length (denseFrom 0 rs) - n) (denseFrom 0 rs) (omega arith) in
+    omega (arith, append-few (replicate m fill) ys, constant-few m fill, front, drop-few 0 0 rs h)
 shift-few (negsuc n) fill rs h =
     let ys = drop (suc n) (denseFrom 0 rs) in
     let m = min (suc n) (length (denseFrom 0 rs)) in
@@ -525,12 +565,29 @@ up-some {d} f t e = rw e (go d (above-zero f t))
 
 -- ---- what the code knows of the length
 
-module _ (es vs : List ℤ) (valid : endsValid es ≡ none) (paired : length es ≡ length vs) {y : ℤ} {n : ℕ} (fits : mag y < 2 ^ 63) (ey : y ≡ lengthOfEnds es) (en : n ≡ toNat (toZ w64 (ofZ w64 y))) where
-  pub length-told : n ≡ lengthOf (runsOf es vs)
-  length-told = en ∙ ap toNat (back y fits ∙ ey ∙ length-of-ends es vs valid paired)
+pub record LengthKnown (es vs : List ℤ) (n : ℕ) : Type 0 where
+  pub valid : endsValid es ≡ none
+  pub paired : length es ≡ length vs
+  pub whole : n ≡ lengthOf (runsOf es vs)
+  pub fitting : n < 2 ^ 63
 
-  pub length-fits : n < 2 ^ 63
-  length-fits = rw (en, back y fits) (to-nat-below y (record { sfits = fits }))
+pub length-known : {es vs : List ℤ} {y : ℤ} {n : ℕ} → endsValid es ≡ none → length es ≡ length vs → mag y < 2 ^ 63 → y ≡ lengthOfEnds es
+    → n ≡ toNat (toZ w64 (ofZ w64 y)) → LengthKnown es vs n
+length-known {es} {vs} {y} valid paired fits ey en = record {
+  valid = valid;
+  paired = paired;
+  whole = en ∙ ap toNat (back y fits ∙ ey ∙ length-of-ends es vs valid paired);
+  fitting = rw (en, back y fits) (to-nat-below y (record { sfits = fits }));
+}
 
-  pub shiftable : (by : ℕ) (e v : List ℤ) → length es + 1 ≤ length e → length es + 1 ≤ length v → by < n → Shiftable es vs by n e v
-  shiftable by e v re rv h = record { valid = valid; paired = paired; whole = length-told; short = h; fitting = length-fits; room-ends = re; room-values = rv }
+pub shiftable : {es vs : List ℤ} {by n : ℕ} {e v : List ℤ} → LengthKnown es vs n → length es + 1 ≤ length e → length es + 1 ≤ length v → by < n
+    → Shiftable es vs by n e v
+shiftable k re rv h = record {
+  valid = k .valid;
+  paired = k .paired;
+  whole = k .whole;
+  short = h;
+  fitting = k .fitting;
+  room-ends = re;
+  room-values = rv;
+}

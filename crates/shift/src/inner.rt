@@ -1,7 +1,7 @@
 // Workers that assume what the calls have asked.
 use column::inner::Writer;
 use column::sequence;
-use slice::search;
+use slice::inner::search;
 ghost use Prim.Native.Nat.{_+_, _≤_, _<_};
 ghost use mathlib.Core.Option.{none};
 ghost use mathlib.Core.Path.{_≡_};
@@ -12,7 +12,7 @@ ghost use Rattle.shift.specs.Calls.{shiftValues};
 ghost use Rattle.shift.specs.Workers.{Shiftable, shiftedUp, shiftedDown};
 ghost use Rattle.column.specs.Lent.{given};
 
-// The fill, and behind it what the runs show, up to the length.
+// The fill, and after it what the runs show, up to the length.
 fn shift_up(
     ends: &[i64],
     values: &[i64],
@@ -35,13 +35,13 @@ fn shift_up(
     let last = search::first_end_above(ends, (length - by - 1) as i64);
     let whole = sequence::part(ends, 0, last);
     let shown = sequence::part(values, 0, last);
-    let behind = column::inner::append_merged(filled, whole, shown, 0, by, out_ends, out_values);
+    let writer = column::inner::append_merged(filled, whole, shown, 0, by, out_ends, out_values);
     let value = values[last];
-    let end = column::inner::push_merged(behind, out_ends, out_values, length as i64, value);
+    let end = column::inner::push_merged(writer, out_ends, out_values, length as i64, value);
     end.at + 1
 }
 
-// What the runs show from a position on, and behind it the fill, up to the length.
+// What the runs show from a position on, and after it the fill, up to the length.
 fn shift_down(
     ends: &[i64],
     values: &[i64],
@@ -83,7 +83,8 @@ pub fn shift(
     out_ends: &mut [i64],
     out_values: &mut [i64],
 ) -> usize
-    requires { ⌜ (endsValid (now ends) ≡ none) × (length (now ends) ≡ length (now values)) × (length (now ends) + 1 ≤ length (now «out_ends»)) × (length (now ends) + 1 ≤ length (now «out_values»)) ⌝ }
+    requires { ⌜ (endsValid (now ends) ≡ none) × (length (now ends) ≡ length (now values))
+        × (length (now ends) + 1 ≤ length (now «out_ends»)) × (length (now ends) + 1 ≤ length (now «out_values»)) ⌝ }
     ensures { λ r. ⌜ Fills (encode (shiftValues distance fill (dense (runsOf (given ends) (given values))))) «out_ends» «out_values» r ⌝ }
 {
     let length = sequence::to_nat(sequence::length(ends));

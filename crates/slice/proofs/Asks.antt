@@ -11,7 +11,7 @@ use Rattle.column.specs.Questions.{paired, endsValid, room, both, sequenceAsked
 use Rattle.column.specs.Runs.{sequence, runsOf, Filled}
 use Rattle.column.proofs.FirstNo.{first-several}
 use Rattle.column.proofs.Told.{sequence-asked, sequence-told}
-use Rattle.slice.specs.declared.search.TouchedRuns.{TouchedRuns}
+use Rattle.slice.specs.declared.inner.search.TouchedRuns.{TouchedRuns}
 use Rattle.slice.specs.Workers.{touchedBy, cutRuns, Touches}
 use Rattle.slice.specs.Calls.{sliceRuns}
 use Rattle.slice.proofs.Touching.{cut-touched, touches, touched-count}

@@ -10,17 +10,17 @@ use lib.IntN.{ℤ, pos, negsuc}
 use lib.Signed.{leZ, ltZ}
 use lib.ListN.{length}
 use borrow.Author.Tests.{ltb-true}
-use Rattle.num.proofs.Tests.{by-test}
+use Rattle.num.proofs.Tests.{by-test, lt-le}
 use Rattle.column.specs.Questions.{endsValid}
 use Rattle.column.specs.Runs.{toNat}
 use Rattle.column.specs.Workers.{RisingEnds}
 use Rattle.column.proofs.Ends.{rising}
-use Rattle.column.proofs.Naturals.{lt-le}
 use Rattle.slice.specs.Calls.{firstWhere, firstEndAbove, coveringFrom, covering}
 
 module _ (p : ℤ) where
   -- from a position on that is not above p
-  inside-from : (i : ℕ) (before : ℤ) (es : List ℤ) → leZ before p ≡ true → firstEndAbove p es < length es → coveringFrom i before es p ≡ some (i + firstEndAbove p es)
+  inside-from : (i : ℕ) (before : ℤ) (es : List ℤ) → leZ before p ≡ true → firstEndAbove p es < length es
+      → coveringFrom i before es p ≡ some (i + firstEndAbove p es)
   unfolding firstEndAbove firstWhere
   inside-from i before [] b h = let z : ⊥ = omega arith in absurd z
   inside-from i before (e ∷ es) b h =

@@ -43,5 +43,6 @@ rows =
     ∷ []
 
 pub examples : Hold rows
-unfolding agree paired endsFrom endsValid roomAt roomFrom room sequenceAsked runsOf endsOf valuesOf lengthOf firstEndAbove firstWhere covering runIndex cut sliceRuns slice viewOf sliceView slicePart
+unfolding agree paired endsFrom endsValid roomAt roomFrom room sequenceAsked runsOf endsOf valuesOf lengthOf firstEndAbove firstWhere covering runIndex cut
+    sliceRuns slice viewOf sliceView slicePart
 examples = (refl, (refl, (refl, (refl, (refl, (refl, (refl, (refl, (refl, (refl, (refl, (refl, tt))))))))))))

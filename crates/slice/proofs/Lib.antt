@@ -1,6 +1,5 @@
 pub mod Asks
 pub mod Covering
-pub mod Difference
 pub mod Examples
 pub mod Searching
 pub mod Sliced

@@ -12,18 +12,17 @@ use lib.ListN.{length, getD, take}
 use lib.Seq.{length-take-le}
 use lib.Dec.{eqb, ltb}
 use borrow.Author.Tests.{leb-true, leb-false, le-leb, le-ltb, ltb-true, ltb-false}
-use Rattle.num.proofs.Tests.{by-test}
+use Rattle.num.proofs.Tests.{by-test, lt-le, le-lt}
 use Rattle.column.specs.Questions.{endsValid}
 use Rattle.column.specs.Runs.{toNat}
 use Rattle.column.specs.Workers.{RisingEnds}
 use Rattle.column.proofs.Appending.{rising-at}
 use Rattle.column.proofs.Ends.{rising, rising-yes}
-use Rattle.column.proofs.Naturals.{lt-le, le-lt}
 use mir.Syntax.{w64}
 use mir.Val.{toZ, ofZ, SFits}
 use mir.Facts.{toZ-ofZ}
 use Rattle.num.specs.Numbers.{residue}
-use Rattle.slice.proofs.Difference.{difference-of, difference-fits}
+use Rattle.num.proofs.Difference.{difference-of, difference-fits}
 use Rattle.slice.specs.Calls.{firstWhere, firstEndAbove}
 use Rattle.slice.specs.Workers.{firstEndAtLeast, Halving}
 
@@ -108,7 +107,8 @@ top-bit : (s v p : ℕ) → s < 2 ^ 64 → (s + v) % 2 ^ 64 ≡ p → v < 2 ^ 63
 top-bit s v p h e k l =
     by-test (ltb p v) (λ t. let m = ltb-true p v t in rw t (omega arith)) (λ t. let m = ltb-false p v t in rw t (omega arith))
 
-pub above-bit : (z : ℤ) (p : ℕ) {s v : ℕ} → SFits w64 z → v ≡ residue (toZ w64 (ofZ w64 z)) → s < 2 ^ 64 → (s + v) % 2 ^ 64 ≡ p → ltZ z (pos 0) ≡ false → p < 2 ^ 63
+pub above-bit : (z : ℤ) (p : ℕ) {s v : ℕ} → SFits w64 z → v ≡ residue (toZ w64 (ofZ w64 z)) → s < 2 ^ 64 → (s + v) % 2 ^ 64 ≡ p → ltZ z (pos 0) ≡ false
+    → p < 2 ^ 63
     → s / 2 ^ 63 ≡ cond (ltZ (pos p) z) 1 0
 above-bit (pos n) p {s} {v} f ev h e t k =
     let n63 : n < 2 ^ 63 = f .sfits in
@@ -218,9 +218,11 @@ rising-front q (suc n) [] r = tt
 rising-front q (suc n) (e ∷ es) r = (r .0, r .1, rising-front (toNat e) n es (r .2))
 
 pub least-front : (p : ℤ) (es : List ℤ) (n : ℕ) {r : ℕ} → 0 < n → n ≤ length es → leZ p (getD es (n - 1) (pos 0)) ≡ true
-    → (r ≤ length (take n es)) × (endsValid (take n es) ≡ none → r ≡ firstEndAtLeast p (take n es)) → (r ≤ length es) × (endsValid es ≡ none → r ≡ firstEndAtLeast p es)
+    → (r ≤ length (take n es)) × (endsValid (take n es) ≡ none → r ≡ firstEndAtLeast p (take n es))
+    → (r ≤ length es) × (endsValid es ≡ none → r ≡ firstEndAtLeast p es)
 least-front p es n h k t f =
     let m : n ≡ suc (n - 1) = omega arith in (
       omega (arith, f .0, length-take-le n es k),
-      λ v. f .1 (rising-valid (take n es) (rising-front 0 n es (rising es v))) ∙ ap (λ (i : ℕ). firstEndAtLeast p (take i es)) m ∙ front-from p es (n - 1) (omega arith) t,
+      λ v. f .1 (rising-valid (take n es) (rising-front 0 n es (rising es v))) ∙ ap (λ (i : ℕ). firstEndAtLeast p (take i es)) m
+          ∙ front-from p es (n - 1) (omega arith) t,
     )

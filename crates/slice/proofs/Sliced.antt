@@ -54,9 +54,9 @@ last-cut p s e (r ∷ rs) h k =
     (λ u. let m = leb-true e (r .end) u in rw (t, u) (omega (arith, last-above (r .end) rs (h .1))))
     (λ u. let m = leb-false e (r .end) u in rw (t, u) (last-cut (r .end) s e rs (h .1) (omega arith))))
 
-cover-behind : (p : ℕ) (rs : Runs) (i : ℕ) (d : ℤ) → Rising p rs → lastEnd p rs ≤ i → cover rs i d ≡ d
-cover-behind p [] i d h k = refl
-cover-behind p (r ∷ rs) i d h k = rw (le-ltb i (r .end) (omega (arith, last-above (r .end) rs (h .1)))) (cover-behind (r .end) rs i d (h .1) k)
+cover-after : (p : ℕ) (rs : Runs) (i : ℕ) (d : ℤ) → Rising p rs → lastEnd p rs ≤ i → cover rs i d ≡ d
+cover-after p [] i d h k = refl
+cover-after p (r ∷ rs) i d h k = rw (le-ltb i (r .end) (omega (arith, last-above (r .end) rs (h .1)))) (cover-after (r .end) rs i d (h .1) k)
 
 -- an end past the length is as good as the length
 clamped : (p s e : ℕ) (rs : Runs) → Rising p rs → cut s (min e (lastEnd p rs)) rs ≡ cut s e rs
@@ -108,15 +108,16 @@ module _ (s e : ℤ) (rs : Runs) (h : Valid rs) where
       rw (cover-dense 0 (sliceRuns s e rs) i d v, cover-dense 0 rs (toNat s + i) d h, zero-add i, zero-add (toNat s + i), slice-cut)
       (by-test (ltb (toNat s) (min (toNat e) (lengthOf rs)))
       (λ t. rw t (cover-cut (toNat s) (toNat e) rs i d k))
-      (λ t. rw t (sym (cover-behind 0 rs (toNat s + i) d h (behind (ltb-false (toNat s) (min (toNat e) (lengthOf rs)) t))))))
+      (λ t. rw t (sym (cover-after 0 rs (toNat s + i) d h (past (ltb-false (toNat s) (min (toNat e) (lengthOf rs)) t))))))
     where
-      behind : min (toNat e) (lengthOf rs) ≤ toNat s → lengthOf rs ≤ toNat s + i
-      behind l = omega arith
+      past : min (toNat e) (lengthOf rs) ≤ toNat s → lengthOf rs ≤ toNat s + i
+      past l = omega arith
 
 -- what a slice shows: the positions from its start up to its end
 pub dense-slice : (s e : ℤ) (rs : Runs) → Valid rs → dense (sliceRuns s e rs) ≡ take (toNat e - toNat s) (drop (toNat s) (dense rs))
 dense-slice s e rs v =
-    let l : length (dense (sliceRuns s e rs)) ≡ min (toNat e - toNat s) (lengthOf rs - toNat s) = length-dense (sliceRuns s e rs) (valid-slice s e rs v) ∙ length-slice s e rs v in
+    let l : length (dense (sliceRuns s e rs)) ≡ min (toNat e - toNat s) (lengthOf rs - toNat s) = length-dense (sliceRuns s e rs) (valid-slice s e rs v)
+    ∙ length-slice s e rs v in
     ext-getD (pos 0) (dense (sliceRuns s e rs)) (take (toNat e - toNat s) (drop (toNat s) (dense rs)))
     (rw (l, length-take, length-drop, length-dense rs v))
     (λ i h. let k : i < toNat e - toNat s = omega arith in

@@ -16,9 +16,9 @@ use Rattle.column.specs.Runs.{Run, toNat, runsOf, endsOf, valuesOf, Filled}
 use Rattle.column.proofs.Buffer.{Written, write-start, write-next}
 use Rattle.column.proofs.Ends.{length-runs}
 use Rattle.column.proofs.Naturals.{smaller-naturals}
-use Rattle.slice.specs.declared.search.TouchedRuns.{TouchedRuns}
+use Rattle.slice.specs.declared.inner.search.TouchedRuns.{TouchedRuns}
 use Rattle.slice.specs.Workers.{clipped, cutRuns, Touches}
-use Rattle.slice.proofs.Difference.{difference-of, difference-fits}
+use Rattle.num.proofs.Difference.{difference-of, difference-fits}
 
 -- the run at an index
 abbrev pub runAt : List ℤ → List ℤ → ℕ → Run
@@ -56,7 +56,9 @@ module _ {t : TouchedRuns} {es vs e₀ v₀ : List ℤ} (h : Touches t es vs e�
   cut-at n d k =
       List·getD-map (clipped (toNat (t .start)) (toNat (t .end))) (take (t .count) (drop (t .first) (runsOf es vs))) n d
       ∙ ap (clipped (toNat (t .start)) (toNat (t .end)))
-      (getD-take (t .count) (drop (t .first) (runsOf es vs)) n d k ∙ getD-drop (t .first) (runsOf es vs) n d ∙ run-at es vs (t .first + n) d (h .paired) (omega (arith, h .inside)))
+      (getD-take (t .count) (drop (t .first) (runsOf es vs)) n d k
+      ∙ getD-drop (t .first) (runsOf es vs) n d
+      ∙ run-at es vs (t .first + n) d (h .paired) (omega (arith, h .inside)))
 
   pub slicing-start : Slicing t es vs e₀ e₀ v₀ v₀ 0
   slicing-start = record { within = omega arith; ends = write-start endOf e₀; values = write-start valueOf v₀ }
@@ -89,7 +91,8 @@ module _ {t : TouchedRuns} {es vs e₀ v₀ : List ℤ} (h : Touches t es vs e�
       pub next-fits : mag y < 2 ^ 63 → SFits w64 (y -ℤ t .start)
       next-fits f = difference-fits smaller-natural (h .start-natural) start-below (rw smaller-natural at f)
 
-      pub slicing-next : {e v : List ℤ} → Slicing t es vs e₀ e v₀ v n → {z w : ℤ} → z ≡ y -ℤ t .start → w ≡ getD vs (t .first + n) (pos 0) → Slicing t es vs e₀ (set e n z) v₀ (set v n w) (n + 1)
+      pub slicing-next : {e v : List ℤ} → Slicing t es vs e₀ e v₀ v n → {z w : ℤ} → z ≡ y -ℤ t .start → w ≡ getD vs (t .first + n) (pos 0)
+          → Slicing t es vs e₀ (set e n z) v₀ (set v n w) (n + 1)
       slicing-next s ez ew = record {
         within = omega arith;
         ends = rw take-next (write-next endOf (s .ends) (omega (arith, h .room-ends)) next (ez ∙ next-end));

@@ -12,6 +12,9 @@ use lib.ListN.{length, getD, take, drop, length-drop}
 use lib.Seq.{getD-drop}
 use lib.Dec.{leb, ltb}
 use borrow.Author.Tests.{leb-true, leb-false, ltb-true, ltb-false, lt-ltb, le-leb, lt-leb, le-ltb}
+use mir.Syntax.{w64}
+use mir.Val.{toZ, ofZ, SFits}
+use mir.Facts.{toZ-ofZ}
 use Rattle.num.specs.Numbers.{smallerOf, largerOf}
 use Rattle.num.proofs.Tests.{by-test}
 use Rattle.column.specs.Questions.{endsValid}
@@ -20,9 +23,10 @@ use Rattle.column.specs.Workers.{RisingEnds}
 use Rattle.column.proofs.Ends.{rising, length-of-ends, natural-end}
 use Rattle.column.proofs.Naturals.{smaller-naturals}
 use Rattle.column.proofs.Sequences.{length-none, length-last}
-use Rattle.slice.specs.declared.search.TouchedRuns.{TouchedRuns}
+use Rattle.slice.specs.declared.inner.search.Interval.{Interval}
+use Rattle.slice.specs.declared.inner.search.TouchedRuns.{TouchedRuns}
 use Rattle.slice.specs.Calls.{firstWhere, firstEndAbove, cut, sliceRuns}
-use Rattle.slice.specs.Workers.{firstEndAtLeast, touchedBy, clipped, cutRuns, Touches}
+use Rattle.slice.specs.Workers.{firstEndAtLeast, clampedTo, touchedBy, clipped, cutRuns, Touches}
 use Rattle.slice.proofs.Slicing.{length-cut}
 use Rattle.slice.proofs.Searching.{rising-valid, above-least, above-past, least-least}
 
@@ -58,7 +62,8 @@ cut-all x y (e ∷ es) (v ∷ vs) r l =
     (cut-all x y es vs (rising-lower x (toNat e) es (omega (arith, r .1)) (r .2)) (omega arith))))
 
 cut-from : (x y p : ℕ) (es vs : List ℤ) → RisingEnds p es → length es ≡ length vs
-    → cut x y (runsOf es vs) ≡ map (clipped x y) (take (firstEndAtLeast (pos y) (drop (firstEndAbove (pos x) es) es) + 1) (drop (firstEndAbove (pos x) es) (runsOf es vs)))
+    → cut x y (runsOf es vs) ≡ map (clipped x y)
+    (take (firstEndAtLeast (pos y) (drop (firstEndAbove (pos x) es) es) + 1) (drop (firstEndAbove (pos x) es) (runsOf es vs)))
 unfolding cut runsOf firstEndAbove firstWhere firstEndAtLeast
 cut-from x y p [] vs r l = refl
 cut-from x y p (e ∷ es) [] r l = let z : ⊥ = omega arith in absurd z
@@ -68,7 +73,8 @@ cut-from x y p (e ∷ es) (v ∷ vs) r l =
     (λ t. rw (q, t) (cut-all x y (e ∷ es) (v ∷ vs) (r .0, ltb-true x (toNat e) t, r .2) l))
     (λ t. rw (q, t, le-leb (toNat e) x (ltb-false x (toNat e) t)) (cut-from x y (toNat e) es vs (r .2) (omega arith)))
 
-pub cut-touched : (start end : ℤ) (es vs : List ℤ) → endsValid es ≡ none → length es ≡ length vs → cutRuns (touchedBy start end es) (runsOf es vs) ≡ sliceRuns start end (runsOf es vs)
+pub cut-touched : (start end : ℤ) (es vs : List ℤ) → endsValid es ≡ none → length es ≡ length vs
+    → cutRuns (touchedBy start end es) (runsOf es vs) ≡ sliceRuns start end (runsOf es vs)
 unfolding cutRuns touchedBy sliceRuns
 cut-touched start end es vs v l =
     let n : toNat (lengthOfEnds es) ≡ lengthOf (runsOf es vs) = ap toNat (length-of-ends es vs v l) in
@@ -118,8 +124,8 @@ touched-inside start end es v =
     let y = min (toNat end) (toNat (lengthOfEnds es)) in
     by-test (ltb x y) (λ t. rw t (count-inside es v x y (ltb-true x y t) (omega arith))) (λ t. rw t (omega arith))
 
-pub touches : (start end : ℤ) (es vs e v : List ℤ) → endsValid es ≡ none → length es ≡ length vs → touchedBy start end es .count ≤ length e → touchedBy start end es .count ≤ length v
-    → Touches (touchedBy start end es) es vs e v
+pub touches : (start end : ℤ) (es vs e v : List ℤ) → endsValid es ≡ none → length es ≡ length vs
+    → touchedBy start end es .count ≤ length e → touchedBy start end es .count ≤ length v → Touches (touchedBy start end es) es vs e v
 unfolding touchedBy
 touches start end es vs e v valid l re rv =
     let x = toNat start in
@@ -152,7 +158,8 @@ touches start end es vs e v valid l re rv =
     }))
 
 -- as many as the slice has runs
-pub touched-count : (start end : ℤ) (es vs : List ℤ) → endsValid es ≡ none → length es ≡ length vs → touchedBy start end es .count ≡ length (sliceRuns start end (runsOf es vs))
+pub touched-count : (start end : ℤ) (es vs : List ℤ) → endsValid es ≡ none → length es ≡ length vs
+    → touchedBy start end es .count ≡ length (sliceRuns start end (runsOf es vs))
 touched-count start end es vs v l =
     let i = touched-inside start end es v in
     sym (length-cut (touches start end es vs es es v l (omega arith) (omega arith))) ∙ ap length (cut-touched start end es vs v l)
@@ -171,33 +178,47 @@ smaller-natural : (z : ℤ) (l x : ℕ) → leZ (smallerOf z (pos l)) (pos x) �
 smaller-natural (pos n) l x t = smaller-naturals n l
 smaller-natural (negsuc n) l x t = cc
 
-module _ (start end : ℤ) (es : List ℤ) {f t : ℤ} (ef : f ≡ largerOf start (pos 0)) (et : t ≡ smallerOf end (lengthOfEnds es)) where
-  module _ (v : endsValid es ≡ none) where
-    abbrev to : ℕ
-    to = min (toNat end) (toNat (lengthOfEnds es))
+-- the locals of an interval that is clamped
+pub record Clamped (es : List ℤ) (start end f t : ℤ) : Type 0 where
+  pub from : f ≡ largerOf start (pos 0)
+  pub to : t ≡ smallerOf end (lengthOfEnds es)
 
-    length-natural : lengthOfEnds es ≡ pos (toNat (lengthOfEnds es))
-    length-natural = let e = length-of-ends es es v refl in e ∙ ap (λ (z : ℤ). pos (toNat z)) (sym e)
+pub clamped-told : {es : List ℤ} {start end : ℤ} {i : Interval} → i ≡ clampedTo es (toZ w64 (ofZ w64 start)) (toZ w64 (ofZ w64 end))
+    → SFits w64 start → SFits w64 end → SFits w64 (i .start) → SFits w64 (i .end)
+    → Clamped es start end (toZ w64 (ofZ w64 (i .start))) (toZ w64 (ofZ w64 (i .end)))
+clamped-told {es} e fs fe gs ge = record {
+  from = toZ-ofZ gs ∙ ap (λ (j : Interval). j .start) e ∙ ap (λ (z : ℤ). largerOf z (pos 0)) (toZ-ofZ fs);
+  to = toZ-ofZ ge ∙ ap (λ (j : Interval). j .end) e ∙ ap (λ (z : ℤ). smallerOf z (lengthOfEnds es)) (toZ-ofZ fe);
+}
 
-    end-is : t ≡ smallerOf end (pos (toNat (lengthOfEnds es)))
-    end-is = et ∙ ap (smallerOf end) length-natural
+module _ {es : List ℤ} {start end f t : ℤ} (c : Clamped es start end f t) (v : endsValid es ≡ none) where
+  abbrev to : ℕ
+  to = min (toNat end) (toNat (lengthOfEnds es))
 
-    start-is : f ≡ pos (toNat start)
-    start-is = ef ∙ larger-zero start
+  length-natural : lengthOfEnds es ≡ pos (toNat (lengthOfEnds es))
+  length-natural = let e = length-of-ends es es v refl in e ∙ ap (λ (z : ℤ). pos (toNat z)) (sym e)
 
-    test-is : leZ t f ≡ leb to (toNat start)
-    test-is = ap₂ leZ end-is start-is ∙ smaller-le end (toNat (lengthOfEnds es)) (toNat start)
+  end-is : t ≡ smallerOf end (pos (toNat (lengthOfEnds es)))
+  end-is = c .to ∙ ap (smallerOf end) length-natural
 
-    pub touched-none : leZ t f ≡ true → _≡_ {A = TouchedRuns} (record { first = 0; count = 0; start = pos 0; end = pos 0 }) (touchedBy start end es)
-    unfolding touchedBy
-    touched-none b = rw (le-ltb (toNat start) to (leb-true to (toNat start) (sym test-is ∙ b)))
+  start-is : f ≡ pos (toNat start)
+  start-is = c .from ∙ larger-zero start
 
-    pub touched-some : leZ t f ≡ false → {first n : ℕ} → first ≡ firstEndAbove f es → n ≡ firstEndAtLeast t (drop first es)
-        → _≡_ {A = TouchedRuns} (record { first = first; count = n + 1; start = f; end = t }) (touchedBy start end es)
-    unfolding touchedBy
-    touched-some b {first} {n} e d =
-        let h = leb-false to (toNat start) (sym test-is ∙ b) in
-        let q : t ≡ pos to = end-is ∙ smaller-natural end (toNat (lengthOfEnds es)) (toNat start) (sym (ap₂ leZ end-is start-is) ∙ b) in
-        let c : first ≡ firstEndAbove (pos (toNat start)) es = e ∙ ap (λ (z : ℤ). firstEndAbove z es) start-is in
-        let m : n ≡ firstEndAtLeast (pos to) (drop (firstEndAbove (pos (toNat start)) es) es) = d ∙ ap₂ (λ (z : ℤ) (k : ℕ). firstEndAtLeast z (drop k es)) q c in
-        rw (lt-ltb (toNat start) to h, c, m, start-is, q)
+  test-is : leZ t f ≡ leb to (toNat start)
+  test-is = ap₂ leZ end-is start-is ∙ smaller-le end (toNat (lengthOfEnds es)) (toNat start)
+
+  pub touched-none : leZ t f ≡ true → _≡_ {A = TouchedRuns} (record { first = 0; count = 0; start = pos 0; end = pos 0 }) (touchedBy start end es)
+  unfolding touchedBy
+  touched-none b = rw (le-ltb (toNat start) to (leb-true to (toNat start) (sym test-is ∙ b)))
+
+  pub touched-some : leZ t f ≡ false → {first n : ℕ} → first ≡ firstEndAbove f es → n ≡ firstEndAtLeast t (drop first es)
+      → _≡_ {A = TouchedRuns} (record { first = first; count = n + 1; start = f; end = t }) (touchedBy start end es)
+  unfolding touchedBy
+  touched-some b {first} {n} e d =
+      let x = toNat start in
+      let h = leb-false to x (sym test-is ∙ b) in
+      let q : t ≡ pos to = end-is ∙ smaller-natural end (toNat (lengthOfEnds es)) x (sym (ap₂ leZ end-is start-is) ∙ b) in
+      let i : first ≡ firstEndAbove (pos x) es = e ∙ ap (λ (z : ℤ). firstEndAbove z es) start-is in
+      let m : n ≡ firstEndAtLeast (pos to) (drop (firstEndAbove (pos x) es) es) =
+      d ∙ ap₂ (λ (z : ℤ) (k : ℕ). firstEndAtLeast z (drop k es)) q i in
+      rw (lt-ltb x to h, i, m, start-is, q)

@@ -15,7 +15,6 @@ use mir.Syntax.{w64}
 use mir.Val.{SFits}
 use Rattle.num.proofs.Tests.{by-test}
 use Rattle.column.specs.Asking.{Question, firstNo}
-use Rattle.column.specs.Lists.{part}
 use Rattle.column.specs.Paper.{PaperRefusal}
 use Rattle.column.specs.Questions.{paired, endsValid}
 use Rattle.column.specs.Runs.{sequence, Run, Runs, valuesOf, toNat, runsOf, lengthOf, lengthOfEnds}
@@ -27,7 +26,7 @@ use Rattle.slice.specs.declared.Part.{Part}
 use Rattle.slice.specs.declared.View.{View}
 use Rattle.slice.specs.Workers.{touchedBy, clipped, cutRuns}
 use Rattle.slice.specs.Calls.{sliceRuns, viewOf, sliceView, slicePart, entriesOf, PartOf, HandsBack}
-use Rattle.slice.proofs.Difference.{difference-of, difference-fits}
+use Rattle.num.proofs.Difference.{difference-of, difference-fits}
 use Rattle.slice.proofs.Touching.{cut-touched, touched-inside, touches, touched-count}
 
 -- the questions of a view, and what they tell
@@ -53,8 +52,8 @@ values-part n (suc a) (r ∷ rs) = values-part n a rs
 
 module _ (start end : ℤ) (es vs : List ℤ) (v : endsValid es ≡ none) (l : length es ≡ length vs) where
   -- the view that they say
-  pub view-touched : _≡_ {A = View} (record { first = touchedBy start end es .first; start = touchedBy start end es .start; length = touchedBy start end es .end -ℤ touchedBy start end es .start })
-      (viewOf (sequence es vs) start end)
+  pub view-touched : let t = touchedBy start end es in
+      _≡_ {A = View} (record { first = t .first; start = t .start; length = t .end -ℤ t .start }) (viewOf (sequence es vs) start end)
   unfolding touchedBy viewOf
   view-touched =
       let n : toNat (lengthOfEnds es) ≡ lengthOf (runsOf es vs) = ap toNat (length-of-ends es vs v l) in
@@ -65,23 +64,26 @@ module _ (start end : ℤ) (es vs : List ℤ) (v : endsValid es ≡ none) (l : l
       rw (n, t, d))
       (λ t. rw (n, t))
 
-  pub view-fits : SFits w64 (touchedBy start end es .end) → SFits w64 (touchedBy start end es .end -ℤ touchedBy start end es .start)
+  pub view-fits : let t = touchedBy start end es in SFits w64 (t .end) → SFits w64 (t .end -ℤ t .start)
   view-fits f =
       let i = touched-inside start end es v in
       let t = touches start end es es es es v refl (omega arith) (omega arith) in
       difference-fits (t .end-natural) (t .start-natural) (t .ordered) (to-nat-below (touchedBy start end es .end) f)
 
-  part-is : viewAsked es vs ≡ none → record { first = touchedBy start end es .first; count = touchedBy start end es .count } ≡ slicePart (sequence es vs) start end
+  abbrev touchedPart : Part
+  touchedPart = record { first = touchedBy start end es .first; count = touchedBy start end es .count }
+
+  part-is : viewAsked es vs ≡ none → touchedPart ≡ slicePart (sequence es vs) start end
   unfolding slicePart sliceView
   part-is y =
       let f : viewOf (sequence es vs) start end .first ≡ touchedBy start end es .first = ap (λ (w : View). w .first) (sym view-touched) in
       let n : length (sliceRuns start end (runsOf es vs)) ≡ touchedBy start end es .count = sym (touched-count start end es vs v l) in
       rw (y, f, n)
 
-  pub part-touched : viewAsked es vs ≡ none → PartOf (record { first = touchedBy start end es .first; count = touchedBy start end es .count }) (slicePart (sequence es vs) start end) vs
+  pub part-touched : viewAsked es vs ≡ none → PartOf touchedPart (slicePart (sequence es vs) start end) vs
   part-touched y = let i = touched-inside start end es v in record { same = part-is y; inside = omega arith }
 
-  values-touched : viewAsked es vs ≡ none → part (touchedBy start end es .first) (touchedBy start end es .first + touchedBy start end es .count) vs ≡ entriesOf (slicePart (sequence es vs) start end) vs
+  values-touched : viewAsked es vs ≡ none → entriesOf touchedPart vs ≡ entriesOf (slicePart (sequence es vs) start end) vs
   values-touched y = ap (λ (p : Part). entriesOf p vs) (part-is y)
 
   -- the values of a view are those of the slice
@@ -93,13 +95,16 @@ module _ (start end : ℤ) (es vs : List ℤ) (v : endsValid es ≡ none) (l : l
       sym (values-touched y)
       ∙ ap (λ (m : ℕ). take m (drop (t .first) vs)) k
       ∙ ap (λ (xs : List ℤ). take (t .count) (drop (t .first) xs)) (sym (values-runs es vs l))
-      ∙ sym (values-clipped (toNat (t .start)) (toNat (t .end)) (take (t .count) (drop (t .first) (runsOf es vs))) ∙ values-part (t .count) (t .first) (runsOf es vs))
+      ∙ sym (values-clipped (toNat (t .start)) (toNat (t .end)) (take (t .count) (drop (t .first) (runsOf es vs)))
+      ∙ values-part (t .count) (t .first) (runsOf es vs))
       ∙ ap valuesOf (cut-touched start end es vs v l)
 
-pub part-refused : (start end : ℤ) (es vs : List ℤ) {r : PaperRefusal} → viewAsked es vs ≡ some r → PartOf (record { first = 0; count = 0 }) (slicePart (sequence es vs) start end) vs
+pub part-refused : (start end : ℤ) (es vs : List ℤ) {r : PaperRefusal} → viewAsked es vs ≡ some r
+    → PartOf (record { first = 0; count = 0 }) (slicePart (sequence es vs) start end) vs
 unfolding slicePart sliceView
 part-refused start end es vs h = rw h (record { same = refl; inside = omega arith })
 
 -- a part of the list itself, from an entry on
-pub part-handed : {r vs : RefT (List ℤ)} {p q : Part} → PartOf p q (now vs) → ptr r .0 ≡ ptr vs .0 → ptr r .1 ≡ p .first * 8 + ptr vs .1 → now r ≡ entriesOf p (now vs) → HandsBack r q vs
+pub part-handed : {r vs : RefT (List ℤ)} {p q : Part} → PartOf p q (now vs) → ptr r .0 ≡ ptr vs .0 → ptr r .1 ≡ p .first * 8 + ptr vs .1
+    → now r ≡ entriesOf p (now vs) → HandsBack r q vs
 part-handed {r} {vs} h b o e = subst (λ (t : Part). HandsBack r t vs) (h .same) (record { block = b; place = o; entries = e })

@@ -68,7 +68,8 @@ unfoldable pub viewOf : Sequence → ℤ → ℤ → View
 viewOf s start end =
     let x = toNat start in
     let y = min (toNat end) (lengthOf (runs s)) in
-    cond (ltb x y) (record { first = firstEndAbove (pos x) (s .ends); start = pos x; length = pos (y - x) }) (record { first = 0; start = pos 0; length = pos 0 })
+    cond (ltb x y) (record { first = firstEndAbove (pos x) (s .ends); start = pos x; length = pos (y - x) })
+    (record { first = 0; start = pos 0; length = pos 0 })
 
 -- "One answers first run, start and length .. or the refusal"
 unfoldable pub sliceView : Sequence → ℤ → ℤ → Outcome View

@@ -8,14 +8,20 @@ use lib.ListN.{length, getD, take, drop}
 use Rattle.column.specs.Questions.{endsValid}
 use Rattle.column.specs.Runs.{Run, Runs, toNat, lengthOfEnds}
 use Rattle.slice.specs.Calls.{firstWhere, firstEndAbove}
-use Rattle.slice.specs.declared.search.TouchedRuns.{TouchedRuns}
+use Rattle.slice.specs.declared.inner.search.TouchedRuns.{TouchedRuns}
 use mathlib.Core.Bool.{cond}
 use lib.Signed.{leZ}
 use lib.Dec.{ltb}
+use Rattle.num.specs.Numbers.{smallerOf, largerOf}
+use Rattle.slice.specs.declared.inner.search.Interval.{Interval}
 
 -- the lowest index of an end at or above a position, or how many ends there are
 unfoldable pub firstEndAtLeast : ℤ → List ℤ → ℕ
 firstEndAtLeast p es = firstWhere (λ e. leZ p e) es
+
+-- an interval, its start clamped up to 0 and its end down to the length
+abbrev pub clampedTo : List ℤ → ℤ → ℤ → Interval
+clampedTo es start end = record { start = largerOf start (pos 0); end = smallerOf end (lengthOfEnds es) }
 
 -- the first touched run and how many there are, of valid ends, and where the slice begins and ends; all 0 where it is empty
 unfoldable pub touchedBy : ℤ → ℤ → List ℤ → TouchedRuns

@@ -1,5 +1,7 @@
 // Workers that assume what the calls have asked.
-use crate::search::TouchedRuns;
+pub mod search;
+
+use search::TouchedRuns;
 ghost use Prim.Native.Nat.{_+_, _≤_, _<_, _^_, _/_};
 ghost use mathlib.Core.Bool.{false, cond};
 ghost use mathlib.Core.Path.{_≡_};

@@ -1,16 +1,12 @@
 pub mod inner;
-pub mod search;
 
 use column::answer::Asked;
 use column::answer::Counted;
 use column::answer::Found;
 use column::error::Refusal;
-use column::sequence;
-ghost use mathlib.Core.List.{[], _∷_};
+use inner::search;
 ghost use mathlib.Core.Path.{_≡_};
-ghost use Rattle.column.specs.Asking.{shownAsked};
 ghost use Rattle.column.specs.Paper.{shownFound, WritesRuns};
-ghost use Rattle.column.specs.Questions.{room, both};
 ghost use Rattle.column.specs.Runs.{givenSequence};
 ghost use Rattle.slice.specs.Calls.{shownViewed, PartOf, HandsBack};
 ghost use Rattle.slice.specs.Calls as calls;

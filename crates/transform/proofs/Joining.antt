@@ -13,9 +13,9 @@ use lib.Seq.{drop-cons}
 use borrow.Author.Tests.{eqb-true, ltb-true, ltb-false}
 use Rattle.num.specs.Numbers.{saturated}
 use Rattle.num.proofs.Saturated.{saturated-add}
-use Rattle.num.proofs.Tests.{by-test}
+use Rattle.num.proofs.Tests.{by-test, both-true}
 use Rattle.column.specs.declared.inner.Writer.{Writer}
-use Rattle.column.specs.Asking.{Question, firstNo}
+use Rattle.column.specs.Asking.{firstNo}
 use Rattle.column.specs.Flat.{flat, sequencesOf, columns, flatAsked}
 use Rattle.column.specs.Lists.{total, part, parts, partsFrom}
 use Rattle.column.specs.Questions.{paired, endsValid, rise, startAndRise, fits, room, both}
@@ -25,13 +25,13 @@ use Rattle.column.proofs.Appending.{push-few, push-shown, length-moved}
 use Rattle.column.proofs.Dense.{length-dense}
 use Rattle.column.proofs.Encode.{encode-pos, encode-none}
 use Rattle.column.proofs.Ends.{rising, length-runs, runs-rise, length-of-ends}
-use Rattle.column.proofs.FirstNo.{all-yes, first-several, asked-next, asked-last}
+use Rattle.column.proofs.FirstNo.{all-yes}
 use Rattle.column.proofs.Flattened.{AllValid, offsets-some, offset-within, sequences-told, columns-by-ends}
 use Rattle.column.proofs.Lists.{last-is}
 use Rattle.column.proofs.Merging.{merge-start, merge-end, fill-none}
 use Rattle.column.proofs.Parts.{part-past, part-at, part-paired, length-part, partsAt, parts-start, parts-cons, parts-end}
 use Rattle.column.proofs.Rising.{Rising, Valid}
-use Rattle.column.proofs.Told.{both-true, agree-told, offsets-told, fits-told, both-told}
+use Rattle.column.proofs.Told.{agree-told, offsets-told, fits-told, both-told}
 use Rattle.column.proofs.YesNo.{fits-yes, fits-refused}
 use Rattle.transform.specs.Calls.{shown, concatAsked}
 use Rattle.transform.specs.Workers.{Joinable}
@@ -117,7 +117,8 @@ module _ (os : List ℕ) (es vs e₀ v₀ : List ℤ) where
 
     module _ {e v : List ℤ} {w : Writer} {offset k : ℕ} (i : Joining e v w offset k) where
       -- the next column
-      module _ (h : k + 1 < length os) {pe pv : List ℤ} (ee : pe ≡ part (getD os k 0) (getD os (k + 1) 0) es) (ev : pv ≡ part (getD os k 0) (getD os (k + 1) 0) vs) where
+      module _ (h : k + 1 < length os) {pe pv : List ℤ}
+          (ee : pe ≡ part (getD os k 0) (getD os (k + 1) 0) es) (ev : pv ≡ part (getD os k 0) (getD os (k + 1) 0) vs) where
         next-valid : endsValid pe ≡ none
         next-valid = rw ee ((rw (parts-cons k os es h) at (i .valid)) .0)
 
@@ -165,15 +166,19 @@ module _ (os : List ℕ) (es vs e₀ v₀ : List ℤ) where
         pub join-fits : {x : ℤ} {n : ℕ} → n ≡ toNat x → x ≡ lengthOfEnds pe → offset + n < 2 ^ 64
         join-fits en ex = omega (arith, en, next-size ex, next-fits, i .so-far)
 
-        pub join-next : {e′ v′ : List ℤ} {next : Writer} {x : ℤ} {n : ℕ} → Appended 0 offset pe pv e e′ v v′ w next → n ≡ toNat x → x ≡ lengthOfEnds pe
-            → Joining e′ v′ next (offset + n) (k + 1)
+        pub join-next : {e′ v′ : List ℤ} {next : Writer} {x : ℤ} {n : ℕ} → Appended 0 offset pe pv e e′ v v′ w next
+            → n ≡ toNat x → x ≡ lengthOfEnds pe → Joining e′ v′ next (offset + n) (k + 1)
         unfolding shown dense
         join-next {e′} {v′} {next} a en ex =
-            let ys : List ℤ = dense (runsOf pe pv) in
+            let rs : Runs = runsOf pe pv in
+            let ys : List ℤ = dense rs in
             let o = offset-within os (length es) k (j .offsets) h in
-            let l : length (i .xs ++ ys) ≡ length (i .xs) + lengthOf (runsOf pe pv) = rw length-append (omega (arith, length-dense (runsOf pe pv) next-rises)) in
-            let p : pushAll (encode (i .xs)) (moved 0 offset (runsOf pe pv)) ≡ encode (i .xs ++ ys) = rw (i .so-far) (push-shown 0 (i .xs) (runsOf pe pv) next-rises) in
-            let m : Merging (pushAll (encode (i .xs)) (moved 0 offset (runsOf pe pv))) (getD vs 0 (pos 0)) e₀ v₀ e′ v′ next = a (encode (i .xs)) (getD vs 0 (pos 0)) e₀ v₀ join-behind in
+            let many = length-runs pe pv next-paired in
+            let l : length (i .xs ++ ys) ≡ length (i .xs) + lengthOf rs = rw length-append (omega (arith, length-dense rs next-rises)) in
+            let pushed : Runs = pushAll (encode (i .xs)) (moved 0 offset rs) in
+            let p : pushed ≡ encode (i .xs ++ ys) = rw (i .so-far) (push-shown 0 (i .xs) rs next-rises) in
+            let few = push-few (encode (i .xs)) (moved 0 offset rs) in
+            let m : Merging pushed (getD vs 0 (pos 0)) e₀ v₀ e′ v′ next = a (encode (i .xs)) (getD vs 0 (pos 0)) e₀ v₀ join-behind in
             record {
               xs = i .xs ++ ys;
               whole = i .whole ∙ rw next-column (sym (append-assoc (i .xs) ys (shown (columnsAt (k + 1) os es vs))));
@@ -181,8 +186,8 @@ module _ (os : List ℕ) (es vs e₀ v₀ : List ℤ) where
               so-far = omega (arith, l, en, next-size ex, i .so-far);
               fitting = omega (arith, l, next-fits);
               merging = rw p at m;
-              entries = omega (arith, l, i .entries, o, next-length, length-runs pe pv next-paired, runs-short (runsOf pe pv) next-rises);
-              few = omega (arith, ap length p, push-few (encode (i .xs)) (moved 0 offset (runsOf pe pv)), length-moved 0 offset (runsOf pe pv), length-runs pe pv next-paired, next-length, o, i .few);
+              entries = omega (arith, l, i .entries, o, next-length, many, runs-short rs next-rises);
+              few = omega (arith, ap length p, few, length-moved 0 offset rs, many, next-length, o, i .few);
               within = omega arith;
             }
 
@@ -235,22 +240,17 @@ fits-saturated n =
 module _ (os : List ℕ) (es vs : List ℤ) where
   total-columns : length es ≡ length vs → AllValid (parts os es) → total (lengths (parts os es)) ≡ total (map lengthOf (columns (flat os es vs)))
   total-columns l v =
-      ap total (sym (columns-by-ends lengthOf (λ (x : List ℤ). toNat (lengthOfEnds x)) (λ x y u p. sym (ap toNat (length-of-ends x y u p))) os es vs l v))
+      let by-ends : (x y : List ℤ) → endsValid x ≡ none → length x ≡ length y → lengthOf (runsOf x y) ≡ toNat (lengthOfEnds x) =
+      λ x y u p. sym (ap toNat (length-of-ends x y u p)) in
+      ap total (sym (columns-by-ends lengthOf (λ (x : List ℤ). toNat (lengthOfEnds x)) by-ends os es vs l v))
 
-  pub concat-asked : (e v : ℕ) {r a b c d : Question} {n : ℕ} → r ≡ firstNo (a ∷ b ∷ []) → a ≡ firstNo (flatAsked (flat os es vs))
-      → b ≡ firstNo (c ∷ d ∷ []) → c ≡ fits n → n ≡ saturated (total (lengths (parts os es))) → d ≡ room (both (length es)) (e ∷ v ∷ [])
-      → r ≡ concatAsked (flat os es vs) (e ∷ v ∷ [])
-  unfolding concatAsked paired
-  concat-asked e v hr ha hb hc en hd =
-      let f = flat os es vs in
-      let n = total (map lengthOf (columns f)) in
-      let rest = fits n ∷ room (both (length es)) (e ∷ v ∷ []) ∷ [] in
-      asked-next (firstNo (flatAsked f)) rest hr ha
-      (λ y. let z = all-yes (flatAsked f) y in
-      asked-last (fits n) hb
-      (hc ∙ ap fits (en ∙ ap saturated (total-columns (agree-told 3 (length es) (length vs) (z .0)) (sequences-told os es (z .1 .1 .0)))) ∙ fits-saturated n)
-      (λ u. hd))
-      ∙ sym (first-several (flatAsked f) rest)
+  pub fits-total : firstNo (flatAsked (flat os es vs)) ≡ none
+      → fits (saturated (total (lengths (parts os es)))) ≡ fits (total (map lengthOf (columns (flat os es vs))))
+  unfolding paired
+  fits-total y =
+      let z = all-yes (flatAsked (flat os es vs)) y in
+      let t = total-columns (agree-told 3 (length es) (length vs) (z .0)) (sequences-told os es (z .1 .1 .0)) in
+      fits-saturated (total (lengths (parts os es))) ∙ ap fits t
 
   pub concat-yes : (e v : List ℤ) → concatAsked (flat os es vs) (length e ∷ length v ∷ []) ≡ none → Joinable (flat os es vs) e v
   unfolding concatAsked paired

@@ -1,3 +1,3 @@
 pub mod Joining
-pub mod Natural
 pub mod Reversing
+pub mod JoiningTwo

@@ -61,7 +61,8 @@ unfolding reverseRuns reverseFrom runsOf
 reversed-none [] vs e₀ v₀ h = fill-none e₀ v₀
 reversed-none (e ∷ es) vs e₀ v₀ h = let z : ⊥ = omega arith in absurd z
 
-pub reversed-filled : (es vs : List ℤ) {e₀ e v₀ v : List ℤ} → endsValid es ≡ none → length es ≡ length vs → e ≡ over (turnedEnds es) e₀ → v ≡ over (reverse vs) v₀
+pub reversed-filled : (es vs : List ℤ) {e₀ e v₀ v : List ℤ} → endsValid es ≡ none → length es ≡ length vs
+    → e ≡ over (turnedEnds es) e₀ → v ≡ over (reverse vs) v₀
     → Filled (reverseRuns (runsOf es vs)) e₀ e v₀ v (length es)
 unfolding reverseRuns
 reversed-filled es vs {e₀ = e₀} {v₀ = v₀} valid l he hv =
@@ -95,20 +96,24 @@ module _ (es e₀ : List ℤ) where
 
   module _ {n : ℕ} {e : List ℤ} {t : ℕ} (r : TurningEnds n e t) where
     -- at the run i
-    written-at : {x : ℤ} (i : ℕ) → i + t + 1 ≡ length es → length es ≤ length e₀ → x ≡ pos (n - toNat (endBefore es i)) → set e t x ≡ over (turnedAt n i) e₀
+    written-at : {x : ℤ} (i : ℕ) → i + t + 1 ≡ length es → length es ≤ length e₀ → x ≡ pos (n - toNat (endBefore es i))
+        → set e t x ≡ over (turnedAt n i) e₀
     written-at i h room ex =
         let now : length es - t ≡ suc i = omega arith in
-        let c : length (turnedAt n (suc i)) ≡ t = length-turned n (toNat (getD es i (pos 0))) (drop (suc i) es) ∙ length-drop (suc i) es ∙ (let z : length es - suc i ≡ t = omega arith in z) in
+        let z : length es - suc i ≡ t = omega arith in
+        let c : length (turnedAt n (suc i)) ≡ t = length-turned n (toNat (getD es i (pos 0))) (drop (suc i) es) ∙ length-drop (suc i) es ∙ z in
         rw (turned-next n i (omega arith), ex, r .ends, now) (over-next (turnedAt n (suc i)) e₀ t (pos (n - toNat (endBefore es i))) (sym c) (omega arith))
 
     -- before the run at j + 1
-    pub ends-more : {x : ℤ} (j : ℕ) → x ≡ pos (n - toNat (getD es j (pos 0))) → length es ≤ length e₀ → j + t + 2 ≡ length es → TurningEnds n (set e t x) (t + 1)
+    pub ends-more : {x : ℤ} (j : ℕ) → x ≡ pos (n - toNat (getD es j (pos 0))) → length es ≤ length e₀ → j + t + 2 ≡ length es
+        → TurningEnds n (set e t x) (t + 1)
     ends-more j ex room h =
         let later : length es - (t + 1) ≡ suc j = omega arith in
         record { within = omega arith; ends = rw later (written-at (suc j) (omega arith) room ex); long = rw length-set (r .long) }
 
     -- and at the first run
-    pub ends-end : {x : ℤ} {k : ℕ} → x ≡ pos n → length es ≤ length e₀ → k ≡ t → t + 1 ≡ length es → n ≡ toNat (lengthOfEnds es) → set e k x ≡ over (turnedEnds es) e₀
+    pub ends-end : {x : ℤ} {k : ℕ} → x ≡ pos n → length es ≤ length e₀ → k ≡ t → t + 1 ≡ length es → n ≡ toNat (lengthOfEnds es)
+        → set e k x ≡ over (turnedEnds es) e₀
     ends-end ex room hk h l =
         let z : n - 0 ≡ n = omega arith in
         rw (hk, ← l) (written-at 0 (omega arith) room (rw z ex))
@@ -131,10 +136,12 @@ module _ (vs v₀ : List ℤ) where
         let now : length vs - t ≡ suc i = omega arith in
         let later : length vs - (t + 1) ≡ i = omega arith in
         let done : List ℤ = reverse (drop (suc i) vs) in
-        let c : length done ≡ t = length-reverse (drop (suc i) vs) ∙ length-drop (suc i) vs ∙ (let z : length vs - suc i ≡ t = omega arith in z) in
+        let z : length vs - suc i ≡ t = omega arith in
+        let c : length done ≡ t = length-reverse (drop (suc i) vs) ∙ length-drop (suc i) vs ∙ z in
         record {
           within = omega arith;
-          values = rw (later, drop-cons vs i (pos 0) (omega arith), reverse-cons (getD vs i (pos 0)) (drop (suc i) vs), ex, r .values, now) (over-next done v₀ t (getD vs i (pos 0)) (sym c) (omega arith));
+          values = rw (later, drop-cons vs i (pos 0) (omega arith), reverse-cons (getD vs i (pos 0)) (drop (suc i) vs), ex, r .values, now)
+              (over-next done v₀ t (getD vs i (pos 0)) (sym c) (omega arith));
           long = rw length-set (r .long);
         }
 
@@ -149,7 +156,8 @@ module _ (es : List ℤ) (valid : endsValid es ≡ none) where
   length-read h = sym (length-last es (λ z. let f : ⊥ = omega arith in f)) ∙ (let k = length-of-ends es es valid refl in k ∙ ap pos (sym (ap toNat k)))
 
   -- and each is a natural number up to that
-  pub end-read : {i : ℕ} {x : ℤ} → x ≡ getD es i (pos 0) → i < length es → (x ≡ pos (toNat (getD es i (pos 0)))) × (toNat (getD es i (pos 0)) ≤ toNat (lengthOfEnds es))
+  pub end-read : {i : ℕ} {x : ℤ} → x ≡ getD es i (pos 0) → i < length es
+      → (x ≡ pos (toNat (getD es i (pos 0)))) × (toNat (getD es i (pos 0)) ≤ toNat (lengthOfEnds es))
   unfolding lengthOfEnds
   end-read {i} ex h = let k = rising-at 0 es i (rising es valid) h in (ex ∙ k .0, k .2)
 
@@ -163,11 +171,13 @@ reverse-replicate : (n : ℕ) (v : ℤ) → reverse (replicate n v) ≡ replicat
 reverse-replicate zero v = refl
 reverse-replicate (suc n) v = reverse-cons v (replicate n v) ∙ rw (reverse-replicate n v) (replicate-end n v)
 
--- one run more behind runs
+-- one run more after runs
 dense-end : (p : ℕ) (rs : Runs) (r : Run) → denseFrom p (rs ++ r ∷ []) ≡ denseFrom p rs ++ replicate (r .end - lastEnd p rs) (r .value)
 unfolding denseFrom
 dense-end p [] r = append-nil (replicate (r .end - p) (r .value))
-dense-end p (s ∷ rs) r = rw (dense-end (s .end) rs r) (sym (append-assoc (replicate (s .end - p) (s .value)) (denseFrom (s .end) rs) (replicate (r .end - lastEnd (s .end) rs) (r .value))))
+dense-end p (s ∷ rs) r =
+    rw (dense-end (s .end) rs r)
+    (sym (append-assoc (replicate (s .end - p) (s .value)) (denseFrom (s .end) rs) (replicate (r .end - lastEnd (s .end) rs) (r .value))))
 
 rising-end : (p : ℕ) (rs : Runs) (r : Run) → Rising p rs → lastEnd p rs < r .end → Rising p (rs ++ r ∷ [])
 rising-end p [] r h k = (k, tt)

@@ -14,7 +14,7 @@ ghost use Rattle.column.specs.Runs.{toNat, lengthOfEnds, givenSequence};
 ghost use Rattle.transform.specs.Calls as calls;
 ghost use Rattle.column.specs.Lent.{given};
 
-// The lengths of all sequences together; at most usize::MAX is told.
+// The lengths of all sequences together, saturating at usize::MAX.
 fn total_length(offsets: &[usize], ends: &[i64]) -> usize
     ensures { λ r. ⌜ r ≡ saturated (total (map (λ es. toNat (lengthOfEnds es)) (parts (given offsets) (given ends)))) ⌝ }
 {
@@ -39,9 +39,9 @@ fn concat_asks(
 ) -> Asked
     ensures { λ r. ⌜ shownAsked r ≡ calls.concatAsked (givenFlat offsets ends values) («out_ends» ∷ «out_values» ∷ []) ⌝ }
 {
-    let room = questions::ask_both(ends.len(), out_ends, out_values);
-    let fit = questions::first_no(questions::ask_fits(total_length(offsets, ends)), room);
-    questions::first_no(questions::ask_flat(offsets, ends, values), fit)
+    questions::ask_flat(offsets, ends, values)
+        .and(questions::ask_fits(total_length(offsets, ends)))
+        .and(questions::ask_both(ends.len(), out_ends, out_values))
 }
 
 // Sequences joined end to end, merged.

@@ -11,7 +11,8 @@ use Rattle.getitems.proofs.count_runs.Statement.{statement}
 use Rattle.getitems.proofs.count_runs.Tie as tie
 
 abbrev Inv-loop : tie.InvT-loop
-Inv-loop ends starts stops firsts₀ lasts₀ total₀ i₀ firsts lasts total i = Counting starts stops ends total i × Kept ends starts 0 firsts i × Kept ends stops 1 lasts i
+Inv-loop ends starts stops firsts₀ lasts₀ total₀ i₀ firsts lasts total i = Counting starts stops ends total i × Kept ends starts 0 firsts i
+    × Kept ends stops 1 lasts i
 
 abbrev μ-loop : tie.MeasureT-loop
 μ-loop ends starts stops firsts₀ lasts₀ total₀ i₀ firsts lasts total i = length starts - i
@@ -44,10 +45,15 @@ slice-aggregate-find-next-2 : tie.Need-slice-aggregate-find-next-2 Inv-loop μ-l
 slice-aggregate-find-next-2 c = search needs
 
 find-next-requires-2 : tie.Need-find-next-requires-2 Inv-loop μ-loop
-find-next-requires-2 c κs = let n = c .before .before .before .before .before .before in (omega (arith, n .loop-test .taken, n .before .before .if1 .left), n .before .loop .inv .2)
+find-next-requires-2 c κs = let n = c .before .before .before .before .before .before in
+    (omega (arith, n .loop-test .taken, n .before .before .if1 .left), n .before .loop .inv .2)
 
 count-at-requires : tie.Need-count-at-requires Inv-loop μ-loop
-count-at-requires c κs = omega (arith, c .before .find-next2 .ensures .0, c .before .before .before .before .before .before .before .before .before .before .before .good)
+count-at-requires c κs = omega (
+  arith,
+  c .before .find-next2 .ensures .0,
+  c .before .before .before .before .before .before .before .before .before .before .before .good,
+)
 
 saturating-add-requires : tie.Need-saturating-add-requires Inv-loop μ-loop
 saturating-add-requires c κs = search needs
@@ -63,11 +69,12 @@ loop-again c = let k = c .before in
     let f2 = k .before .before in
     let f1 = f2 .before .before .before in
     let p = f1 .before .before in
+    let n = p .before .before in
     let x = back _ (p .before .start .given) in
-    let y = back _ (f1 .before .before .stop .given) in
-    let n = p .before .before in (
-      counting-next (n .before .loop .inv .0) (n .loop-test .taken) x y
-          (λ v. k .count-at .ensures v (f1 .find-next .ensures .1 v ∙ ap (found _ 0) (sym x)) (f2 .find-next2 .ensures .1 v ∙ ap (found _ 1) (sym y))) (c .saturating-add .ensures),
+    let y = back _ (f1 .before .before .stop .given) in (
+      counting-next (n .before .loop .inv .0) (n .loop-test .taken)
+          x y (λ v. k .count-at .ensures v (f1 .find-next .ensures .1 v ∙ ap (found _ 0) (sym x)) (f2 .find-next2 .ensures .1 v ∙ ap (found _ 1) (sym y)))
+          (c .saturating-add .ensures),
       f1 .find-next .ensures .2,
       f2 .find-next2 .ensures .2,
     )

@@ -49,8 +49,10 @@ returns c = let w = c .before .before .before .before in
     let d = t .before .before in
     let s = d .before .before in
     let y = asked-yes (asked d) (t .enum-told .given .1) in
-    let g = getitems-yes (now (s .args .ends)) (now (s .args .values)) (now (s .args .starts)) (now (s .args .stops)) (now (s .args .out-offsets)) (now (s .args .out-ends)) (now (s .args .out-values)) y in
-    flat-written _ y (sym (length-items (now (s .args .starts)) (now (s .args .stops)) _ (g .intervals))) (w .getitems .ensures)
+    let a = s .args in
+    let g = getitems-yes (now (a .ends)) (now (a .values)) (now (a .starts)) (now (a .stops)) (now (a .out-offsets)) (now (a .out-ends)) (now (a .out-values))
+    y in
+    flat-written _ y (sym (length-items (now (a .starts)) (now (a .stops)) _ (g .intervals))) (w .getitems .ensures)
 
 returns-2 : tie.Need-returns-2
 unfolding getitems

@@ -6,10 +6,10 @@ ghost use mathlib.Core.Path.{_≡_};
 ghost use lib.IntN.{pos};
 ghost use lib.ListN.{length, getD};
 ghost use Rattle.column.specs.Questions.{endsValid};
-ghost use Rattle.getitems.specs.Workers.{sought, found, Begun, Halvings, Searched, Kept};
+ghost use Rattle.getitems.specs.Workers.{blockSize, sought, found, Begun, Halvings, Searched, Kept};
 ghost use Rattle.column.specs.Lent.{given, after};
 
-// How many are looked for at once.
+// How many are looked for at once: `blockSize`.
 pub const BLOCK: usize = 16;
 
 // What is looked for: the position as clamped to the sequence, or the one before it.
@@ -30,7 +30,7 @@ fn start(
     places: &mut [usize],
     lows: &mut [usize],
 )
-    requires { ⌜ (length (now places) ≡ 16) × (length (now lows) ≡ 16) × (from < 2 ^ 63) ⌝ }
+    requires { ⌜ (length (now places) ≡ blockSize) × (length (now lows) ≡ blockSize) × (from < 2 ^ 63) ⌝ }
     ensures { λ _. ⌜ Begun (given ends) (given positions) from back (after places) (after lows) ⌝ }
 {
     let mut k: usize = 0;
@@ -58,7 +58,7 @@ fn halve(ends: &[i64], size: usize, places: &[usize], lows: &mut [usize])
 
 // The searches of the block at `from`.
 fn search(ends: &[i64], positions: &[i64], from: usize, back: usize, block: &mut [usize])
-    requires { ⌜ (length (now block) ≡ 16) × (from < 2 ^ 63) ⌝ }
+    requires { ⌜ (length (now block) ≡ blockSize) × (from < 2 ^ 63) ⌝ }
     ensures { λ _. ⌜ Searched (given ends) (given positions) back from (after block) ⌝ }
 {
     let mut places = [0usize; BLOCK];

@@ -1,14 +1,14 @@
-use mathlib.Core.List.{[], _∷_}
+use mathlib.Core.List.{List, [], _∷_}
 use mathlib.Core.Path.{_≡_}
 use denote.Ref.{now}
 use lib.ListN.{length}
 use mir.Facts.{toZ-ofZ}
 use mir.Syntax.{w64}
 use mir.Val.{SFits}
-use Rattle.column.specs.Asking.{shownAsked, firstNo}
+use Rattle.column.specs.Asking.{Question, shownAsked, firstNo}
 use Rattle.column.specs.Questions.{listed, paired}
 use Rattle.column.specs.Runs.{sequence, lengthOfEnds}
-use Rattle.column.proofs.FirstNo.{all-yes, asked-last}
+use Rattle.column.proofs.FirstNo.{all-yes, asks-first, asks-then}
 use Rattle.column.proofs.Promised.{asked-yes, asked-no}
 use Rattle.column.proofs.Told.{agree-told}
 use Rattle.reduce.proofs.Answers.{reduces-whole, reduce-refused}
@@ -18,15 +18,17 @@ use Rattle.reduce.proofs.reduce.Statement.{statement}
 use Rattle.reduce.proofs.reduce.Tie as tie
 
 -- the questions before 4
-asked : (c : tie.After-first-no) → let a = c .before .before .before .args in shownAsked (c .first-no .result) ≡ firstNo (listed 0 2 (a .code) ∷ paired (sequence (now (a .ends)) (now (a .values))) ∷ [])
+abbrev before-ends : tie.Start → List Question
+before-ends s = listed 0 2 (s .args .code) ∷ paired (sequence (now (s .args .ends)) (now (s .args .values))) ∷ []
+
+asked : (c : tie.After-and) → shownAsked (c .and .result) ≡ firstNo (before-ends (c .before .before .before))
 unfolding paired
-asked c = asked-last (listed 0 2 (c .before .before .before .args .code)) (c .first-no .ensures) (c .before .before .ask-code .ensures) (λ y. c .before .ask-lengths .ensures)
+asked c = asks-then (asks-first (c .before .before .ask-code .ensures)) (c .and .ensures) (λ y. c .before .ask-lengths .ensures) .told
 
 lengths : (c : tie.After-enum-told) → let a = c .before .before .before .before .before .args in length (now (a .ends)) ≡ length (now (a .values))
 unfolding paired
 lengths c = let k = c .before .before in
-    let a = k .before .before .before .args in
-    agree-told 3 _ _ (all-yes (listed 0 2 (a .code) ∷ paired (sequence (now (a .ends)) (now (a .values))) ∷ []) (asked-yes (asked k) (c .enum-told .given .1)) .1 .0)
+    agree-told 3 _ _ (all-yes (before-ends (k .before .before .before)) (asked-yes (asked k) (c .enum-told .given .1)) .1 .0)
 
 end-fits : (c : tie.After-whole) → SFits w64 (c .whole .result .end)
 end-fits c = search needs
@@ -40,8 +42,8 @@ ask-code-requires c κs = search needs
 ask-lengths-requires : tie.Need-ask-lengths-requires
 ask-lengths-requires c κs = search needs
 
-first-no-requires : tie.Need-first-no-requires
-first-no-requires c κs = search needs
+and-requires : tie.Need-and-requires
+and-requires c κs = search needs
 
 enum-told : tie.Need-enum-told
 enum-told c = search needs
@@ -64,8 +66,9 @@ returns c = let k = c .before in
     let v = k .before in
     let e = v .before in
     let s = e .before .before .before .before .before in
-    reduces-whole (now (s .args .ends)) (now (s .args .values)) (lengths e) (s .args .code) (s .args .ddof)
-    (rw (v .whole .ensures, toZ-ofZ (s .fits .ddof)) at (k .reduce-window .ensures)) (asked-yes (asked (e .before .before)) (e .enum-told .given .1)) (c .reduction-answer .ensures)
+    let reduced = rw (v .whole .ensures, toZ-ofZ (s .fits .ddof)) at (k .reduce-window .ensures) in
+    let y = asked-yes (asked (e .before .before)) (e .enum-told .given .1) in
+    reduces-whole (now (s .args .ends)) (now (s .args .values)) (lengths e) (s .args .code) (s .args .ddof) reduced y (c .reduction-answer .ensures)
 
 returns-2 : tie.Need-returns-2
 returns-2 c = reduce-refused _ _ _ _ _ (asked-no _ (asked (c .before .before .before)) (c .before .asked .given .1))
@@ -76,7 +79,7 @@ reduce-spec =
     (tie.spec
     ask-code-requires
     ask-lengths-requires
-    first-no-requires
+    and-requires
     enum-told
     whole-requires
     reduce-window-requires

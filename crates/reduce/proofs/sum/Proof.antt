@@ -47,7 +47,9 @@ returns c = let k = c .before in
     let v = k .before in
     let e = v .before in
     let s = e .before .before .before in
-    c .sum-answer .ensures ∙ sum-whole (now (s .args .ends)) (now (s .args .values)) (lengths e) (fits v) (rw (v .whole .ensures) at (k .sum-window .ensures)) (asked-yes (e .before .before .ask-lengths .ensures) (e .enum-told .given .1))
+    let sum = rw (v .whole .ensures) at (k .sum-window .ensures) in
+    let y = asked-yes (e .before .before .ask-lengths .ensures) (e .enum-told .given .1) in
+    c .sum-answer .ensures ∙ sum-whole (now (s .args .ends)) (now (s .args .values)) (lengths e) (fits v) sum y
 
 returns-2 : tie.Need-returns-2
 unfolding paired

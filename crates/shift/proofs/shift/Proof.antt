@@ -17,7 +17,10 @@ enum-told : tie.Need-enum-told
 enum-told c = search needs
 
 shift-requires : tie.Need-shift-requires
-shift-requires c κs = let s = c .before .before .before .before .before in sequence-told (now (s .args .ends)) (now (s .args .values)) _ _ _ (asked-yes (c .before .before .before .before .ask-sequence-into .ensures) (c .before .before .enum-told .given .1))
+shift-requires c κs = let e = c .before .before in
+    let q = e .before .before in
+    let a = q .before .args in
+    sequence-told (now (a .ends)) (now (a .values)) _ _ _ (asked-yes (q .ask-sequence-into .ensures) (e .enum-told .given .1))
 
 enum-known-asked : tie.Need-enum-known-asked
 enum-known-asked c = search needs
@@ -30,7 +33,11 @@ same-length-2 c = search needs
 
 returns : tie.Need-returns
 unfolding shift
-returns c = let s = c .before .before .before .before .before .before .before .before in rw (toZ-ofZ (s .fits .distance), toZ-ofZ (s .fits .fill)) at (runs-written _ (asked-yes (c .before .before .before .before .before .before .before .ask-sequence-into .ensures) (c .before .before .before .before .before .enum-told .given .1)) (c .before .before .shift .ensures))
+returns c = let e = c .before .before .before .before .before in
+    let q = e .before .before in
+    let f = q .before .fits in
+    let y = asked-yes (q .ask-sequence-into .ensures) (e .enum-told .given .1) in
+    rw (toZ-ofZ (f .distance), toZ-ofZ (f .fill)) at (runs-written _ y (c .before .before .shift .ensures))
 
 returns-2 : tie.Need-returns-2
 unfolding shift

@@ -12,7 +12,7 @@ enum-told : tie.Need-enum-told
 enum-told c = search needs
 
 concat-requires : tie.Need-concat-requires
-concat-requires c κs = concat-yes _ _ _ _ _ (asked-yes (c .before .before .before .before .concat-asks .ensures) (c .before .before .enum-told .given .1))
+concat-requires c κs = let e = c .before .before in concat-yes _ _ _ _ _ (asked-yes (e .before .before .concat-asks .ensures) (e .enum-told .given .1))
 
 enum-known-asked : tie.Need-enum-known-asked
 enum-known-asked c = search needs
@@ -25,7 +25,8 @@ same-length-2 c = search needs
 
 returns : tie.Need-returns
 unfolding concat
-returns c = runs-written _ (asked-yes (c .before .before .before .before .before .before .before .concat-asks .ensures) (c .before .before .before .before .before .enum-told .given .1)) (c .before .before .concat .ensures)
+returns c = let e = c .before .before .before .before .before in
+    runs-written _ (asked-yes (e .before .before .concat-asks .ensures) (e .enum-told .given .1)) (c .before .before .concat .ensures)
 
 returns-2 : tie.Need-returns-2
 unfolding concat

@@ -13,7 +13,10 @@ enum-told : tie.Need-enum-told
 enum-told c = search needs
 
 reversed-requires : tie.Need-reversed-requires
-reversed-requires c κs = let s = c .before .before .before .before .before in sequence-told (now (s .args .ends)) (now (s .args .values)) _ _ _ (asked-yes (c .before .before .before .before .ask-sequence-into .ensures) (c .before .before .enum-told .given .1))
+reversed-requires c κs = let e = c .before .before in
+    let q = e .before .before in
+    let a = q .before .args in
+    sequence-told (now (a .ends)) (now (a .values)) _ _ _ (asked-yes (q .ask-sequence-into .ensures) (e .enum-told .given .1))
 
 enum-known-asked : tie.Need-enum-known-asked
 enum-known-asked c = search needs
@@ -26,7 +29,8 @@ same-length-2 c = search needs
 
 returns : tie.Need-returns
 unfolding reversed
-returns c = runs-written _ (asked-yes (c .before .before .before .before .before .before .before .ask-sequence-into .ensures) (c .before .before .before .before .before .enum-told .given .1)) (c .before .before .reversed .ensures)
+returns c = let e = c .before .before .before .before .before in
+    runs-written _ (asked-yes (e .before .before .ask-sequence-into .ensures) (e .enum-told .given .1)) (c .before .before .reversed .ensures)
 
 returns-2 : tie.Need-returns-2
 unfolding reversed

@@ -54,7 +54,13 @@ loop-less : tie.Need-loop-less Inv-loop μ-loop
 loop-less c = search needs
 
 loop-again : tie.Need-loop-again Inv-loop μ-loop
-loop-again c = let l = c .before .before .before .before .before .before .before in let t = c .before .before .before .before .before .before in (omega (arith, t .loop-test .taken), total-next _ _ (l .loop .inv .1) (t .loop-test .taken) (c .saturating-add .ensures) (c .before .to-nat .ensures) (back _ (c .before .before .length .ok) ∙ c .before .before .length .ensures) (c .before .before .before .part .ensures))
+loop-again c = let n = c .before in
+    let l = n .before in
+    let p = l .before in
+    let t = p .before .before .before in
+    let length = back _ (l .length .ok) ∙ l .length .ensures in
+    let next = total-next _ _ (t .before .loop .inv .1) (t .loop-test .taken) (c .saturating-add .ensures) (n .to-nat .ensures) length (p .part .ensures) in
+    (omega (arith, t .loop-test .taken), next)
 
 returns : tie.Need-returns Inv-loop μ-loop
 returns c = total-end _ _ (c .before .loop .inv .1) (c .loop-test .left)

@@ -1,11 +1,11 @@
 use Prim.Native.Nat.{_+_, _≤_, _-_}
-use mathlib.Core.List.{[]}
+use mathlib.Core.List.{List, []}
 use mathlib.Core.Path.{_≡_, refl}
 use native.Mathlib.Omega.{arith}
 use denote.Ref.{now}
 use lib.ListN.{getD, take, drop, length-set, length}
 use Rattle.num.proofs.Bits.{back}
-use Rattle.column.specs.Runs.{runsOf, Filled}
+use Rattle.column.specs.Runs.{Runs, runsOf, Filled}
 use Rattle.getitems.specs.Calls.{intervalRuns}
 use Rattle.column.proofs.Laying.{Laying, laying-start, laying-room, laying-next, laying-end}
 use Rattle.getitems.specs.Workers.{Kept}
@@ -17,33 +17,41 @@ use Rattle.getitems.proofs.inner.getitems.Tie as tie
 
 abbrev Inv-loop : tie.InvT-loop
 Inv-loop ends values starts stops out-offsets₀ out-ends₀ out-values₀ firsts₀ used₀ i₀ out-offsets out-ends out-values firsts used i =
-    Laying (intervalRuns starts stops (runsOf ends values)) out-offsets₀ out-offsets out-ends₀ out-ends out-values₀ out-values used i × Kept ends starts 0 firsts i
+    Laying (intervalRuns starts stops (runsOf ends values)) out-offsets₀ out-offsets out-ends₀ out-ends out-values₀ out-values used i
+    × Kept ends starts 0 firsts i
 
 abbrev μ-loop : tie.MeasureT-loop
 μ-loop ends values starts stops out-offsets₀ out-ends₀ out-values₀ firsts₀ used₀ i₀ out-offsets out-ends out-values firsts used i =
     length starts - i
 
 -- the sequences, and the room for the next of them
-items : (c : tie.At-loop Inv-loop μ-loop) → length (intervalRuns (now (c .before .before .args .starts)) (now (c .before .before .args .stops)) (runsOf (now (c .before .before .args .ends)) (now (c .before .before .args .values)))) ≡ length (now (c .before .before .args .starts))
+abbrev slices : tie.At-loop Inv-loop μ-loop → List Runs
+slices c = let a = c .before .before .args in intervalRuns (now (a .starts)) (now (a .stops)) (runsOf (now (a .ends)) (now (a .values)))
+
+items : (c : tie.At-loop Inv-loop μ-loop) → length (slices c) ≡ length (now (c .before .before .args .starts))
 items c = let s = c .before .before in length-items (now (s .args .starts)) (now (s .args .stops)) _ (s .pre .intervals)
 
-room : (c : tie.In-loop Inv-loop μ-loop) → let l = c .before in let s = l .before .before in
-    let n = l .loop .used + length (getD (intervalRuns (now (s .args .starts)) (now (s .args .stops)) (runsOf (now (s .args .ends)) (now (s .args .values)))) (l .loop .i) []) in
+room : (c : tie.In-loop Inv-loop μ-loop) → let l = c .before in
+    let n = l .loop .used + length (getD (slices l) (l .loop .i) []) in
     (n ≤ length (l .loop .out-ends)) × (n ≤ length (l .loop .out-values))
-room c = let l = c .before in let s = l .before .before in
+room c = let l = c .before in
+    let s = l .before .before in
     let r = laying-room (l .loop .inv .0) (rw (items l) (c .loop-test .taken)) in
     (rw (l .loop .inv .0 .long-ends) (r _ (s .pre .room-ends)), rw (l .loop .inv .0 .long-values) (r _ (s .pre .room-values)))
 
 -- what the worker left in the rest of the buffers
-wrote : (c : tie.After-slice-at Inv-loop μ-loop) → let l = c .before .before .before .before .before .before .before .before .before in let s = l .before .before in
-    Filled (getD (intervalRuns (now (s .args .starts)) (now (s .args .stops)) (runsOf (now (s .args .ends)) (now (s .args .values)))) (l .loop .i) [])
+wrote : (c : tie.After-slice-at Inv-loop μ-loop) → let l = c .before .before .before .before .before .before .before .before .before in
+    Filled (getD (slices l) (l .loop .i) [])
     (take (length (l .loop .out-ends) - l .loop .used) (drop (l .loop .used) (l .loop .out-ends))) (c .slice-at .last .1 .1 .1 .1 .1 .0)
-    (take (length (l .loop .out-values) - l .loop .used) (drop (l .loop .used) (l .loop .out-values))) (c .slice-at .last .1 .1 .1 .1 .1 .1 .0) (c .slice-at .result)
+    (take (length (l .loop .out-values) - l .loop .used) (drop (l .loop .used) (l .loop .out-values))) (c .slice-at .last .1 .1 .1 .1 .1 .1 .0)
+    (c .slice-at .result)
 wrote c = let p = c .before .before .before .before .before .before in
     let n = p .before .before in
     let l = n .before in
     let s = l .before .before in
-    item-filled (now (s .args .ends)) (now (s .args .values)) (now (s .args .starts)) (now (s .args .stops)) (s .pre .valid) (s .pre .paired) (s .pre .intervals) (l .loop .i) (n .loop-test .taken)
+    let a = s .args in
+    let q = s .pre in
+    item-filled (now (a .ends)) (now (a .values)) (now (a .starts)) (now (a .stops)) (q .valid) (q .paired) (q .intervals) (l .loop .i) (n .loop-test .taken)
     (back _ (p .before .start .given)) (back _ (p .stop .given)) (c .slice-at .ensures)
 
 slice-write-out-offsets : tie.Need-slice-write-out-offsets Inv-loop μ-loop
@@ -71,28 +79,28 @@ find-next-requires : tie.Need-find-next-requires Inv-loop μ-loop
 find-next-requires c κs = let n = c .before .before .before in (n .loop-test .taken, n .before .loop .inv .1)
 
 mul-slice-at : tie.Need-mul-slice-at Inv-loop μ-loop
-mul-slice-at c = omega (arith, room (c .before .before .before .before .before) .0, room (c .before .before .before .before .before) .1)
+mul-slice-at c = let r = room (c .before .before .before .before .before) in omega (arith, r .0, r .1)
 
 sub-slice-at : tie.Need-sub-slice-at Inv-loop μ-loop
-sub-slice-at c = omega (arith, room (c .before .before .before .before .before) .0, room (c .before .before .before .before .before) .1)
+sub-slice-at c = let r = room (c .before .before .before .before .before) in omega (arith, r .0, r .1)
 
 part-slice-at-start : tie.Need-part-slice-at-start Inv-loop μ-loop
-part-slice-at-start c = omega (arith, room (c .before .before .before .before .before) .0, room (c .before .before .before .before .before) .1)
+part-slice-at-start c = let r = room (c .before .before .before .before .before) in omega (arith, r .0, r .1)
 
 part-slice-at-end : tie.Need-part-slice-at-end Inv-loop μ-loop
-part-slice-at-end c = omega (arith, room (c .before .before .before .before .before) .0, room (c .before .before .before .before .before) .1)
+part-slice-at-end c = let r = room (c .before .before .before .before .before) in omega (arith, r .0, r .1)
 
 mul-slice-at-2 : tie.Need-mul-slice-at-2 Inv-loop μ-loop
-mul-slice-at-2 c = omega (arith, room (c .before .before .before .before .before .before) .0, room (c .before .before .before .before .before .before) .1)
+mul-slice-at-2 c = let r = room (c .before .before .before .before .before .before) in omega (arith, r .0, r .1)
 
 sub-slice-at-2 : tie.Need-sub-slice-at-2 Inv-loop μ-loop
-sub-slice-at-2 c = omega (arith, room (c .before .before .before .before .before .before) .0, room (c .before .before .before .before .before .before) .1)
+sub-slice-at-2 c = let r = room (c .before .before .before .before .before .before) in omega (arith, r .0, r .1)
 
 part-slice-at-start-2 : tie.Need-part-slice-at-start-2 Inv-loop μ-loop
-part-slice-at-start-2 c = omega (arith, room (c .before .before .before .before .before .before) .0, room (c .before .before .before .before .before .before) .1)
+part-slice-at-start-2 c = let r = room (c .before .before .before .before .before .before) in omega (arith, r .0, r .1)
 
 part-slice-at-end-2 : tie.Need-part-slice-at-end-2 Inv-loop μ-loop
-part-slice-at-end-2 c = omega (arith, room (c .before .before .before .before .before .before) .0, room (c .before .before .before .before .before .before) .1)
+part-slice-at-end-2 c = let r = room (c .before .before .before .before .before .before) in omega (arith, r .0, r .1)
 
 slice-at-requires : tie.Need-slice-at-requires Inv-loop μ-loop
 slice-at-requires c κs = let f = c .before .before .before in
@@ -100,8 +108,11 @@ slice-at-requires c κs = let f = c .before .before .before in
     let n = p .before .before in
     let l = n .before in
     let s = l .before .before in
-    item-sliceable (now (s .args .ends)) (now (s .args .values)) (now (s .args .starts)) (now (s .args .stops)) (s .pre .valid) (s .pre .paired) (s .pre .intervals) (l .loop .i) (n .loop-test .taken)
-    (back _ (p .before .start .given)) (back _ (p .stop .given)) (f .find-next .ensures .1) (l .loop .out-ends) (l .loop .out-values) (l .loop .used) (room n .0) (room n .1)
+    let a = s .args in
+    let q = s .pre in
+    item-sliceable (now (a .ends)) (now (a .values)) (now (a .starts)) (now (a .stops)) (q .valid) (q .paired) (q .intervals) (l .loop .i) (n .loop-test .taken)
+    (back _ (p .before .start .given)) (back _ (p .stop .given)) (f .find-next .ensures .1) (l .loop .out-ends) (l .loop .out-values) (l .loop .used)
+    (room n .0) (room n .1)
 
 add-used : tie.Need-add-used Inv-loop μ-loop
 add-used c = let w = c .before .before in
@@ -112,7 +123,8 @@ add-i : tie.Need-add-i Inv-loop μ-loop
 add-i c = search needs
 
 mul-out-offsets : tie.Need-mul-out-offsets Inv-loop μ-loop
-mul-out-offsets c = let l = c .before .before .before .before .before .before .before .before .before .before .before in omega (arith, l .before .before .pre .room-offsets)
+mul-out-offsets c = let l = c .before .before .before .before .before .before .before .before .before .before .before in
+    omega (arith, l .before .before .pre .room-offsets)
 
 slice-write-out-offsets-2 : tie.Need-slice-write-out-offsets-2 Inv-loop μ-loop
 slice-write-out-offsets-2 c = let l = c .before .before .before .before .before .before .before .before .before .before .before in
@@ -142,7 +154,9 @@ same-length-3 : tie.Need-same-length-3 Inv-loop μ-loop
 same-length-3 c = c .before .loop .inv .0 .long-values
 
 returns : tie.Need-returns Inv-loop μ-loop
-returns c = let s = c .before .before .before in laying-end (now (s .args .out-offsets)) (omega (arith, s .pre .room-offsets)) (c .before .loop .inv .0) (rw (items (c .before)) (c .loop-test .left))
+returns c = let l = c .before in
+    let s = l .before .before in
+    laying-end (now (s .args .out-offsets)) (omega (arith, s .pre .room-offsets)) (l .loop .inv .0) (rw (items l) (c .loop-test .left))
 
 pub getitems-spec : {M : Type 1} → statement M
 getitems-spec =

@@ -23,7 +23,8 @@ abbrev μ-loop : tie.MeasureT-loop
 
 -- as many reductions as intervals
 many : (s : tie.Start Inv-loop μ-loop) → let a = s .args in
-    length (reductions (a .code) (toZ w64 (ofZ w64 (a .ddof))) (now (a .starts)) (now (a .stops)) (runsOf (now (a .ends)) (now (a .values)))) ≡ length (now (a .starts))
+    length (reductions (a .code) (toZ w64 (ofZ w64 (a .ddof))) (now (a .starts)) (now (a .stops)) (runsOf (now (a .ends)) (now (a .values))))
+    ≡ length (now (a .starts))
 many s = length-reductions (s .args .code) (toZ w64 (ofZ w64 (s .args .ddof))) (now (s .args .starts)) (now (s .args .stops)) _ (s .pre .intervals)
 
 loop-holds : tie.Need-loop-holds Inv-loop μ-loop
@@ -76,11 +77,12 @@ loop-again c = let w = c .before .before in
     let l = n .before in
     let s = l .before .before .before in
     let p = s .pre in
+    let a = s .args in
     let m = many s in
-    filling-next (l .loop .inv) (rw m (n .loop-test .taken)) (rw m (p .room-kinds)) (rw m (p .room-bits)) _
-    (interval-reduced (now (s .args .starts)) (now (s .args .stops)) (runsOf (now (s .args .ends)) (now (s .args .values))) (s .args .code) _ (p .intervals) (l .loop .i) (n .loop-test .taken)
-    (back _ (t .before .start .given)) (back _ (t .stop .given)) (w .reduce-slice .ensures .0))
-    (c .before .kind .ensures) (c .bits .ensures)
+    filling-next (l .loop .inv) (rw m (n .loop-test .taken)) (rw m (p .room-kinds)) (rw m (p .room-bits))
+    _ (interval-reduced (now (a .starts)) (now (a .stops)) (runsOf (now (a .ends)) (now (a .values))) (a .code) _ (p .intervals) (l .loop .i)
+    (n .loop-test .taken) (back _ (t .before .start .given)) (back _ (t .stop .given)) (w .reduce-slice .ensures .0)) (c .before .kind .ensures)
+    (c .bits .ensures)
 
 same-length : tie.Need-same-length Inv-loop μ-loop
 same-length c = c .before .loop .inv .kinds .long
@@ -89,8 +91,7 @@ same-length-2 : tie.Need-same-length-2 Inv-loop μ-loop
 same-length-2 c = c .before .loop .inv .bits .long
 
 returns : tie.Need-returns Inv-loop μ-loop
-returns c = let s = c .before .before .before .before in
-    rw (toZ-ofZ (s .fits .ddof)) at (filling-end (c .before .loop .inv) (rw (many s) (c .loop-test .left)))
+returns c = let s = c .before .before .before .before in rw (toZ-ofZ (s .fits .ddof)) at (filling-end (c .before .loop .inv) (rw (many s) (c .loop-test .left)))
 
 pub slice-reduce-spec : {M : Type 1} → statement M
 slice-reduce-spec =

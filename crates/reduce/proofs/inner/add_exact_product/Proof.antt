@@ -13,7 +13,9 @@ exact-requires-2 c κs = rw (toZ-ofZ (c .before .fits .value)) (c .before .pre .
 
 returns : tie.Need-returns
 returns c = let s = c .before .before in
-    product-is (s .args .total) _ (s .args .value) (c .before .exact .ensures ∙ ap converted (toZ-ofZ (s .fits .run) ∙ s .pre .0)) (c .exact2 .ensures ∙ ap converted (toZ-ofZ (s .fits .value)))
+    let run = c .before .exact .ensures ∙ ap converted (toZ-ofZ (s .fits .run) ∙ s .pre .0) in
+    let value = c .exact2 .ensures ∙ ap converted (toZ-ofZ (s .fits .value)) in
+    product-is (s .args .total) _ (s .args .value) run value
 
 pub add-exact-product-spec : {M : Type 1} → statement M
 add-exact-product-spec = tie.close (tie.spec exact-requires exact-requires-2 returns)

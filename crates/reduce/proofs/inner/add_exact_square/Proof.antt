@@ -13,7 +13,9 @@ exact-requires-2 c κs = rw (toZ-ofZ (c .before .fits .run)) (c .before .pre .1)
 
 returns : tie.Need-returns
 returns c = let s = c .before .before in
-    square-is (s .args .total) _ (s .args .value) (s .args .mean) (c .before .exact .ensures ∙ ap converted (toZ-ofZ (s .fits .value))) (c .exact2 .ensures ∙ ap converted (toZ-ofZ (s .fits .run) ∙ s .pre .0))
+    let value = c .before .exact .ensures ∙ ap converted (toZ-ofZ (s .fits .value)) in
+    let run = c .exact2 .ensures ∙ ap converted (toZ-ofZ (s .fits .run) ∙ s .pre .0) in
+    square-is (s .args .total) _ (s .args .value) (s .args .mean) value run
 
 pub add-exact-square-spec : {M : Type 1} → statement M
 add-exact-square-spec = tie.close (tie.spec exact-requires exact-requires-2 returns)

@@ -14,7 +14,9 @@ to-f64-requires-2 c κs = search needs
 
 returns : tie.Need-returns
 returns c = let s = c .before .before in
-    product-is (s .args .total) _ (s .args .value) (c .before .to-f64 .ensures ∙ ap converted (toZ-ofZ (s .fits .run) ∙ s .pre)) (c .to-f642 .ensures ∙ ap converted (toZ-ofZ (s .fits .value)))
+    let run = c .before .to-f64 .ensures ∙ ap converted (toZ-ofZ (s .fits .run) ∙ s .pre) in
+    let value = c .to-f642 .ensures ∙ ap converted (toZ-ofZ (s .fits .value)) in
+    product-is (s .args .total) _ (s .args .value) run value
 
 pub add-product-spec : {M : Type 1} → statement M
 add-product-spec = tie.close (tie.spec to-f64-requires to-f64-requires-2 returns)

@@ -14,7 +14,9 @@ to-f64-requires-2 c κs = search needs
 
 returns : tie.Need-returns
 returns c = let s = c .before .before in
-    square-is (s .args .total) _ (s .args .value) (s .args .mean) (c .before .to-f64 .ensures ∙ ap converted (toZ-ofZ (s .fits .value))) (c .to-f642 .ensures ∙ ap converted (toZ-ofZ (s .fits .run) ∙ s .pre))
+    let value = c .before .to-f64 .ensures ∙ ap converted (toZ-ofZ (s .fits .value)) in
+    let run = c .to-f642 .ensures ∙ ap converted (toZ-ofZ (s .fits .run) ∙ s .pre) in
+    square-is (s .args .total) _ (s .args .value) (s .args .mean) value run
 
 pub add-square-spec : {M : Type 1} → statement M
 add-square-spec = tie.close (tie.spec to-f64-requires to-f64-requires-2 returns)

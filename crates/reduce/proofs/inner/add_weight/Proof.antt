@@ -17,8 +17,7 @@ wrapping-add-requires c κs = search needs
 returns : tie.Need-returns
 returns c = let s = c .before .before in
     let m = c .before .wrapping-mul in
-    back _ (c .wrapping-add .ok) ∙ c .wrapping-add .ensures
-    ∙ ap₂ (λ (a b : ℤ). wrap (a +ℤ b)) (toZ-ofZ (s .fits .total))
+    back _ (c .wrapping-add .ok) ∙ c .wrapping-add .ensures ∙ ap₂ (λ (a b : ℤ). wrap (a +ℤ b)) (toZ-ofZ (s .fits .total))
     (back _ (m .ok) ∙ m .ensures ∙ ap₂ (λ (a b : ℤ). wrap (a *ℤ b)) (toZ-ofZ (s .fits .run) ∙ s .pre) (toZ-ofZ (s .fits .value)))
     ∙ wrap-add-right (s .args .total) _
 

@@ -22,15 +22,13 @@ enum-known-reduction-2 : tie.Need-enum-known-reduction-2
 enum-known-reduction-2 c = search needs
 
 float-to-bits-result : tie.Need-float-to-bits-result
-float-to-bits-result c = let k = c .before .before in
-    finite-no-nan _ ((rw (k .reduction2 .given .1) at (k .before .before .pre)) .1)
+float-to-bits-result c = let k = c .before .before in finite-no-nan _ ((rw (k .reduction2 .given .1) at (k .before .before .pre)) .1)
 
 enum-told : tie.Need-enum-told
 enum-told c = search needs
 
 returns : tie.Need-returns
-returns c = let k = c .before .before in
-    c .as-unsigned .ensures ∙ ap residue (held (c .before)) ∙ sym (ap bitsOf (k .reduction .given .1))
+returns c = let k = c .before .before in c .as-unsigned .ensures ∙ ap residue (held (c .before)) ∙ sym (ap bitsOf (k .reduction .given .1))
 
 returns-2 : tie.Need-returns-2
 returns-2 c = sym (ap bitsOf (c .before .before .reduction2 .given .1))

@@ -25,11 +25,12 @@ larger-requires c κs = search needs
 returns-2 : tie.Need-returns-2
 returns-2 c = let o = c .before .before in
     let s = o .before in
+    let f = s .fits in
     let m = c .before .wrapping-sub in
-    back _ (c .larger .ok) ∙ c .larger .ensures
-    ∙ ap (λ (z : ℤ). largerOf z (pos 0)) (back _ (m .ok) ∙ m .ensures ∙ ap₂ (λ (a b : ℤ). wrap (a -ℤ b)) (toZ-ofZ (s .fits .length) ∙ s .pre) (toZ-ofZ (s .fits .ddof)))
-    ∙ divisor-some _ (s .args .ddof) (to-nat-below _ (s .fits .length)) (s .fits .ddof) (ap (λ (z : ℤ). leZ z (s .args .ddof)) (sym (s .pre)) ∙ told-le (s .fits .length) (s .fits .ddof) (o .if1 .left))
-    ∙ ap (λ (z : ℤ). divisorOf z (s .args .ddof)) (sym (s .pre))
+    let less = back _ (m .ok) ∙ m .ensures ∙ ap₂ (λ (a b : ℤ). wrap (a -ℤ b)) (toZ-ofZ (f .length) ∙ s .pre) (toZ-ofZ (f .ddof)) in
+    let above = ap (λ (z : ℤ). leZ z (s .args .ddof)) (sym (s .pre)) ∙ told-le (f .length) (f .ddof) (o .if1 .left) in
+    back _ (c .larger .ok) ∙ c .larger .ensures ∙ ap (λ (z : ℤ). largerOf z (pos 0)) less
+    ∙ divisor-some _ (s .args .ddof) (to-nat-below _ (f .length)) (f .ddof) above ∙ ap (λ (z : ℤ). divisorOf z (s .args .ddof)) (sym (s .pre))
 
 pub divisor-spec : {M : Type 1} → statement M
 divisor-spec =

@@ -1,18 +1,17 @@
 use Prim.Native.Nat.{_-_, _<_, _^_, zero-le}
 use native.Mathlib.Omega.{arith}
 use denote.Ref.{now}
-use lib.IntN.{pos}
 use lib.Ieee.{ofBits}
-use lib.ListN.{length, getD}
+use lib.ListN.{length}
 use lib.Signed.{mag}
 use mir.Facts.{toZ-ofZ}
 use mir.Syntax.{w64}
-use mir.Val.{toZ, ofZ}
+use mir.Val.{toZ}
 use Rattle.num.proofs.Bits.{back}
 use Rattle.column.specs.Runs.{toNat}
 use Rattle.reduce.specs.Workers.{ExactProducts, ExactRun}
 use Rattle.reduce.proofs.Terms.{product-kept}
-use Rattle.reduce.proofs.Walking.{end-natural, run-fits, run-held, run-small, walked-start, walked-next, exact-next}
+use Rattle.reduce.proofs.Walking.{end-natural, run-fits, run-held, run-small, walked-start, walked-next, exact-next, heldAt}
 use borrow.Author.Needs.{needs}
 use borrow.Author.Tests.{not-false}
 use Rattle.reduce.proofs.inner.exact_products.Statement.{statement}
@@ -26,15 +25,18 @@ abbrev μ-loop : tie.MeasureT-loop
 
 -- the run as the machine holds it
 exact : (c : tie.Else1 Inv-loop μ-loop) → let l = c .before .before .before .before .before in
-    ExactRun (toZ w64 (l .loop .before)) (toZ w64 (ofZ w64 (getD (now (l .before .args .ends)) (l .loop .i) (pos 0)))) (toZ w64 (ofZ w64 (getD (now (l .before .args .values)) (l .loop .i) (pos 0))))
+    ExactRun (toZ w64 (l .loop .before)) (heldAt (now (l .before .args .ends)) (l .loop .i)) (heldAt (now (l .before .args .values)) (l .loop .i))
 exact c = c .before .is-exact .ensures (not-false _ (c .if1 .left))
 
-end-fits : (c : tie.After-end Inv-loop μ-loop) → let l = c .before .before in mag (toZ w64 (ofZ w64 (getD (now (l .before .args .ends)) (l .loop .i) (pos 0)))) < 2 ^ 63
+end-fits : (c : tie.After-end Inv-loop μ-loop) → let l = c .before .before in mag (heldAt (now (l .before .args .ends)) (l .loop .i)) < 2 ^ 63
 end-fits c = rw (back _ (c .end .given)) (c .end .given)
 
 loop-holds : tie.Need-loop-holds Inv-loop μ-loop
 unfolding ofBits
-loop-holds c = record { walked = walked-start _ _ _ _ _ _ zero-le (rw (toZ-ofZ (c .fits .start)) (c .pre .1)); exact = λ j h. let z : ⊥ = omega arith in absurd z }
+loop-holds c = record {
+  walked = walked-start _ _ _ _ _ _ zero-le (rw (toZ-ofZ (c .fits .start)) (c .pre .1));
+  exact = λ j h. let z : ⊥ = omega arith in absurd z;
+}
 
 mul-end : tie.Need-mul-end Inv-loop μ-loop
 mul-end c = search needs
@@ -55,7 +57,7 @@ returns : tie.Need-returns Inv-loop μ-loop
 returns c = let l = c .before .before .before .before .before in rw (toZ-ofZ (l .before .fits .start)) at (l .loop .inv)
 
 sub-add-exact-product : tie.Need-sub-add-exact-product Inv-loop μ-loop
-sub-add-exact-product c = let v = c .before .before in run-fits (end-natural (v .before .before .before .loop .inv .walked)) _ (exact c .rises) (end-fits (v .before))
+sub-add-exact-product c = let e = c .before .before .before in run-fits (end-natural (e .before .before .loop .inv .walked)) _ (exact c .rises) (end-fits e)
 
 add-exact-product-requires : tie.Need-add-exact-product-requires Inv-loop μ-loop
 add-exact-product-requires c κs = let v = c .before .before in
@@ -76,11 +78,14 @@ loop-again c = let o = c .before in
     let l = n .before in
     let s = l .before in
     let w = l .loop .inv .walked in
+    let end = back _ (v .before .end .given) in
+    let value = back _ (v .value .given) in
+    let product = c .add-exact-product .ensures in
+    let small = run-small (end-natural w) _ (exact o .rises) (end-fits (v .before)) in
     record {
-      walked =
-          walked-next w _ (exact o .rises) (s .pre .0) (n .loop-test .taken) (back _ (v .before .end .given)) (back _ (v .value .given)) (toZ-ofZ (sub-add-exact-product o)) (c .add-exact-product .ensures)
-          (rw (c .add-exact-product .ensures) (product-kept _ _ _ (w .kept) (run-small (end-natural w) _ (exact o .rises) (end-fits (v .before))) (rw (back _ (v .value .given)) (record { sfits = v .value .given }))));
-      exact = exact-next (l .loop .inv) (back _ (v .before .end .given)) (back _ (v .value .given)) (exact o);
+      walked = walked-next w _ (exact o .rises) (s .pre .0) (n .loop-test .taken) end value (toZ-ofZ (sub-add-exact-product o))
+          product (rw product (product-kept _ _ _ (w .kept) small (rw value (record { sfits = v .value .given }))));
+      exact = exact-next (l .loop .inv) end value (exact o);
     }
 
 returns-2 : tie.Need-returns-2 Inv-loop μ-loop

@@ -9,12 +9,12 @@ use lib.ListN.{getD, take}
 use lib.Signed.{ltZ, mag}
 use mir.Facts.{toZ-ofZ}
 use mir.Syntax.{w64}
-use mir.Val.{toZ, ofZ}
+use mir.Val.{toZ}
 use Rattle.num.proofs.Bits.{back}
 use Rattle.column.specs.Runs.{toNat, lastFrom}
 use Rattle.reduce.specs.Workers.{WalkedSquares, ExactRun}
 use Rattle.reduce.proofs.Terms.{square-kept}
-use Rattle.reduce.proofs.Walking.{end-natural, run-fits, run-held, run-small, rising-at, walked-start, walked-next}
+use Rattle.reduce.proofs.Walking.{end-natural, run-fits, run-held, run-small, rising-at, walked-start, walked-next, heldAt}
 use borrow.Author.Needs.{needs}
 use Rattle.reduce.proofs.inner.exact_squares.Statement.{statement}
 use Rattle.reduce.proofs.inner.exact_squares.Tie as tie
@@ -26,26 +26,32 @@ abbrev μ-loop : tie.MeasureT-loop
 μ-loop ends values start mean exact total₀ before₀ i₀ total before i = exact - i
 
 -- the run as the machine holds it
-end-fits : (c : tie.After-end Inv-loop μ-loop) → let l = c .before .before in mag (toZ w64 (ofZ w64 (getD (now (l .before .args .ends)) (l .loop .i) (pos 0)))) < 2 ^ 63
+end-fits : (c : tie.After-end Inv-loop μ-loop) → let l = c .before .before in mag (heldAt (now (l .before .args .ends)) (l .loop .i)) < 2 ^ 63
 end-fits c = rw (back _ (c .end .given)) (c .end .given)
 
-rises : (c : tie.After-end Inv-loop μ-loop) → let l = c .before .before in ltZ (toZ w64 (l .loop .before)) (toZ w64 (ofZ w64 (getD (now (l .before .args .ends)) (l .loop .i) (pos 0)))) ≡ true
+last : (c : tie.In-loop Inv-loop μ-loop) → let l = c .before in let s = l .before in
+    toZ w64 (l .loop .before) ≡ lastFrom (pos (toNat (s .args .start))) (take (l .loop .i) (now (s .args .ends)))
+last c = let l = c .before in
+    let s = l .before in
+    l .loop .inv .last ∙ ap (λ (z : ℤ). lastFrom (pos (toNat z)) (take (l .loop .i) (now (s .args .ends)))) (toZ-ofZ (s .fits .start))
+
+rises : (c : tie.After-end Inv-loop μ-loop) → let l = c .before .before in
+    ltZ (toZ w64 (l .loop .before)) (heldAt (now (l .before .args .ends)) (l .loop .i)) ≡ true
 rises c = let n = c .before in
     let l = n .before in
     let s = l .before in
-    ap₂ ltZ (l .loop .inv .last ∙ ap (λ (z : ℤ). lastFrom (pos (toNat z)) (take (l .loop .i) (now (s .args .ends)))) (toZ-ofZ (s .fits .start))) (back _ (c .end .given))
+    ap₂ ltZ (last n) (back _ (c .end .given))
     ∙ (rising-at (toNat (s .args .start)) (now (s .args .ends)) (l .loop .i) (s .pre .1 .rising) (omega (arith, n .loop-test .taken, s .pre .1 .inside)))
 
 exact-run : (c : tie.After-add-exact-square-arg Inv-loop μ-loop) → let l = c .before .before .before in
-    ExactRun (toZ w64 (l .loop .before)) (toZ w64 (ofZ w64 (getD (now (l .before .args .ends)) (l .loop .i) (pos 0)))) (toZ w64 (ofZ w64 (getD (now (l .before .args .values)) (l .loop .i) (pos 0))))
+    ExactRun (toZ w64 (l .loop .before)) (heldAt (now (l .before .args .ends)) (l .loop .i)) (heldAt (now (l .before .args .values)) (l .loop .i))
 exact-run c = let e = c .before in
     let n = e .before in
     let l = n .before in
     let s = l .before in
-    let d : toZ w64 (l .loop .before) ≡ lastFrom (pos (toNat (s .args .start))) (take (l .loop .i) (now (s .args .ends))) = l .loop .inv .last ∙ ap (λ (z : ℤ). lastFrom (pos (toNat z)) (take (l .loop .i) (now (s .args .ends)))) (toZ-ofZ (s .fits .start)) in
     let x = back (getD (now (s .args .ends)) (l .loop .i) (pos 0)) (e .end .given) in
     let y = back (getD (now (s .args .values)) (l .loop .i) (pos 0)) (c .add-exact-square-arg .given) in
-    rw (d, x, y) (s .pre .1 .exactly (l .loop .i) (n .loop-test .taken))
+    rw (last n, x, y) (s .pre .1 .exactly (l .loop .i) (n .loop-test .taken))
 
 loop-holds : tie.Need-loop-holds Inv-loop μ-loop
 unfolding ofBits
@@ -83,8 +89,12 @@ loop-again c = let e = c .before .before in
     let l = n .before in
     let s = l .before in
     let w = l .loop .inv in
-    walked-next w _ (rises e) (s .pre .1 .paired) (omega (arith, n .loop-test .taken, s .pre .1 .inside)) (back _ (e .end .given)) (back _ (c .before .add-exact-square-arg .given)) (toZ-ofZ (sub-add-exact-square e)) (c .add-exact-square .ensures)
-    (rw (c .add-exact-square .ensures) (square-kept _ _ _ _ (s .pre .1 .bounded) (w .kept) (run-small (end-natural w) _ (rises e) (end-fits e)) (rw (back _ (c .before .add-exact-square-arg .given)) (record { sfits = c .before .add-exact-square-arg .given }))))
+    let p = s .pre .1 in
+    let g = c .before .add-exact-square-arg .given in
+    let square = c .add-exact-square .ensures in
+    let small = run-small (end-natural w) _ (rises e) (end-fits e) in
+    walked-next w _ (rises e) (p .paired) (omega (arith, n .loop-test .taken, p .inside)) (back _ (e .end .given)) (back _ g) (toZ-ofZ (sub-add-exact-square e))
+    square (rw square (square-kept _ _ _ _ (p .bounded) (w .kept) small (rw (back _ g) (record { sfits = g }))))
 
 returns : tie.Need-returns Inv-loop μ-loop
 returns c = let l = c .before in rw (toZ-ofZ (l .before .fits .start)) at (l .loop .inv)

@@ -9,8 +9,8 @@ use mir.Syntax.{w64}
 use mir.Val.{SFits}
 use borrow.Author.Needs.{needs}
 use borrow.Author.Tests.{leb-true}
+use Rattle.num.proofs.Tests.{le-lt}
 use Rattle.num.proofs.Bits.{told-le}
-use Rattle.column.proofs.Naturals.{le-lt}
 use Rattle.reduce.proofs.Walking.{run-fits}
 use Rattle.reduce.proofs.inner.is_exact.Statement.{statement}
 use Rattle.reduce.proofs.inner.is_exact.Tie as tie
@@ -39,7 +39,8 @@ returns-2 c = λ e. let o = c .before .before .before in
     let f = o .before .fits in
     record {
       rises = rises o;
-      short = leb-true _ _ (rw (toZ-ofZ (f .end), toZ-ofZ (f .before), toZ-ofZ (run o)) at (sym (c .before .before .is-exact .ensures) ∙ c .before .if2 .taken));
+      short = leb-true _ _
+          (rw (toZ-ofZ (f .end), toZ-ofZ (f .before), toZ-ofZ (run o)) at (sym (c .before .before .is-exact .ensures) ∙ c .before .if2 .taken));
       small = leb-true _ _ (rw (toZ-ofZ (f .value)) at (sym (c .is-exact2 .ensures) ∙ e));
     }
 

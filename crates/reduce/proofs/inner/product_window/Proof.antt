@@ -9,14 +9,15 @@ use lib.Ieee.{Float, ofBits}
 use mir.Facts.{toZ-ofZ}
 use mir.Syntax.{w64}
 use mir.Val.{SFits, toZ, ofZ}
+use Rattle.num.proofs.Tests.{le-lt}
 use Rattle.num.proofs.Bits.{back}
 use Rattle.float.specs.Float.{Within}
 use Rattle.column.specs.Runs.{toNat}
-use Rattle.column.proofs.Naturals.{le-lt}
 use Rattle.reduce.specs.Workers.{AllProducts, ProductsOf, Totalled, bodyOf}
 use Rattle.reduce.specs.Calls.{addProduct, plusZero}
 use Rattle.reduce.proofs.Terms.{product-kept}
-use Rattle.reduce.proofs.Totals.{body-is, body-long, bodies-paired, body-walked, end-in-body, last-end, last-value, walked-paired, walked-inside, total-none, total-refused, total-passed}
+use Rattle.reduce.proofs.Totals.{body-is, body-long, bodies-paired, body-walked, end-in-body, last-end, last-value, walked-paired, walked-inside}
+use Rattle.reduce.proofs.Totals.{total-none, total-refused, total-passed}
 use Rattle.reduce.proofs.Walking.{end-natural, run-fits, run-natural, walked-next}
 use borrow.Author.Needs.{needs}
 use Rattle.reduce.proofs.inner.product_window.Statement.{statement}
@@ -37,14 +38,16 @@ before-back c = search needs
 
 -- all but the last run
 body : (c : tie.After-products) → let a = c .before .before .before .before .before .before .args in
-    AllProducts (toNat (a .window .start)) (bodyOf (a .window) (now (a .ends))) (bodyOf (a .window) (now (a .values))) (c .products .result .runs) (c .products .result .end) (c .products .result .total) (c .products .result .exact)
+    let r = c .products .result in
+    AllProducts (toNat (a .window .start)) (bodyOf (a .window) (now (a .ends))) (bodyOf (a .window) (now (a .values))) (r .runs) (r .end) (r .total) (r .exact)
 body c = let o = c .before .before .before .before .before in
     let a = o .before .args in
     rw (start-back o, body-is (a .window) (now (a .ends)), body-is (a .window) (now (a .values))) at (c .products .ensures)
 
 -- with how many of them are exact
 with-exact : (c : tie.After-products) → let a = c .before .before .before .before .before .before .args in (runs : ℕ) (total : Float)
-    → Totalled addProduct (Within 180) plusZero (a .window) (now (a .ends)) (now (a .values)) runs total → ProductsOf (a .window) (now (a .ends)) (now (a .values)) runs total (c .products .result .exact)
+    → Totalled addProduct (Within 180) plusZero (a .window) (now (a .ends)) (now (a .values)) runs total
+    → ProductsOf (a .window) (now (a .ends)) (now (a .values)) runs total (c .products .result .exact)
 with-exact c runs total t = let s = c .before .before .before .before .before .before in
     let b = body c in
     let l = body-long (s .args .window) (now (s .args .ends)) (s .pre .inside) in
@@ -78,7 +81,11 @@ held c = let m = c .before .before .before in rw (end-back (m .before .before .b
 
 returns : tie.Need-returns
 unfolding ofBits
-returns c = let s = c .before .before in record { totalled = total-none _ _ _ (s .pre) (c .if1 .taken) zero-le; inside = zero-le; exactly = λ j h. let z : ⊥ = omega arith in absurd z }
+returns c = record {
+  totalled = total-none _ _ _ (c .before .before .pre) (c .if1 .taken) zero-le;
+  inside = zero-le;
+  exactly = λ j h. let z : ⊥ = omega arith in absurd z;
+}
 
 sub-last : tie.Need-sub-last
 sub-last c = search needs
@@ -126,8 +133,9 @@ returns-2 c = let k = c .before .before .before in
     let s = o .before .before in
     let b = body k .stopped in
     let h : k .products .result .runs < s .args .window .count - 1 = c .if2 .taken in
-    with-exact k _ _ (total-refused _ _ _ (s .pre) (o .if1 .left) (body-walked _ _ _ (s .pre) (o .if1 .left) (b .walked)) (omega arith)
-    (rw (end-in-body _ _ _ (s .pre) (o .if1 .left) _ h) (b .stopped (rw (body-long (s .args .window) (now (s .args .ends)) (s .pre .inside)) h))))
+    let l = o .if1 .left in
+    let stop = b .stopped (rw (body-long (s .args .window) (now (s .args .ends)) (s .pre .inside)) h) in
+    with-exact k _ _ (total-refused _ _ _ (s .pre) l (body-walked _ _ _ (s .pre) l (b .walked)) (omega arith) (rw (end-in-body _ _ _ (s .pre) l _ h) stop))
 
 returns-3 : tie.Need-returns-3
 returns-3 c = let m = c .before .before .before in
@@ -136,8 +144,10 @@ returns-3 c = let m = c .before .before .before in
     let s = o .before .before in
     let a = s .args in
     let e = all-but-last (c .before) in
-    with-exact k _ _ (total-refused _ _ _ (s .pre) (o .if1 .left) (body-walked _ _ _ (s .pre) (o .if1 .left) (body k .stopped .walked)) (omega (arith, o .if1 .left))
-    (rw (last-end _ _ _ (s .pre) (o .if1 .left) _ e) (le-lt (a .window .end) (k .products .result .end) (sym (ap₂ leZ (end-back (k .before .before .before)) (before-back m)) ∙ c .if3 .taken))))
+    let l = o .if1 .left in
+    let low = le-lt (a .window .end) (k .products .result .end) (sym (ap₂ leZ (end-back (k .before .before .before)) (before-back m)) ∙ c .if3 .taken) in
+    let w = body-walked _ _ _ (s .pre) l (body k .stopped .walked) in
+    with-exact k _ _ (total-refused _ _ _ (s .pre) l w (omega (arith, o .if1 .left)) (rw (last-end _ _ _ (s .pre) l _ e) low))
 
 sub-add-product : tie.Need-sub-add-product
 sub-add-product c = let m = c .before .before .before in rw (end-back (m .before .before .before .before), before-back m) (run c)
@@ -161,11 +171,16 @@ returns-4 c = let o = c .before .before in
     let w = body-walked _ _ _ (s .pre) (n .if1 .left) (body k .stopped .walked) in
     let i : k .products .result .runs < a .window .count = omega (arith, n .if1 .left) in
     let j : k .products .result .runs + 1 ≡ a .window .count = omega (arith, n .if1 .left) in
-    with-exact k _ _ (total-passed _ _ _ (s .pre) (n .if1 .left)
-    (walked-next w _ (rises o) (walked-paired _ _ _ (s .pre) (n .if1 .left) w) (walked-inside _ _ _ (s .pre) (n .if1 .left) w i) (sym (last-end _ _ _ (s .pre) (n .if1 .left) _ e))
-    (back _ (c .before .add-product-arg .given) ∙ sym (last-value _ _ _ (s .pre) (n .if1 .left) _ e)) (held o)
-    (c .add-product .ensures) (rw (c .add-product .ensures) (product-kept _ _ _ (w .kept)
-    (rw (held o, ← run-natural (end-natural (body k .stopped .walked)) _ (rises o)) (run o)) (rw (back _ (c .before .add-product-arg .given)) (record { sfits = c .before .add-product-arg .given }))))) j)
+    let l = n .if1 .left in
+    let g = c .before .add-product-arg .given in
+    let product = c .add-product .ensures in
+    let end = sym (last-end _ _ _ (s .pre) l _ e) in
+    let value = back _ g ∙ sym (last-value _ _ _ (s .pre) l _ e) in
+    let natural = run-natural (end-natural (body k .stopped .walked)) _ (rises o) in
+    with-exact k _ _
+    (total-passed _ _ _ (s .pre)
+    l (walked-next w _ (rises o) (walked-paired _ _ _ (s .pre) l w) (walked-inside _ _ _ (s .pre) l w i) end value (held o)
+    product (rw product (product-kept _ _ _ (w .kept) (rw (held o, ← natural) (run o)) (rw (back _ g) (record { sfits = g }))))) j)
 
 pub product-window-spec : {M : Type 1} → statement M
 product-window-spec =

@@ -15,7 +15,8 @@ touched-requires : tie.Need-touched-requires
 touched-requires c κs = search needs
 
 reduce-window-requires : tie.Need-reduce-window-requires
-reduce-window-requires c κs = let s = c .before in slice-window (now (s .args .ends)) (now (s .args .values)) (s .pre .0) (s .pre .1) _ _ (c .touched .ensures) (end-fits c .sfits)
+reduce-window-requires c κs = let s = c .before in
+    slice-window (now (s .args .ends)) (now (s .args .values)) (s .pre .0) (s .pre .1) _ _ (c .touched .ensures) (end-fits c .sfits)
 
 returns : tie.Need-returns
 returns c = let t = c .before in

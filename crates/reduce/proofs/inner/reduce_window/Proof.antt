@@ -11,7 +11,8 @@ use Rattle.float.specs.Float.{converted}
 use Rattle.column.specs.Questions.{endsFrom}
 use mathlib.Core.Option.{none}
 use Rattle.reduce.specs.Workers.{windowEnds, divisorOf}
-use Rattle.reduce.proofs.Reducing.{sum-reduced, none-reduced, short-reduced, all-rise, length-natural, divisor-held, mean-within, mean-reduced, variance-reduced}
+use Rattle.reduce.proofs.Reducing.{sum-reduced, none-reduced, short-reduced, all-rise, length-natural, divisor-held, mean-within, mean-reduced}
+use Rattle.reduce.proofs.Reducing.{variance-reduced}
 use borrow.Author.Needs.{needs}
 use Rattle.reduce.proofs.inner.reduce_window.Statement.{statement}
 use Rattle.reduce.proofs.inner.reduce_window.Tie as tie
@@ -20,39 +21,43 @@ total-back : (c : tie.After-struct-told) → toZ w64 (ofZ w64 (c .before .sum-wi
 total-back c = search needs
 
 -- the ends rise
-rise : (c : tie.Else3) → let a = c .before .before .before .before .before .args in endsFrom 0 (a .window .start) (windowEnds (a .window) (now (a .ends))) ≡ none
+rise : (c : tie.Else3) → let a = c .before .before .before .before .before .args in
+    endsFrom 0 (a .window .start) (windowEnds (a .window) (now (a .ends))) ≡ none
 rise c = let k = c .before .before in
     let s = k .before .before .before in
     all-rise _ _ _ (s .pre) (k .product-window .ensures .totalled .asked) (omega (arith, c .if3 .left))
 
 -- the length, and the mean, as the locals hold them
-end-back : (c : tie.After-struct-told2) → let a = c .before .before .before .before .before .before .before .args in toZ w64 (ofZ w64 (a .window .end)) ≡ a .window .end
+abbrev begun : tie.After-struct-told2 → tie.Start
+begun c = c .before .before .before .before .before .before .before
+
+end-back : (c : tie.After-struct-told2) → let t = begun c .args .window in toZ w64 (ofZ w64 (t .end)) ≡ t .end
 end-back c = search needs
 
-start-back : (c : tie.After-struct-told2) → let a = c .before .before .before .before .before .before .before .args in toZ w64 (ofZ w64 (a .window .start)) ≡ a .window .start
+start-back : (c : tie.After-struct-told2) → let t = begun c .args .window in toZ w64 (ofZ w64 (t .start)) ≡ t .start
 start-back c = search needs
 
-length-held : (c : tie.After-struct-told2) → let a = c .before .before .before .before .before .before .before .args in
-    toZ w64 (ofZ w64 (toZ w64 (ofZ w64 (a .window .end)) -ℤ toZ w64 (ofZ w64 (a .window .start)))) ≡ a .window .end -ℤ a .window .start
-length-held c = let s = c .before .before .before .before .before .before .before in rw (end-back c, start-back c) (toZ-ofZ (s .pre .fitting))
+length-held : (c : tie.After-struct-told2) → let t = begun c .args .window in
+    toZ w64 (ofZ w64 (toZ w64 (ofZ w64 (t .end)) -ℤ toZ w64 (ofZ w64 (t .start)))) ≡ t .end -ℤ t .start
+length-held c = rw (end-back c, start-back c) (toZ-ofZ (begun c .pre .fitting))
 
-mean : (c : tie.After-to-f64) → let k = c .before .before .before .before .before in
-    let a = k .before .before .before .args in
-    div binary64 (k .product-window .result .total) (c .to-f64 .result) ≡ div binary64 (k .product-window .result .total) (converted (a .window .end -ℤ a .window .start))
+mean : (c : tie.After-to-f64) → let t = begun (c .before) .args .window in
+    let total = c .before .before .before .before .before .product-window .result .total in
+    div binary64 total (c .to-f64 .result) ≡ div binary64 total (converted (t .end -ℤ t .start))
 mean c = ap (div binary64 _) (c .to-f64 .ensures ∙ ap converted (length-held (c .before)))
 
 -- what the squares are divided by
-by : (c : tie.After-divisor) → let s = c .before .before .before .before .before .before .before .before .before .before .before in
-    toZ w64 (ofZ w64 (c .divisor .result)) ≡ divisorOf (s .args .window .end -ℤ s .args .window .start) (s .args .ddof)
+by : (c : tie.After-divisor) → let a = begun (c .before .before .before .before) .args in
+    toZ w64 (ofZ w64 (c .divisor .result)) ≡ divisorOf (a .window .end -ℤ a .window .start) (a .ddof)
 by c = let l = c .before .before .before .before in
-    let s = l .before .before .before .before .before .before .before in
-    back _ (c .divisor .ok) ∙ c .divisor .ensures ∙ ap₂ divisorOf (length-held l) (toZ-ofZ (s .fits .ddof))
+    back _ (c .divisor .ok) ∙ c .divisor .ensures ∙ ap₂ divisorOf (length-held l) (toZ-ofZ (begun l .fits .ddof))
 
 sum-window-requires : tie.Need-sum-window-requires
 sum-window-requires c κs = c .before .pre
 
 returns : tie.Need-returns
-returns c = let s = c .before .before .before in rw (total-back c) (sum-reduced _ _ _ (s .pre) _ (c .before .before .if1 .taken) (c .before .sum-window .ensures))
+returns c = let s = c .before .before .before in
+    rw (total-back c) (sum-reduced _ _ _ (s .pre) _ (c .before .before .if1 .taken) (c .before .sum-window .ensures))
 
 returns-2 : tie.Need-returns-2
 returns-2 c = let o = c .before in none-reduced _ _ _ (o .before .pre) _ (o .if1 .left) (c .if2 .taken)
@@ -61,10 +66,11 @@ product-window-requires : tie.Need-product-window-requires
 product-window-requires c κs = c .before .before .pre
 
 returns-3 : tie.Need-returns-3
-returns-3 c = let k = c .before .before in short-reduced _ _ _ (k .before .before .before .pre) _ _ (k .product-window .ensures .totalled .asked) (c .if3 .taken)
+returns-3 c = let k = c .before .before in
+    short-reduced _ _ _ (k .before .before .before .pre) _ _ (k .product-window .ensures .totalled .asked) (c .if3 .taken)
 
 sub-length : tie.Need-sub-length
-sub-length c = let s = c .before .before .before .before .before .before .before in rw (end-back c, start-back c) (s .pre .fitting)
+sub-length c = rw (end-back c, start-back c) (begun c .pre .fitting)
 
 to-f64-requires : tie.Need-to-f64-requires
 to-f64-requires c κs = search needs

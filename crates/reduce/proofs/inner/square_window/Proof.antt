@@ -14,7 +14,8 @@ use Rattle.num.proofs.Bits.{back}
 use Rattle.column.specs.Runs.{toNat}
 use Rattle.reduce.specs.Workers.{WalkedSquares, AroundMean, bodyOf}
 use Rattle.reduce.proofs.Terms.{square-kept}
-use Rattle.reduce.proofs.Totals.{body-is, body-long, bodies-paired, body-walked, body-rises, last-end, last-value, walked-paired, walked-inside, total-passed}
+use Rattle.reduce.proofs.Totals.{body-is, body-long, bodies-paired, body-walked, body-rises, last-end, last-value, walked-paired, walked-inside}
+use Rattle.reduce.proofs.Totals.{total-passed}
 use Rattle.reduce.proofs.Walking.{end-natural, run-fits, run-natural, walked-next}
 use borrow.Author.Needs.{needs}
 use Rattle.reduce.proofs.inner.square_window.Statement.{statement}
@@ -38,7 +39,9 @@ some c e = let h = c .pre .some in omega arith
 
 -- all but the last run
 body : (c : tie.After-squares) → let a = c .before .before .before .before .before .args in
-    WalkedSquares (a .mean) (toNat (a .window .start)) (bodyOf (a .window) (now (a .ends))) (bodyOf (a .window) (now (a .values))) (length (bodyOf (a .window) (now (a .ends)))) (c .squares .result .end) (c .squares .result .total)
+    let es = bodyOf (a .window) (now (a .ends)) in
+    let vs = bodyOf (a .window) (now (a .values)) in
+    WalkedSquares (a .mean) (toNat (a .window .start)) es vs (length es) (c .squares .result .end) (c .squares .result .total)
 body c = let o = c .before .before .before .before in
     let a = o .before .args in
     rw (start-back o, body-is (a .window) (now (a .ends)), body-is (a .window) (now (a .values))) at (c .squares .ensures)
@@ -92,7 +95,10 @@ squares-requires c κs = let o = c .before .before .before in
     let a = s .args in
     let p = s .pre in
     let l = body-long (a .window) (now (a .ends)) (p .window .inside) in
-    let m : AroundMean (toNat (a .window .start)) (bodyOf (a .window) (now (a .ends))) (bodyOf (a .window) (now (a .values))) (a .mean) (a .exact) = record {
+    let es = bodyOf (a .window) (now (a .ends)) in
+    let vs = bodyOf (a .window) (now (a .values)) in
+    let m : AroundMean (toNat (a .window .start)) es vs (a .mean) (a .exact) =
+    record {
       paired = bodies-paired _ _ _ (p .window) (some s);
       rising = body-rises _ _ _ (p .window) (some s) (p .rising) .0;
       bounded = p .bounded;
@@ -125,10 +131,14 @@ returns c = let d = c .before .before in
     let j : length (bodyOf (a .window) (now (a .ends))) + 1 ≡ a .window .count = omega arith in
     let w = body-walked _ _ _ (p .window) (some s) (body k) in
     let g = c .before .add-square-arg .given in
-    let t = total-passed _ _ _ (p .window) (some s)
-    (walked-next w _ (rises k) (walked-paired _ _ _ (p .window) (some s) w) (walked-inside _ _ _ (p .window) (some s) w i) (sym (last-end _ _ _ (p .window) (some s) _ l))
-    (back _ g ∙ sym (last-value _ _ _ (p .window) (some s) _ l)) (held d) (c .add-square .ensures)
-    (rw (c .add-square .ensures) (square-kept _ _ _ _ (p .bounded) (w .kept) (rw (held d, ← run-natural (end-natural (body k)) _ (rises k)) (run k)) (rw (back _ g) (record { sfits = g }))))) j in
+    let q = p .window in
+    let square = c .add-square .ensures in
+    let end = sym (last-end _ _ _ q (some s) _ l) in
+    let value = back _ g ∙ sym (last-value _ _ _ q (some s) _ l) in
+    let natural = run-natural (end-natural (body k)) _ (rises k) in
+    let t = total-passed _ _ _ q (some s)
+    (walked-next w _ (rises k) (walked-paired _ _ _ q (some s) w) (walked-inside _ _ _ q (some s) w i) end value (held d)
+    square (rw square (square-kept _ _ _ _ (p .bounded) (w .kept) (rw (held d, ← natural) (run k)) (rw (back _ g) (record { sfits = g }))))) j in
     record { folded = t .folded (p .rising); kept = t .kept }
 
 pub square-window-spec : {M : Type 1} → statement M

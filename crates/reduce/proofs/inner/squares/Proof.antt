@@ -4,7 +4,7 @@ use mathlib.Core.Path.{_≡_, ap, ap₂, _∙_}
 use native.Mathlib.Omega.{arith}
 use denote.Ref.{now}
 use lib.IntN.{ℤ, pos}
-use lib.ListN.{length, getD, take}
+use lib.ListN.{length, take}
 use lib.Signed.{ltZ, mag}
 use mir.Facts.{toZ-ofZ}
 use mir.Syntax.{w64}
@@ -13,7 +13,7 @@ use Rattle.num.proofs.Bits.{back}
 use Rattle.column.specs.Runs.{toNat, lastFrom}
 use Rattle.reduce.specs.Workers.{WalkedSquares}
 use Rattle.reduce.proofs.Terms.{square-kept}
-use Rattle.reduce.proofs.Walking.{end-natural, run-fits, run-held, run-small, rising-at, walked-next}
+use Rattle.reduce.proofs.Walking.{end-natural, run-fits, run-held, run-small, rising-at, walked-next, heldAt}
 use borrow.Author.Needs.{needs}
 use Rattle.reduce.proofs.inner.squares.Statement.{statement}
 use Rattle.reduce.proofs.inner.squares.Tie as tie
@@ -25,14 +25,21 @@ abbrev μ-loop : tie.MeasureT-loop
 μ-loop ends values start mean exact total₀ before₀ i₀ total before i = length ends - i
 
 -- the run as the machine holds it
-end-fits : (c : tie.After-end Inv-loop μ-loop) → let l = c .before .before in mag (toZ w64 (ofZ w64 (getD (now (l .before .before .before .args .ends)) (l .loop .i) (pos 0)))) < 2 ^ 63
+end-fits : (c : tie.After-end Inv-loop μ-loop) → let l = c .before .before in mag (heldAt (now (l .before .before .before .args .ends)) (l .loop .i)) < 2 ^ 63
 end-fits c = rw (back _ (c .end .given)) (c .end .given)
 
-rises : (c : tie.After-end Inv-loop μ-loop) → let l = c .before .before in ltZ (toZ w64 (l .loop .before)) (toZ w64 (ofZ w64 (getD (now (l .before .before .before .args .ends)) (l .loop .i) (pos 0)))) ≡ true
+last : (c : tie.In-loop Inv-loop μ-loop) → let l = c .before in let s = l .before .before .before in
+    toZ w64 (l .loop .before) ≡ lastFrom (pos (toNat (s .args .start))) (take (l .loop .i) (now (s .args .ends)))
+last c = let l = c .before in
+    let s = l .before .before .before in
+    l .loop .inv .last ∙ ap (λ (z : ℤ). lastFrom (pos (toNat z)) (take (l .loop .i) (now (s .args .ends)))) (toZ-ofZ (s .fits .start))
+
+rises : (c : tie.After-end Inv-loop μ-loop) → let l = c .before .before in
+    ltZ (toZ w64 (l .loop .before)) (heldAt (now (l .before .before .before .args .ends)) (l .loop .i)) ≡ true
 rises c = let n = c .before in
     let l = n .before in
     let s = l .before .before .before in
-    ap₂ ltZ (l .loop .inv .last ∙ ap (λ (z : ℤ). lastFrom (pos (toNat z)) (take (l .loop .i) (now (s .args .ends)))) (toZ-ofZ (s .fits .start))) (back _ (c .end .given))
+    ap₂ ltZ (last n) (back _ (c .end .given))
     ∙ (rising-at (toNat (s .args .start)) (now (s .args .ends)) (l .loop .i) (s .pre .1 .rising) (omega (arith, n .loop-test .taken, s .pre .1 .inside)))
 
 exact-squares-requires : tie.Need-exact-squares-requires Inv-loop μ-loop
@@ -75,8 +82,12 @@ loop-again c = let e = c .before .before in
     let l = n .before in
     let s = l .before .before .before in
     let w = l .loop .inv in
-    walked-next w _ (rises e) (s .pre .1 .paired) (omega (arith, n .loop-test .taken, s .pre .1 .inside)) (back _ (e .end .given)) (back _ (c .before .add-square-arg .given)) (toZ-ofZ (sub-add-square e)) (c .add-square .ensures)
-    (rw (c .add-square .ensures) (square-kept _ _ _ _ (s .pre .1 .bounded) (w .kept) (run-small (end-natural w) _ (rises e) (end-fits e)) (rw (back _ (c .before .add-square-arg .given)) (record { sfits = c .before .add-square-arg .given }))))
+    let p = s .pre .1 in
+    let g = c .before .add-square-arg .given in
+    let square = c .add-square .ensures in
+    let small = run-small (end-natural w) _ (rises e) (end-fits e) in
+    walked-next w _ (rises e) (p .paired) (omega (arith, n .loop-test .taken, p .inside)) (back _ (e .end .given)) (back _ g) (toZ-ofZ (sub-add-square e))
+    square (rw square (square-kept _ _ _ _ (p .bounded) (w .kept) small (rw (back _ g) (record { sfits = g }))))
 
 returns : tie.Need-returns Inv-loop μ-loop
 returns c = let l = c .before in

@@ -9,11 +9,11 @@ use lib.Signed.{ltZ, mag}
 use mir.Facts.{toZ-ofZ}
 use mir.Syntax.{w64}
 use mir.Val.{toZ, ofZ}
+use Rattle.num.proofs.Tests.{both-true}
 use Rattle.num.proofs.Bits.{back}
 use Rattle.column.specs.Runs.{toNat}
-use Rattle.column.proofs.Told.{both-true}
 use Rattle.reduce.specs.Workers.{WalkedSum}
-use Rattle.reduce.proofs.Walking.{end-natural, run-fits, run-held, walked-start, walked-next}
+use Rattle.reduce.proofs.Walking.{end-natural, run-fits, run-held, walked-start, walked-next, heldAt}
 use borrow.Author.Needs.{needs}
 use borrow.Author.Tests.{not-false}
 use Rattle.reduce.proofs.inner.sum_pairs.Statement.{statement}
@@ -26,10 +26,10 @@ abbrev μ-loop : tie.MeasureT-loop
 μ-loop ends values start total₀ before₀ i₀ total before i = length ends - i
 
 -- an end as the machine holds it
-first-fits : (c : tie.After-first Inv-loop μ-loop) → let l = c .before .before in mag (toZ w64 (ofZ w64 (getD (now (l .before .args .ends)) (l .loop .i) (pos 0)))) < 2 ^ 63
+first-fits : (c : tie.After-first Inv-loop μ-loop) → let l = c .before .before in mag (heldAt (now (l .before .args .ends)) (l .loop .i)) < 2 ^ 63
 first-fits c = rw (back _ (c .first .given)) (c .first .given)
 
-second-fits : (c : tie.After-second Inv-loop μ-loop) → let l = c .before .before .before in mag (toZ w64 (ofZ w64 (getD (now (l .before .args .ends)) (l .loop .i + 1) (pos 0)))) < 2 ^ 63
+second-fits : (c : tie.After-second Inv-loop μ-loop) → let l = c .before .before .before in mag (heldAt (now (l .before .args .ends)) (l .loop .i + 1)) < 2 ^ 63
 second-fits c = rw (back _ (c .second .given)) (c .second .given)
 
 rise : (c : tie.Else1 Inv-loop μ-loop) → let l = c .before .before .before .before .before in
@@ -42,13 +42,17 @@ rise c = both-true _ _ (sym (c .before .both-rise .ensures) ∙ not-false _ (c .
 one : (c : tie.After-add-weight Inv-loop μ-loop) → let l = c .before .before .before .before .before .before .before in
     let s = l .before in
     WalkedSum (toNat (toZ w64 (ofZ w64 (s .args .start)))) (now (s .args .ends)) (now (s .args .values)) (l .loop .i + 1)
-    (toZ w64 (ofZ w64 (getD (now (s .args .ends)) (l .loop .i) (pos 0)))) (toZ w64 (ofZ w64 (c .add-weight .result)))
+    (heldAt (now (s .args .ends)) (l .loop .i)) (toZ w64 (ofZ w64 (c .add-weight .result)))
 one c = let o = c .before .before in
-    let l = o .before .before .before .before .before in
+    let f = o .before .before .before in
+    let l = f .before .before in
     let s = l .before in
     let w = l .loop .inv in
-    walked-next w _ (rise o .0) (s .pre .0) (omega (arith, o .before .before .before .before .loop-test .taken)) (back _ (o .before .before .before .first .given)) (back _ (c .before .add-weight-arg .given))
-    (toZ-ofZ (run-fits (end-natural w) _ (rise o .0) (first-fits (o .before .before .before)))) (back _ (c .add-weight .ok) ∙ c .add-weight .ensures) tt
+    let end = back _ (f .first .given) in
+    let value = back _ (c .before .add-weight-arg .given) in
+    let run = toZ-ofZ (run-fits (end-natural w) _ (rise o .0) (first-fits f)) in
+    let sum = back _ (c .add-weight .ok) ∙ c .add-weight .ensures in
+    walked-next w _ (rise o .0) (s .pre .0) (omega (arith, f .before .loop-test .taken)) end value run sum tt
 
 loop-holds : tie.Need-loop-holds Inv-loop μ-loop
 loop-holds c = walked-start _ _ _ _ _ _ tt (rw (toZ-ofZ (c .fits .start)) (c .pre .1))
@@ -78,7 +82,7 @@ returns : tie.Need-returns Inv-loop μ-loop
 returns c = let l = c .before .before .before .before .before in rw (toZ-ofZ (l .before .fits .start)) at (l .loop .inv)
 
 sub-add-weight : tie.Need-sub-add-weight Inv-loop μ-loop
-sub-add-weight c = let l = c .before .before .before .before .before in run-fits (end-natural (l .loop .inv)) _ (rise c .0) (first-fits (c .before .before .before))
+sub-add-weight c = let f = c .before .before .before in run-fits (end-natural (f .before .before .loop .inv)) _ (rise c .0) (first-fits f)
 
 mul-add-weight : tie.Need-mul-add-weight Inv-loop μ-loop
 mul-add-weight c = search needs
@@ -115,10 +119,14 @@ loop-less c = search needs
 loop-again : tie.Need-loop-again Inv-loop μ-loop
 loop-again c = let d = c .before .before in
     let o = d .before .before in
-    let l = o .before .before .before .before .before in
+    let f = o .before .before in
+    let l = f .before .before .before in
     let e : l .loop .i + 2 ≡ l .loop .i + 1 + 1 = omega arith in
-    rw e (walked-next (one d) _ (rise o .1) (l .before .pre .0) (omega (arith, o .before .before .before .before .loop-test .taken)) (back _ (o .before .before .second .given)) (back _ (c .before .add-weight-arg2 .given))
-    (toZ-ofZ (run-fits (end-natural (one d)) _ (rise o .1) (second-fits (o .before .before)))) (back _ (c .add-weight2 .ok) ∙ c .add-weight2 .ensures) tt)
+    let end = back _ (f .second .given) in
+    let value = back _ (c .before .add-weight-arg2 .given) in
+    let run = toZ-ofZ (run-fits (end-natural (one d)) _ (rise o .1) (second-fits f)) in
+    let sum = back _ (c .add-weight2 .ok) ∙ c .add-weight2 .ensures in
+    rw e (walked-next (one d) _ (rise o .1) (l .before .pre .0) (omega (arith, f .before .before .loop-test .taken)) end value run sum tt)
 
 returns-2 : tie.Need-returns-2 Inv-loop μ-loop
 returns-2 c = let l = c .before in rw (toZ-ofZ (l .before .fits .start)) at (l .loop .inv)

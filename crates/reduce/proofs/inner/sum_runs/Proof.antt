@@ -2,17 +2,16 @@ use Prim.Native.Nat.{_-_, _<_, _^_}
 use mathlib.Core.Bool.{true}
 use mathlib.Core.Path.{_≡_, _∙_}
 use denote.Ref.{now}
-use lib.IntN.{pos}
-use lib.ListN.{length, getD}
+use lib.ListN.{length}
 use lib.Signed.{ltZ, mag}
 use mir.Facts.{toZ-ofZ}
 use mir.Syntax.{w64}
 use mir.Val.{toZ, ofZ}
+use Rattle.num.proofs.Tests.{le-lt}
 use Rattle.num.proofs.Bits.{back}
 use Rattle.column.specs.Runs.{toNat}
-use Rattle.column.proofs.Naturals.{le-lt}
 use Rattle.reduce.specs.Workers.{WalkedSum}
-use Rattle.reduce.proofs.Walking.{end-natural, run-fits, run-held, walked-next, stopped-here, stopped-end}
+use Rattle.reduce.proofs.Walking.{end-natural, run-fits, run-held, walked-next, stopped-here, stopped-end, heldAt}
 use borrow.Author.Needs.{needs}
 use Rattle.reduce.proofs.inner.sum_runs.Statement.{statement}
 use Rattle.reduce.proofs.inner.sum_runs.Tie as tie
@@ -24,11 +23,15 @@ abbrev μ-loop : tie.MeasureT-loop
 μ-loop ends values start total₀ before₀ i₀ total before i = length ends - i
 
 -- the end as the machine holds it, and that it rises
-end-fits : (c : tie.After-end Inv-loop μ-loop) → let l = c .before .before in mag (toZ w64 (ofZ w64 (getD (now (l .before .before .before .before .args .ends)) (l .loop .i) (pos 0)))) < 2 ^ 63
+end-fits : (c : tie.After-end Inv-loop μ-loop) → let l = c .before .before in
+    mag (heldAt (now (l .before .before .before .before .args .ends)) (l .loop .i)) < 2 ^ 63
 end-fits c = rw (back _ (c .end .given)) (c .end .given)
 
-rises : (c : tie.Else1 Inv-loop μ-loop) → let l = c .before .before .before in ltZ (toZ w64 (l .loop .before)) (toZ w64 (ofZ w64 (getD (now (l .before .before .before .before .args .ends)) (l .loop .i) (pos 0)))) ≡ true
-rises c = let l = c .before .before .before in le-lt (toZ w64 (ofZ w64 (getD (now (l .before .before .before .before .args .ends)) (l .loop .i) (pos 0)))) (toZ w64 (l .loop .before)) (c .if1 .left)
+rises : (c : tie.Else1 Inv-loop μ-loop) → let l = c .before .before .before in let es = now (l .before .before .before .before .args .ends) in
+    ltZ (toZ w64 (l .loop .before)) (heldAt es (l .loop .i)) ≡ true
+rises c = let l = c .before .before .before in
+    let es = now (l .before .before .before .before .args .ends) in
+    le-lt (heldAt es (l .loop .i)) (toZ w64 (l .loop .before)) (c .if1 .left)
 
 sum-pairs-requires : tie.Need-sum-pairs-requires Inv-loop μ-loop
 sum-pairs-requires c κs = rw (toZ-ofZ (c .fits .start)) (c .pre)
@@ -37,7 +40,8 @@ sum-pairs-requires c κs = rw (toZ-ofZ (c .fits .start)) (c .pre)
 total-back : (c : tie.After-struct-told Inv-loop μ-loop) → toZ w64 (ofZ w64 (c .before .sum-pairs .result .total)) ≡ c .before .sum-pairs .result .total
 total-back c = search needs
 
-before-back : (c : tie.After-struct-told2 Inv-loop μ-loop) → toZ w64 (ofZ w64 (c .before .before .sum-pairs .result .end)) ≡ c .before .before .sum-pairs .result .end
+before-back : (c : tie.After-struct-told2 Inv-loop μ-loop) → toZ w64 (ofZ w64 (c .before .before .sum-pairs .result .end))
+    ≡ c .before .before .sum-pairs .result .end
 before-back c = search needs
 
 loop-holds : tie.Need-loop-holds Inv-loop μ-loop
@@ -52,7 +56,8 @@ shared-slice-copy-out-end c = search needs
 returns : tie.Need-returns Inv-loop μ-loop
 returns c = let l = c .before .before .before in
     let s = l .before .before .before .before in
-    rw (toZ-ofZ (s .fits .start)) at (stopped-here (l .loop .inv) (back _ (c .before .end .given)) (le-lt (toZ w64 (ofZ w64 (getD (now (s .args .ends)) (l .loop .i) (pos 0)))) (toZ w64 (l .loop .before)) (c .if1 .taken)))
+    let low = le-lt (heldAt (now (s .args .ends)) (l .loop .i)) (toZ w64 (l .loop .before)) (c .if1 .taken) in
+    rw (toZ-ofZ (s .fits .start)) at (stopped-here (l .loop .inv) (back _ (c .before .end .given)) low)
 
 sub-add-weight : tie.Need-sub-add-weight Inv-loop μ-loop
 sub-add-weight c = run-fits (end-natural (c .before .before .before .loop .inv)) _ (rises c) (end-fits (c .before))
@@ -78,8 +83,9 @@ loop-again c = let o = c .before .before in
     let l = e .before .before in
     let s = l .before .before .before .before in
     let w = l .loop .inv in
-    walked-next w _ (rises o) (s .pre .0) (e .before .loop-test .taken) (back _ (e .end .given)) (back _ (c .before .add-weight-arg .given)) (toZ-ofZ (sub-add-weight o)) (back _ (c .add-weight .ok) ∙ c .add-weight .ensures)
-    tt
+    let value = back _ (c .before .add-weight-arg .given) in
+    let sum = back _ (c .add-weight .ok) ∙ c .add-weight .ensures in
+    walked-next w _ (rises o) (s .pre .0) (e .before .loop-test .taken) (back _ (e .end .given)) value (toZ-ofZ (sub-add-weight o)) sum tt
 
 returns-2 : tie.Need-returns-2 Inv-loop μ-loop
 returns-2 c = let l = c .before in rw (toZ-ofZ (l .before .before .before .before .fits .start)) at (stopped-end (l .loop .inv) (c .loop-test .left))

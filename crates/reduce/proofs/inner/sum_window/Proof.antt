@@ -8,11 +8,12 @@ use lib.Signed.{leZ, ltZ, mag}
 use mir.Facts.{toZ-ofZ}
 use mir.Syntax.{w64}
 use mir.Val.{SFits, toZ, ofZ}
+use Rattle.num.proofs.Tests.{le-lt}
 use Rattle.num.proofs.Bits.{back}
 use Rattle.column.specs.Runs.{toNat}
-use Rattle.column.proofs.Naturals.{le-lt}
 use Rattle.reduce.specs.Workers.{StoppedSum, bodyOf}
-use Rattle.reduce.proofs.Totals.{body-is, body-long, bodies-paired, body-walked, end-in-body, last-end, last-value, walked-paired, walked-inside, total-none, total-refused, total-passed}
+use Rattle.reduce.proofs.Totals.{body-is, body-long, bodies-paired, body-walked, end-in-body, last-end, last-value, walked-paired, walked-inside}
+use Rattle.reduce.proofs.Totals.{total-none, total-refused, total-passed}
 use Rattle.reduce.proofs.Walking.{end-natural, run-fits, run-natural, walked-next}
 use borrow.Author.Needs.{needs}
 use Rattle.reduce.proofs.inner.sum_window.Statement.{statement}
@@ -31,12 +32,14 @@ end-small c = search needs
 before-back : (c : tie.After-struct-told3) → toZ w64 (ofZ w64 (c .before .sum-runs .result .end)) ≡ c .before .sum-runs .result .end
 before-back c = search needs
 
-total-back : (c : tie.After-struct-told4) → let k = c .before .before .before .before .before .before in toZ w64 (ofZ w64 (k .sum-runs .result .total)) ≡ k .sum-runs .result .total
+total-back : (c : tie.After-struct-told4) → let k = c .before .before .before .before .before .before in
+    toZ w64 (ofZ w64 (k .sum-runs .result .total)) ≡ k .sum-runs .result .total
 total-back c = search needs
 
 -- all but the last run
 body : (c : tie.After-sum-runs) → let a = c .before .before .before .before .before .before .args in
-    StoppedSum (toNat (a .window .start)) (bodyOf (a .window) (now (a .ends))) (bodyOf (a .window) (now (a .values))) (c .sum-runs .result .runs) (c .sum-runs .result .end) (c .sum-runs .result .total)
+    let r = c .sum-runs .result in
+    StoppedSum (toNat (a .window .start)) (bodyOf (a .window) (now (a .ends))) (bodyOf (a .window) (now (a .values))) (r .runs) (r .end) (r .total)
 body c = let o = c .before .before .before .before .before in
     let a = o .before .args in
     rw (start-back o, body-is (a .window) (now (a .ends)), body-is (a .window) (now (a .values))) at (c .sum-runs .ensures)
@@ -126,8 +129,9 @@ returns-3 c = let m = c .before .before .before in
     let s = o .before .before in
     let a = s .args in
     let e = all-but-last (c .before) in
+    let low = le-lt (a .window .end) (k .sum-runs .result .end) (sym (ap₂ leZ (end-back (k .before .before .before)) (before-back m)) ∙ c .if3 .taken) in
     total-refused _ _ _ (s .pre) (o .if1 .left) (body-walked _ _ _ (s .pre) (o .if1 .left) (body k .walked)) (omega (arith, o .if1 .left))
-    (rw (last-end _ _ _ (s .pre) (o .if1 .left) _ e) (le-lt (a .window .end) (k .sum-runs .result .end) (sym (ap₂ leZ (end-back (k .before .before .before)) (before-back m)) ∙ c .if3 .taken)))
+    (rw (last-end _ _ _ (s .pre) (o .if1 .left) _ e) low)
 
 sub-add-weight : tie.Need-sub-add-weight
 sub-add-weight c = let m = c .before .before .before in rw (end-back (m .before .before .before .before), before-back m) (run c)
@@ -151,10 +155,12 @@ returns-4 c = let o = c .before .before .before in
     let w = body-walked _ _ _ (s .pre) (n .if1 .left) (body k .walked) in
     let i : k .sum-runs .result .runs < a .window .count = omega (arith, n .if1 .left) in
     let j : k .sum-runs .result .runs + 1 ≡ a .window .count = omega (arith, n .if1 .left) in
-    total-passed _ _ _ (s .pre) (n .if1 .left)
-    (walked-next w _ (rises o) (walked-paired _ _ _ (s .pre) (n .if1 .left) w) (walked-inside _ _ _ (s .pre) (n .if1 .left) w i) (sym (last-end _ _ _ (s .pre) (n .if1 .left) _ e))
-    (back _ (c .before .before .add-weight-arg .given) ∙ sym (last-value _ _ _ (s .pre) (n .if1 .left) _ e)) (held o)
-    (rw (total-back (c .before)) at (back _ (c .add-weight .ok) ∙ c .add-weight .ensures)) tt) j
+    let l = n .if1 .left in
+    let end = sym (last-end _ _ _ (s .pre) l _ e) in
+    let value = back _ (c .before .before .add-weight-arg .given) ∙ sym (last-value _ _ _ (s .pre) l _ e) in
+    let sum = rw (total-back (c .before)) at (back _ (c .add-weight .ok) ∙ c .add-weight .ensures) in
+    total-passed _ _ _ (s .pre) l (walked-next w _ (rises o) (walked-paired _ _ _ (s .pre) l w) (walked-inside _ _ _ (s .pre) l w i) end value (held o) sum tt)
+    j
 
 pub sum-window-spec : {M : Type 1} → statement M
 sum-window-spec =

@@ -9,10 +9,12 @@ use Rattle.transform.proofs.inner.concat.Statement.{statement}
 use Rattle.transform.proofs.inner.concat.Tie as tie
 
 abbrev Inv-loop : tie.InvT-loop
-Inv-loop offsets ends values out-ends₀ out-values₀ first writer₀ offset₀ k₀ out-ends out-values writer offset k = Joining offsets ends values out-ends₀ out-values₀ out-ends out-values writer offset k
+Inv-loop offsets ends values out-ends₀ out-values₀ first writer₀ offset₀ k₀ out-ends out-values writer offset k =
+    Joining offsets ends values out-ends₀ out-values₀ out-ends out-values writer offset k
 
 abbrev μ-loop : tie.MeasureT-loop
-μ-loop offsets ends values out-ends₀ out-values₀ first writer₀ offset₀ k₀ out-ends out-values writer offset k = length offsets - k
+μ-loop offsets ends values out-ends₀ out-values₀ first writer₀ offset₀ k₀ out-ends out-values writer offset k =
+    length offsets - k
 
 returns : tie.Need-returns Inv-loop μ-loop
 returns c = join-none _ _ _ _ _ (c .if1 .taken)
@@ -48,7 +50,12 @@ part-requires-2 : tie.Need-part-requires-2 Inv-loop μ-loop
 part-requires-2 c κs = search needs
 
 append-merged-requires : tie.Need-append-merged-requires Inv-loop μ-loop
-append-merged-requires c κs = let s = c .before .before .before .before .before .before .before .before .before .before .before in let l = c .before .before .before .before .before .before .before in let t = c .before .before .before .before .before .before in join-appendable _ _ _ _ _ (s .pre) (l .loop .inv) (t .loop-test .taken) (c .before .before .before .part .ensures) (c .before .before .part2 .ensures)
+append-merged-requires c κs = let v = c .before .before in
+    let e = v .before in
+    let t = e .before .before .before in
+    let l = t .before in
+    let s = l .before .before .before .before in
+    join-appendable _ _ _ _ _ (s .pre) (l .loop .inv) (t .loop-test .taken) (e .part .ensures) (v .part2 .ensures)
 
 length-requires : tie.Need-length-requires Inv-loop μ-loop
 length-requires c κs = search needs
@@ -57,7 +64,14 @@ to-nat-requires : tie.Need-to-nat-requires Inv-loop μ-loop
 to-nat-requires c κs = search needs
 
 add-offset : tie.Need-add-offset Inv-loop μ-loop
-add-offset c = let s = c .before .before .before .before .before .before .before .before .before .before .before .before .before .before .before .before in let l = c .before .before .before .before .before .before .before .before .before .before .before .before in let t = c .before .before .before .before .before .before .before .before .before .before .before in omega (arith, join-fits _ _ _ _ _ (s .pre) (l .loop .inv) (t .loop-test .taken) (c .before .before .before .before .before .before .before .before .part .ensures) (c .before .before .before .before .before .before .before .part2 .ensures) (c .to-nat .ensures) (back _ (c .before .length .ok) ∙ c .before .length .ensures))
+add-offset c = let n = c .before in
+    let v = n .before .before .before .before .before .before in
+    let e = v .before in
+    let t = e .before .before .before in
+    let l = t .before in
+    let s = l .before .before .before .before in
+    let length = back _ (n .length .ok) ∙ n .length .ensures in
+    omega (arith, join-fits _ _ _ _ _ (s .pre) (l .loop .inv) (t .loop-test .taken) (e .part .ensures) (v .part2 .ensures) (c .to-nat .ensures) length)
 
 add-k : tie.Need-add-k Inv-loop μ-loop
 add-k c = search needs
@@ -66,7 +80,16 @@ loop-less : tie.Need-loop-less Inv-loop μ-loop
 loop-less c = search needs
 
 loop-again : tie.Need-loop-again Inv-loop μ-loop
-loop-again c = let s = c .before .before .before .before .before .before .before .before .before .before .before .before .before .before .before .before in let l = c .before .before .before .before .before .before .before .before .before .before .before .before in let t = c .before .before .before .before .before .before .before .before .before .before .before in join-next _ _ _ _ _ (s .pre) (l .loop .inv) (t .loop-test .taken) (c .before .before .before .before .before .before .before .before .part .ensures) (c .before .before .before .before .before .before .before .part2 .ensures) (c .before .before .before .before .append-merged .ensures) (c .to-nat .ensures) (back _ (c .before .length .ok) ∙ c .before .length .ensures)
+loop-again c = let n = c .before in
+    let a = n .before .before .before in
+    let v = a .before .before .before in
+    let e = v .before in
+    let t = e .before .before .before in
+    let l = t .before in
+    let s = l .before .before .before .before in
+    let length = back _ (n .length .ok) ∙ n .length .ensures in
+    join-next _ _ _ _ _ (s .pre) (l .loop .inv) (t .loop-test .taken) (e .part .ensures) (v .part2 .ensures) (a .append-merged .ensures) (c .to-nat .ensures)
+    length
 
 add-result : tie.Need-add-result Inv-loop μ-loop
 add-result c = let i = c .before .before .loop .inv in omega (arith, i .few, i .entries, i .fitting, i .merging .at-last)
@@ -78,7 +101,9 @@ same-length-2 : tie.Need-same-length-2 Inv-loop μ-loop
 same-length-2 c = c .before .before .loop .inv .merging .long-values
 
 returns-2 : tie.Need-returns-2 Inv-loop μ-loop
-returns-2 c = let s = c .before .before .before .before .before .before in let l = c .before .before in join-end _ _ _ _ _ (s .pre) (l .loop .inv) (c .before .loop-test .left) (c .before .before .before .before .if1 .left)
+returns-2 c = let l = c .before .before in
+    let i = l .before .before in
+    join-end _ _ _ _ _ (i .before .before .pre) (l .loop .inv) (c .before .loop-test .left) (i .if1 .left)
 
 pub concat-spec : {M : Type 1} → statement M
 concat-spec =

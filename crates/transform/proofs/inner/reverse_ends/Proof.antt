@@ -1,12 +1,14 @@
 use denote.Ref.{now}
-use Prim.Native.Nat.{_-_}
-use mathlib.Core.Path.{refl}
+use Prim.Native.Nat.{_-_, _≤_, _<_, _^_}
+use mathlib.Core.Path.{_≡_, refl}
 use native.Mathlib.Omega.{arith}
-use lib.ListN.{length}
+use lib.IntN.{pos}
+use lib.ListN.{length, getD}
+use mir.Syntax.{w64}
+use mir.Val.{toZ, ofZ}
 use Rattle.num.proofs.Bits.{back}
 use Rattle.column.specs.Runs.{toNat, lengthOfEnds}
-use Rattle.slice.proofs.Difference.{difference-of, difference-fits}
-use Rattle.transform.proofs.Natural.{natural-below, natural-back}
+use Rattle.num.proofs.Difference.{difference-of, difference-fits, natural-below, natural-back}
 use Rattle.transform.proofs.Reversing.{TurningEnds, ends-start, ends-more, ends-end, length-read, end-read}
 use borrow.Author.Needs.{needs}
 use Rattle.transform.proofs.inner.reverse_ends.Statement.{statement}
@@ -17,6 +19,25 @@ Inv-loop ends out-ends₀ n length t₀ out-ends t = TurningEnds ends out-ends�
 
 abbrev μ-loop : tie.MeasureT-loop
 μ-loop ends out-ends₀ n length t₀ out-ends t = n - t
+
+-- the length, as the local holds it
+read : (c : tie.After-length Inv-loop μ-loop) → let es = now (c .before .args .ends) in getD es (length es - 1) (pos 0) ≡ pos (toNat (lengthOfEnds es))
+read c = let s = c .before in length-read (now (s .args .ends)) (s .pre .0) (s .pre .1)
+
+below : (c : tie.After-length Inv-loop μ-loop) → toNat (lengthOfEnds (now (c .before .args .ends))) < 2 ^ 63
+below c = natural-below (read c) (c .length .given)
+
+held : (c : tie.After-length Inv-loop μ-loop) → let es = now (c .before .args .ends) in
+    toZ w64 (ofZ w64 (getD es (length es - 1) (pos 0))) ≡ pos (toNat (lengthOfEnds es))
+held c = natural-back (read c) (below c)
+
+-- and the end before a run
+end : (c : tie.After-start Inv-loop μ-loop) → let l = c .before .before in let es = now (l .before .before .args .ends) in
+    let x = getD es (length es - 2 - l .loop .t) (pos 0) in
+    (toZ w64 (ofZ w64 x) ≡ pos (toNat x)) × (toNat x ≤ toNat (lengthOfEnds es))
+end c = let t = c .before in
+    let s = t .before .before .before in
+    end-read (now (s .args .ends)) (s .pre .0) (back _ (c .start .given)) (omega (arith, t .loop-test .taken))
 
 sub-length : tie.Need-sub-length Inv-loop μ-loop
 sub-length c = omega (arith, c .pre .1)
@@ -46,7 +67,7 @@ shared-slice-copy-out-start : tie.Need-shared-slice-copy-out-start Inv-loop μ-l
 shared-slice-copy-out-start c = search needs
 
 sub-out-ends : tie.Need-sub-out-ends Inv-loop μ-loop
-sub-out-ends c = let s = c .before .before .before .before in let m = c .before .before .before in let k = length-read (now (s .args .ends)) (s .pre .0) (s .pre .1) in let b = natural-below k (m .length .given) in let y = natural-back k b in let l = c .before .before in let t = c .before in let a = end-read (now (s .args .ends)) (s .pre .0) (back _ (c .start .given)) (omega (arith, t .loop-test .taken)) in difference-fits y (a .0) (a .1) b
+sub-out-ends c = let m = c .before .before .before in let a = end c in difference-fits (held m) (a .0) (a .1) (below m)
 
 mul-t11 : tie.Need-mul-t11 Inv-loop μ-loop
 mul-t11 c = search needs
@@ -61,7 +82,13 @@ loop-less : tie.Need-loop-less Inv-loop μ-loop
 loop-less c = search needs
 
 loop-again : tie.Need-loop-again Inv-loop μ-loop
-loop-again c = let s = c .before .before .before .before in let m = c .before .before .before in let k = length-read (now (s .args .ends)) (s .pre .0) (s .pre .1) in let b = natural-below k (m .length .given) in let y = natural-back k b in let l = c .before .before in let t = c .before in let a = end-read (now (s .args .ends)) (s .pre .0) (back _ (c .start .given)) (omega (arith, t .loop-test .taken)) in ends-more _ _ (l .loop .inv) (length (now (s .args .ends)) - 2 - l .loop .t) (natural-back (difference-of y (a .0) (a .1)) (omega (arith, b))) (s .pre .2) (omega (arith, t .loop-test .taken))
+loop-again c = let t = c .before in
+    let l = t .before in
+    let m = l .before in
+    let a = end c in
+    let from = length (now (m .before .args .ends)) - 2 - l .loop .t in
+    let turned = difference-of (held m) (a .0) (a .1) in
+    ends-more _ _ (l .loop .inv) from (natural-back turned (omega (arith, below m))) (m .before .pre .2) (omega (arith, t .loop-test .taken))
 
 sub-length-2 : tie.Need-sub-length-2 Inv-loop μ-loop
 sub-length-2 c = search needs
@@ -76,7 +103,10 @@ same-length : tie.Need-same-length Inv-loop μ-loop
 same-length c = search needs
 
 returns : tie.Need-returns Inv-loop μ-loop
-returns c = let s = c .before .before .before in let m = c .before .before in let k = length-read (now (s .args .ends)) (s .pre .0) (s .pre .1) in let b = natural-below k (m .length .given) in let y = natural-back k b in let l = c .before in ends-end _ _ (l .loop .inv) y (s .pre .2) (omega (arith, c .loop-test .left, l .loop .inv .within)) (omega (arith, c .loop-test .left, l .loop .inv .within)) refl
+returns c = let l = c .before in
+    let m = l .before in
+    let i = l .loop .inv in
+    ends-end _ _ i (held m) (m .before .pre .2) (omega (arith, c .loop-test .left, i .within)) (omega (arith, c .loop-test .left, i .within)) refl
 
 pub reverse-ends-spec : {M : Type 1} → statement M
 reverse-ends-spec =

@@ -42,7 +42,11 @@ loop-less : tie.Need-loop-less Inv-loop μ-loop
 loop-less c = search needs
 
 loop-again : tie.Need-loop-again Inv-loop μ-loop
-loop-again c = let s = c .before .before .before in let l = c .before .before in let t = c .before in values-next _ _ (l .loop .inv) (length (now (s .args .values)) - 1 - l .loop .t) (back _ (c .value .given)) (s .pre) (omega (arith, t .loop-test .taken))
+loop-again c = let t = c .before in
+    let l = t .before in
+    let s = l .before in
+    let from = length (now (s .args .values)) - 1 - l .loop .t in
+    values-next _ _ (l .loop .inv) from (back _ (c .value .given)) (s .pre) (omega (arith, t .loop-test .taken))
 
 same-length : tie.Need-same-length Inv-loop μ-loop
 same-length c = search needs

@@ -21,7 +21,9 @@ same-length-2 : tie.Need-same-length-2
 same-length-2 c = search needs
 
 returns-2 : tie.Need-returns-2
-returns-2 c = let s = c .before .before .before .before .before .before .before in reversed-filled (now (s .args .ends)) (now (s .args .values)) (s .pre .0) (s .pre .1) (c .before .before .before .before .reverse-ends .ensures) (c .before .reverse-values .ensures)
+returns-2 c = let e = c .before .before .before .before in
+    let s = e .before .before .before in
+    reversed-filled (now (s .args .ends)) (now (s .args .values)) (s .pre .0) (s .pre .1) (e .reverse-ends .ensures) (c .before .reverse-values .ensures)
 
 pub reversed-spec : {M : Type 1} → statement M
 reversed-spec =

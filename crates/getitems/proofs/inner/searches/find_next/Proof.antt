@@ -15,7 +15,8 @@ same-length c = search needs
 
 returns : tie.Need-returns
 returns c = let e = c .before .before .before in
-    let k = kept-block (search needs) (e .before .before .if1 .taken) (e .search .ensures) refl in (k .0 .0, k .0 .1, k .1)
+    let k = kept-block (search needs) (e .before .before .if1 .taken) (e .search .ensures) refl in
+    (k .0 .0, k .0 .1, k .1)
 
 mul-result : tie.Need-mul-result
 mul-result c = search needs

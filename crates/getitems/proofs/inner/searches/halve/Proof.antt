@@ -1,5 +1,6 @@
 use Prim.Native.Nat.{_-_}
 use native.Mathlib.Omega.{arith}
+use Rattle.getitems.specs.Workers.{blockSize}
 use Rattle.getitems.proofs.Searches.{Halved, halved-start, halved-next, halved-end}
 use borrow.Author.Needs.{needs}
 use Rattle.getitems.proofs.inner.searches.halve.Statement.{statement}
@@ -9,7 +10,7 @@ abbrev Inv-loop : tie.InvT-loop
 Inv-loop ends size places lows₀ k₀ lows k = Halved ends places lows size k
 
 abbrev μ-loop : tie.MeasureT-loop
-μ-loop ends size places lows₀ k₀ lows k = 16 - k
+μ-loop ends size places lows₀ k₀ lows k = blockSize - k
 
 loop-holds : tie.Need-loop-holds Inv-loop μ-loop
 loop-holds c = halved-start (c .before .before .pre .0)
@@ -45,8 +46,7 @@ loop-less : tie.Need-loop-less Inv-loop μ-loop
 loop-less c = search needs
 
 loop-again : tie.Need-loop-again Inv-loop μ-loop
-loop-again c = let l = c .before .before .before .before in
-    halved-next (l .loop .inv) (c .before .before .before .loop-test .taken) (c .half .ensures)
+loop-again c = let l = c .before .before .before .before in halved-next (l .loop .inv) (c .before .before .before .loop-test .taken) (c .half .ensures)
 
 same-length : tie.Need-same-length Inv-loop μ-loop
 same-length c = search needs

@@ -30,7 +30,8 @@ returns : tie.Need-returns
 returns c = place-low _ _ _ (position-is (c .before)) (length-is (c .before)) (c .before .smaller-count .ensures) (c .if1 .taken)
 
 returns-2 : tie.Need-returns-2
-returns-2 c = place-high _ _ _ (position-is (c .before)) (length-is (c .before)) (c .before .smaller-count .ensures) (c .before .before .before .before .before .fits .position) (c .if1 .left)
+returns-2 c = place-high _ _ _ (position-is (c .before)) (length-is (c .before)) (c .before .smaller-count .ensures)
+    (c .before .before .before .before .before .fits .position) (c .if1 .left)
 
 pub place-spec : {M : Type 1} → statement M
 place-spec =

@@ -2,7 +2,7 @@ use Prim.Native.Nat.{ℕ, _+_, _<_}
 use mathlib.Core.Path.{_≡_, sym, _∙_}
 use lib.IntN.{pos}
 use lib.ListN.{getD}
-use Rattle.getitems.specs.Workers.{sought, Halvings}
+use Rattle.getitems.specs.Workers.{blockSize, sought, Halvings}
 use Rattle.getitems.proofs.Searches.{searches-end}
 use borrow.Author.Needs.{needs}
 use Rattle.getitems.proofs.inner.searches.search.Statement.{statement}
@@ -10,7 +10,7 @@ use Rattle.getitems.proofs.inner.searches.search.Tie as tie
 
 abbrev Inv-loop : tie.InvT-loop
 Inv-loop ends positions from back block₀ places size₀ block size =
-    Halvings ends places block size × ((d : ℕ) → d < 16 → getD places d 0 ≡ sought ends back (getD positions (from + d) (pos 0)))
+    Halvings ends places block size × ((d : ℕ) → d < blockSize → getD places d 0 ≡ sought ends back (getD positions (from + d) (pos 0)))
 
 abbrev μ-loop : tie.MeasureT-loop
 μ-loop ends positions from back block₀ places size₀ block size = size

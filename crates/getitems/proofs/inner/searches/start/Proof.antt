@@ -1,6 +1,7 @@
 use mathlib.Core.Path.{_∙_}
 use Prim.Native.Nat.{_-_}
 use Rattle.num.proofs.Bits.{back}
+use Rattle.getitems.specs.Workers.{blockSize}
 use Rattle.getitems.proofs.Searches.{Beginning, beginning-start, beginning-next, beginning-end}
 use borrow.Author.Needs.{needs}
 use Rattle.getitems.proofs.inner.searches.start.Statement.{statement}
@@ -10,7 +11,7 @@ abbrev Inv-loop : tie.InvT-loop
 Inv-loop ends positions from back places₀ lows₀ k₀ places lows k = Beginning ends positions from back places lows k
 
 abbrev μ-loop : tie.MeasureT-loop
-μ-loop ends positions from back places₀ lows₀ k₀ places lows k = 16 - k
+μ-loop ends positions from back places₀ lows₀ k₀ places lows k = blockSize - k
 
 loop-holds : tie.Need-loop-holds Inv-loop μ-loop
 loop-holds c = beginning-start _ _ _ _ (c .before .before .pre .0) (c .before .before .pre .1)

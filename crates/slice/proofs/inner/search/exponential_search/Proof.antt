@@ -8,8 +8,8 @@ use mir.Facts.{toZ-ofZ}
 use Rattle.num.proofs.Bits.{back}
 use Rattle.slice.proofs.Searching.{least-front}
 use borrow.Author.Needs.{needs}
-use Rattle.slice.proofs.search.exponential_search.Statement.{statement}
-use Rattle.slice.proofs.search.exponential_search.Tie as tie
+use Rattle.slice.proofs.inner.search.exponential_search.Statement.{statement}
+use Rattle.slice.proofs.inner.search.exponential_search.Tie as tie
 
 abbrev Inv-loop : tie.InvT-loop
 Inv-loop ends position size₀ size = 0 < size
@@ -41,7 +41,8 @@ returns c = let i = c .before .before in
     let t = i .before .before in
     let s = t .before .before in
     let p = toZ-ofZ (s .fits .position) in
-    least-front _ (now (s .args .ends)) (t .before .loop .size) (t .before .loop .inv) (omega arith) (rw (p, back _ (i .before .end .given)) at (i .if1 .taken)) (rw p at (c .first-end-at-least .ensures))
+    let below = rw (p, back _ (i .before .end .given)) at (i .if1 .taken) in
+    least-front _ (now (s .args .ends)) (t .before .loop .size) (t .before .loop .inv) (omega arith) below (rw p at (c .first-end-at-least .ensures))
 
 mul-size : tie.Need-mul-size Inv-loop μ-loop
 mul-size c = search needs

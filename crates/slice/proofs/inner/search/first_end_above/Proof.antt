@@ -7,8 +7,8 @@ use Rattle.column.proofs.Naturals.{natural, to-nat-below}
 use Rattle.slice.specs.Workers.{Halving}
 use Rattle.slice.proofs.Searching.{above-negative, halving-start, halving-end}
 use borrow.Author.Needs.{needs}
-use Rattle.slice.proofs.search.first_end_above.Statement.{statement}
-use Rattle.slice.proofs.search.first_end_above.Tie as tie
+use Rattle.slice.proofs.inner.search.first_end_above.Statement.{statement}
+use Rattle.slice.proofs.inner.search.first_end_above.Tie as tie
 
 abbrev Inv-loop : tie.InvT-loop
 Inv-loop ends position place low₀ size₀ low size = Halving place ends low size
@@ -30,7 +30,12 @@ loop-holds : tie.Need-loop-holds Inv-loop μ-loop
 loop-holds c = halving-start _ _
 
 half-requires : tie.Need-half-requires Inv-loop μ-loop
-half-requires c κs = (c .before .loop .inv, c .loop-test .taken, rw (place-is (c .before .before)) (to-nat-below _ (c .before .before .before .before .fits .position)))
+half-requires c κs = (
+  c .before .loop .inv,
+  c .loop-test .taken,
+  rw (place-is (c .before .before))
+      (to-nat-below _ (c .before .before .before .before .fits .position)),
+)
 
 loop-less : tie.Need-loop-less Inv-loop μ-loop
 loop-less c = search needs
@@ -41,8 +46,8 @@ loop-again c = c .half .ensures
 returns-2 : tie.Need-returns-2 Inv-loop μ-loop
 returns-2 c = let m = c .before .before in
     let s = m .before .before in
-    let e : pos (m .to-nat .result) ≡ s .args .position =
-    ap pos (place-is m) ∙ sym (natural (s .args .position) (rw (toZ-ofZ (s .fits .position)) at (m .before .if1 .left))) in
+    let e : pos (m .to-nat .result) ≡ s .args .position = ap pos (place-is m)
+    ∙ sym (natural (s .args .position) (rw (toZ-ofZ (s .fits .position)) at (m .before .if1 .left))) in
     rw e at (halving-end (c .before .loop .inv) (c .loop-test .left))
 
 pub first-end-above-spec : {M : Type 1} → statement M

@@ -2,8 +2,8 @@ use native.Mathlib.Omega.{arith}
 use mir.Facts.{toZ-ofZ}
 use Rattle.slice.proofs.Searching.{least-low, least-is, before-fits}
 use borrow.Author.Needs.{needs}
-use Rattle.slice.proofs.search.first_end_at_least.Statement.{statement}
-use Rattle.slice.proofs.search.first_end_at_least.Tie as tie
+use Rattle.slice.proofs.inner.search.first_end_at_least.Statement.{statement}
+use Rattle.slice.proofs.inner.search.first_end_at_least.Tie as tie
 
 returns : tie.Need-returns
 returns c = let f = toZ-ofZ (c .before .fits .position) in (omega arith, λ v. least-low _ _ (rw f at (c .if1 .taken)) v)

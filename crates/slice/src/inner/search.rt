@@ -7,7 +7,7 @@ ghost use mathlib.Core.Path.{_≡_};
 ghost use lib.ListN.{length};
 ghost use Rattle.column.specs.Questions.{endsValid};
 ghost use Rattle.slice.specs.Calls.{firstEndAbove};
-ghost use Rattle.slice.specs.Workers.{firstEndAtLeast, touchedBy};
+ghost use Rattle.slice.specs.Workers.{firstEndAtLeast, clampedTo, touchedBy};
 ghost use Rattle.column.specs.Lent.{given};
 
 // The lowest index of an end above a position, or how many ends there are. Valid ends are above every negative position.
@@ -52,6 +52,22 @@ fn exponential_search(ends: &[i64], position: i64) -> usize
     first_end_at_least(ends, position)
 }
 
+// An interval, which is empty unless its end is above its start.
+pub struct Interval {
+    pub start: i64,
+    pub end: i64,
+}
+
+// An interval, its start clamped up to 0 and its end down to the length.
+pub fn clamped(ends: &[i64], start: i64, end: i64) -> Interval
+    ensures { λ r. ⌜ r ≡ clampedTo (given ends) start end ⌝ }
+{
+    Interval {
+        start: num::larger(start, 0),
+        end: num::smaller(end, sequence::length(ends)),
+    }
+}
+
 // The runs that a slice touches, and the slice as clamped: all 0 where it is empty.
 pub struct TouchedRuns {
     pub first: usize,
@@ -60,12 +76,13 @@ pub struct TouchedRuns {
     pub end: i64,
 }
 
-// The last of them is looked for behind the first.
+// The last of them is looked for after the first.
 pub fn touched(ends: &[i64], start: i64, end: i64) -> TouchedRuns
     ensures { λ r. ⌜ (endsValid (given ends) ≡ none → r ≡ touchedBy start end (given ends)) ⌝ }
 {
-    let from = num::larger(start, 0);
-    let to = num::smaller(end, sequence::length(ends));
+    let interval = clamped(ends, start, end);
+    let from = interval.start;
+    let to = interval.end;
     if to <= from {
         return TouchedRuns {
             first: 0,
