@@ -5,21 +5,12 @@ use mathlib.Core.List.{List, [], _∷_}
 use mathlib.Core.Path.{_≡_}
 use lib.IntN.{ℤ}
 use lib.ListN.{length}
-use Rattle.column.specs.Asking.{Question, firstNo}
-use Rattle.column.specs.Questions.{agree, paired, endsValid}
+use Rattle.column.specs.Questions.{paired, endsValid}
 use Rattle.column.specs.Runs.{sequence}
-use Rattle.column.proofs.FirstNo.{all-yes, asked-next, asked-last}
+use Rattle.column.proofs.FirstNo.{all-yes}
 use Rattle.column.proofs.Told.{agree-told}
 use Rattle.equals.specs.Calls.{equalsAsked}
 use Rattle.equals.specs.Workers.{Comparable}
-
-pub equals-asked : (ae av be bv : List ℤ) {r a b c d f g : Question} → r ≡ firstNo (a ∷ b ∷ []) → a ≡ agree 3 (length ae) (length av)
-    → b ≡ firstNo (c ∷ d ∷ []) → c ≡ agree 3 (length be) (length bv) → d ≡ firstNo (f ∷ g ∷ []) → f ≡ endsValid ae → g ≡ endsValid be
-    → r ≡ equalsAsked (sequence ae av) (sequence be bv)
-unfolding equalsAsked paired
-equals-asked ae av be bv hr ha hb hc hd hf hg =
-    asked-next (paired (sequence ae av)) (paired (sequence be bv) ∷ endsValid ae ∷ endsValid be ∷ []) hr ha
-    (λ y. asked-next (paired (sequence be bv)) (endsValid ae ∷ endsValid be ∷ []) hb hc (λ z. asked-last (endsValid ae) hd hf (λ w. hg)))
 
 pub equals-yes : (ae av be bv : List ℤ) → equalsAsked (sequence ae av) (sequence be bv) ≡ none → Comparable (sequence ae av) (sequence be bv)
 unfolding equalsAsked paired

@@ -89,7 +89,8 @@ module _ (ae av be bv : List ℤ) where
             let run = segmentRun (operation 7) cs in
             ap (any differs) (map-append run (d .done) (here ∷ []))
             ∙ any-append differs (map run (d .done)) (run here ∷ [])
-            ∙ rw (d .alike, both-shown (operation 7) Missing Missing ae av be bv (q .paired-a) (q .paired-b) (c .a .index) (c .b .index), ← ex, ← ey, t) (flag-differs b)
+            ∙ rw (d .alike, both-shown (operation 7) Missing Missing ae av be bv (q .paired-a) (q .paired-b) (c .a .index) (c .b .index), ← ex, ← ey, t)
+            (flag-differs b)
 
         pub compared-next : b ≡ true → Compared c′
         compared-next h′ = record { done = _; walk = walk-next ae be (d .walk) s; alike = one-more ∙ ap not h′ }

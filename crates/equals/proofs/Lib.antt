@@ -1,3 +1,4 @@
 pub mod Asks
 pub mod Comparing
+pub mod Examples
 pub mod Same

@@ -19,7 +19,7 @@ same (x ∷ xs) (y ∷ ys) = eqZ x y && same xs ys
 unfoldable pub equalsAsked : Sequence → Sequence → Question
 equalsAsked a b = firstNo (paired a ∷ paired b ∷ endsValid (a .ends) ∷ endsValid (b .ends) ∷ [])
 
--- "the same values at every position", however the runs are split
+-- the same values at every position, however the runs are split
 unfoldable pub equals : Sequence → Sequence → Outcome Bool
 equals a b = equalsAsked a b otherwise same (dense (runs a)) (dense (runs b))
 

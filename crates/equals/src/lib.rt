@@ -18,15 +18,10 @@ pub enum Equality {
 fn equals_asks(a_ends: &[i64], a_values: &[i64], b_ends: &[i64], b_values: &[i64]) -> Asked
     ensures { λ r. ⌜ shownAsked r ≡ calls.equalsAsked (givenSequence «a_ends» «a_values») (givenSequence «b_ends» «b_values») ⌝ }
 {
-    let valid = questions::first_no(questions::ask_ends(a_ends), questions::ask_ends(b_ends));
-    let paired = questions::first_no(
-        questions::ask_lengths(3, b_ends.len(), b_values.len()),
-        valid,
-    );
-    questions::first_no(
-        questions::ask_lengths(3, a_ends.len(), a_values.len()),
-        paired,
-    )
+    questions::ask_lengths(3, a_ends.len(), a_values.len())
+        .and(questions::ask_lengths(3, b_ends.len(), b_values.len()))
+        .and(questions::ask_ends(a_ends))
+        .and(questions::ask_ends(b_ends))
 }
 
 // Whether two sequences show the same values at every position, however their runs are split.

@@ -1,4 +1,4 @@
--- The questions of plan_many, as the code joins them, what a "yes" to all of them tells, and what is promised then.
+-- The questions of plan_many, what a "yes" to all of them tells, and what is promised then.
 -- Assumes nothing.
 use Prim.Native.Nat.{ℕ, _*_, _-_, _≤_, _<_, _^_}
 use mathlib.Core.Option.{none, some}
@@ -12,7 +12,7 @@ use Rattle.column.specs.Asking.{Question, firstNo, _otherwise_}
 use Rattle.column.specs.Flat.{Flat, flat, count, columns, flatAsked}
 use Rattle.column.specs.Paper.{answers, paper}
 use Rattle.column.specs.Questions.{paired, offsetsValid, sequencesValid, atMost, roomAt, room}
-use Rattle.column.proofs.FirstNo.{AllYes, all-yes, first-several, asked-next, asked-last}
+use Rattle.column.proofs.FirstNo.{AllYes, all-yes, Asks}
 use Rattle.column.proofs.Told.{agree-told, most-told, room-told}
 use Rattle.column.proofs.YesNo.{room-each, room-saturated}
 use Rattle.plan.specs.Calls.{Segment, endsIn, segments}
@@ -22,6 +22,10 @@ use Rattle.many.specs.Calls.{mostColumns, planManyAsked, WrittenPlanMany
 use Rattle.many.specs.Workers.{Plannable, PlanManyFilled}
 use Rattle.many.proofs.Flats.{ends-columns}
 use Rattle.many.proofs.Walking.{endsOfParts}
+
+-- 12 for n indexes of each of k columns: the code's product saturates
+pub indexes-asked : (n k x : ℕ) {q : Question} {j m : ℕ} → j ≡ k → m ≡ saturated (n * j) → q ≡ roomAt 1 m x → x < 2 ^ 64 - 1 → q ≡ roomAt 1 (n * k) x
+indexes-asked n k x ej em e small = e ∙ rw (em, ej) (room-saturated 1 (n * k) x small)
 
 module _ (os : List ℕ) (es vs : List ℤ) where
   abbrev f : Flat
@@ -33,18 +37,9 @@ module _ (os : List ℕ) (es vs : List ℤ) where
   abbrev needs : List ℕ
   needs = length es ∷ length es * count f ∷ []
 
-  pub plan-many-asked : (e x : ℕ) → x < 2 ^ 64 - 1 → {r a b c d g h : Question} {k n : ℕ} → r ≡ firstNo (a ∷ b ∷ []) → a ≡ firstNo (flatAsked f)
-      → b ≡ firstNo (c ∷ d ∷ []) → c ≡ atMost mostColumns k → k ≡ length os - 1
-      → d ≡ firstNo (g ∷ h ∷ []) → g ≡ roomAt 0 (length es) e → h ≡ roomAt 1 n x → n ≡ saturated (length es * k)
-      → r ≡ planManyAsked f (e ∷ x ∷ [])
-  unfolding planManyAsked
-  plan-many-asked e x small hr ha hb hc ek hd hg hh en =
-      asked-next (firstNo (flatAsked f)) (most ∷ room needs (e ∷ x ∷ []) ∷ []) hr ha
-      (λ y. asked-last most hb (hc ∙ ap (atMost mostColumns) ek)
-      (λ z. asked-last (roomAt 0 (length es) e) hd hg
-      (λ o. hh ∙ ap (λ (m : ℕ). roomAt 1 m x) (en ∙ ap (λ (j : ℕ). saturated (length es * j)) ek) ∙ room-saturated 1 (length es * count f) x small)
-      ∙ sym (room-each needs (e ∷ x ∷ []))))
-      ∙ sym (first-several (flatAsked f) (most ∷ room needs (e ∷ x ∷ []) ∷ []))
+  -- the first three questions, which the code puts as one
+  pub flat-asked : {a : Question} → a ≡ firstNo (flatAsked f) → Asks a (flatAsked f)
+  flat-asked e = record { told = e }
 
   -- what a "yes" to the questions of a many-way call tells
   pub flat-yes : (qs : List Question) → firstNo (flatAsked f ++ most ∷ qs) ≡ none
@@ -58,7 +53,8 @@ module _ (os : List ℕ) (es vs : List ℤ) where
   unfolding planManyAsked
   plan-many-yes e x h =
       let y = flat-yes (room needs (length e ∷ length x ∷ []) ∷ []) h in
-      let r = all-yes (roomAt 0 (length es) (length e) ∷ roomAt 1 (length es * count f) (length x) ∷ []) (sym (room-each needs (length e ∷ length x ∷ [])) ∙ y .4 .0) in
+      let r = all-yes (roomAt 0 (length es) (length e) ∷ roomAt 1 (length es * count f) (length x) ∷ [])
+      (sym (room-each needs (length e ∷ length x ∷ [])) ∙ y .4 .0) in
       record {
         paired = y .0;
         offsets = y .1;
@@ -75,7 +71,8 @@ module _ (os : List ℕ) (es vs : List ℤ) where
 
 -- ---- what is promised
 
-pub plan-many-written : {q : Question} {ss ss′ : List Segment} {r : Counts} {e e′ : List ℤ} {x x′ : List ℕ} → q ≡ none → ss ≡ ss′ → PlanManyFilled ss′ e e′ x x′ r
+pub plan-many-written : {q : Question} {ss ss′ : List Segment} {r : Counts} {e e′ : List ℤ} {x x′ : List ℕ} → q ≡ none → ss ≡ ss′
+    → PlanManyFilled ss′ e e′ x x′ r
     → WrittenPlanMany (q otherwise ss) (PlannedMany.Counts (r .segments) (r .indexes)) e e′ x x′
 plan-many-written h s p = rw (h, s) (record {
   answer = ap₂ (λ (n m : ℕ). answers (record { segments = n; indexes = m })) (p .segments) (p .indexes);

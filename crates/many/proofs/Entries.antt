@@ -1,4 +1,4 @@
--- A column's run by its place: what `ends` and `values` hold there, and where the column stands behind a step.
+-- A column's run by its place: what `ends` and `values` hold there, and where the column stands after a step.
 -- Assumes nothing.
 use Prim.Native.Nat.{ℕ, suc, _+_, _≤_, _<_, _^_, min}
 use mathlib.Core.Bool.{false, cond}
@@ -34,14 +34,14 @@ module _ (xs : List ℤ) (a b i : ℕ) (q : InColumn xs a b i) where
   inside : a + i < b → i < length (part a b xs)
   inside h = rw (length-part a b xs (q .inside)) (omega arith)
 
-  behind : b ≤ a + i → length (part a b xs) ≤ i
-  behind h = rw (length-part a b xs (q .inside)) (omega arith)
+  past : b ≤ a + i → length (part a b xs) ≤ i
+  past h = rw (length-part a b xs (q .inside)) (omega arith)
 
   pub value-some : (fill : ℤ) → a + i < b → getD xs (a + i) (pos 0) ≡ getD (part a b xs) i fill
   value-some fill h = sym (part-at a b xs i (pos 0) h) ∙ getD-any (part a b xs) i (pos 0) fill (inside h)
 
   pub value-none : (fill : ℤ) → b ≤ a + i → fill ≡ getD (part a b xs) i fill
-  value-none fill h = sym (List·getD-eq-default (part a b xs) fill {n = i} (behind h))
+  value-none fill h = sym (List·getD-eq-default (part a b xs) fill {n = i} (past h))
 
   module _ (v : endsValid (part a b xs) ≡ none) where
     pub end-natural : a + i < b → getD xs (a + i) (pos 0) ≡ pos (toNat (getD xs (a + i) (pos 0)))
@@ -52,8 +52,8 @@ module _ (xs : List ℤ) (a b i : ℕ) (q : InColumn xs a b i) where
         let n = ap toNat (part-at a b xs i (pos 0) h) in
         end-some _ (ahead-some (part a b xs) i (inside h)) (e ∙ sym n) (rw n (to-nat-below (getD xs (a + i) (pos 0)) f))
 
-    pub end-behind : b ≤ a + i → EndAt (ahead (part a b xs) i) spent
-    end-behind h = end-none (ahead-none (part a b xs) i (behind h))
+    pub end-past : b ≤ a + i → EndAt (ahead (part a b xs) i) spent
+    end-past h = end-none (ahead-none (part a b xs) i (past h))
 
 -- ---- a step of a column
 
@@ -87,7 +87,7 @@ module _ (m : ℕ) (es : List ℤ) (i : ℕ) where
       (λ y. let s : steppedOn m i (ahead es i) ≡ placeAt es i = rw (a, y) in ap (λ (p : Place). placeAt es (p .index)) s ∙ sym s))
       (λ t. let s = place-stays es i m (ltb-false i (length es) t) in ap (λ (p : Place). placeAt es (p .index)) (sym s) ∙ s)
 
--- ---- the least of the ends, one column after another: an end as it is found, or none, and what the columns behind have
+-- ---- the least of the ends, one column after another: an end as it is found, or none, and what the columns after have
 
 abbrev pub earlier : ℕ → Option ℕ → Option ℕ
 earlier l o = cond (ltb l (spent)) (some (least l o)) o

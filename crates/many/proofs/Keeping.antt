@@ -27,11 +27,17 @@ set-again (x ∷ l) (suc i) h = ap {B = List ℕ} (λ r. x ∷ r) (set-again l i
 
 module _ {os : List ℕ} {es vs : List ℤ} {fill : ℤ} {is xs : List ℕ} {ys : List ℤ} where
   pub kept-none : Paired es vs is xs ys → Kept os es vs fill is xs ys 0
-  kept-none p = record { long-ends = p .room-ends; long-values = p .room-values; ends = λ c h. let z : ⊥ = omega arith in absurd z; values = λ c h. let z : ⊥ = omega arith in absurd z }
+  kept-none p = record {
+    long-ends = p .room-ends;
+    long-values = p .room-values;
+    ends = λ c h. let z : ⊥ = omega arith in absurd z;
+    values = λ c h. let z : ⊥ = omega arith in absurd z;
+  }
 
   module _ {n : ℕ} (k : Kept os es vs fill is xs ys n) where
     -- column c stands at p now
-    kept-put : (c p m : ℕ) {x : ℕ} {y : ℤ} → c < length is → ((d : ℕ) → d < m → (d ≡ c → ⊥) → d < n) → EndAt (ahead (columnAt os es c) p) x → y ≡ getD (columnAt os vs c) p fill
+    kept-put : (c p m : ℕ) {x : ℕ} {y : ℤ} → c < length is → ((d : ℕ) → d < m → (d ≡ c → ⊥) → d < n) → EndAt (ahead (columnAt os es c) p) x
+        → y ≡ getD (columnAt os vs c) p fill
         → Kept os es vs fill (set is c p) (set xs c x) (set ys c y) m
     kept-put c p m {x} {y} h below ex ey =
         record {
@@ -54,7 +60,12 @@ module _ {os : List ℕ} {es vs : List ℤ} {fill : ℤ} {is xs : List ℕ} {ys 
         rw (set-again is n h) at (kept-put n (getD is n 0) (n + 1) h (λ d l o. omega (arith, o)) ex ey)
 
     pub kept-fewer : (m : ℕ) → m ≤ n → Kept os es vs fill is xs ys m
-    kept-fewer m h = record { long-ends = k .long-ends; long-values = k .long-values; ends = λ c l. k .ends c (omega arith); values = λ c l. k .values c (omega arith) }
+    kept-fewer m h = record {
+      long-ends = k .long-ends;
+      long-values = k .long-values;
+      ends = λ c l. k .ends c (omega arith);
+      values = λ c l. k .values c (omega arith);
+    }
 
   -- all values that are kept are what the columns show
   module _ (k : Kept os es vs fill is xs ys (length is)) (offsets : length os ≡ length is + 1) where
@@ -90,11 +101,13 @@ module _ {os : List ℕ} {es vs : List ℤ} {fill : ℤ} {is xs : List ℕ} {ys 
         place =
             by-test (ltb (getD is c 0) (length (columnAt os es c)))
             (λ t. omega (arith, ltb-true (getD is c 0) (length (columnAt os es c)) t, length-part (getD os c 0) (getD os (c + 1) 0) es (q .place .inside)))
-            (λ t. let n = k .ends c h .current ∙ ap currentEnd (ahead-none (columnAt os es c) (getD is c 0) (ltb-false (getD is c 0) (length (columnAt os es c)) t)) in
+            (λ t. let n = k .ends c h .current
+            ∙ ap currentEnd (ahead-none (columnAt os es c) (getD is c 0) (ltb-false (getD is c 0) (length (columnAt os es c)) t)) in
             let z : ⊥ = omega arith in absurd z);
       }
 
-  pub column-goes : {x : ℕ} {y : ℤ} → getD xs c 0 ≡ start → EndAt (ahead (columnAt os es c) (getD is c 0 + 1)) x → y ≡ getD (columnAt os vs c) (getD is c 0 + 1) fill
+  pub column-goes : {x : ℕ} {y : ℤ} → getD xs c 0 ≡ start → EndAt (ahead (columnAt os es c) (getD is c 0 + 1)) x
+      → y ≡ getD (columnAt os vs c) (getD is c 0 + 1) fill
       → ColumnStepped os es vs fill c start is (set is c (getD is c 0 + 1)) xs (set xs c x) (set ys c y) x
   column-goes {x} e ex ey = record {
     places = rw (eq-eqb (getD xs c 0) start e);
@@ -102,7 +115,8 @@ module _ {os : List ℕ} {es vs : List ℤ} {fill : ℤ} {is xs : List ℕ} {ys 
     found = sym (getD-set-same xs c x 0 (omega (arith, k .long-ends)));
   }
 
-pub stepped-end : {os : List ℕ} {es vs : List ℤ} {fill : ℤ} {c start : ℕ} {is is′ xs xs′ : List ℕ} {ys′ : List ℤ} {end : ℕ} → ColumnStepped os es vs fill c start is is′ xs xs′ ys′ end → c < length is
+pub stepped-end : {os : List ℕ} {es vs : List ℤ} {fill : ℤ} {c start : ℕ} {is is′ xs xs′ : List ℕ} {ys′ : List ℤ} {end : ℕ}
+    → ColumnStepped os es vs fill c start is is′ xs xs′ ys′ end → c < length is
     → EndAt (ahead (columnAt os es c) (getD is c 0 + cond (eqb (getD xs c 0) start) 1 0)) end
 stepped-end {os} {es} {c = c} {start = start} {is = is} {is′ = is′} {xs = xs} f h =
     let n = getD is c 0 + cond (eqb (getD xs c 0) start) 1 0 in

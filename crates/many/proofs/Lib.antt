@@ -1,5 +1,6 @@
 pub mod Asks
 pub mod Entries
+pub mod Examples
 pub mod Flats
 pub mod Keeping
 pub mod Places

@@ -1,4 +1,4 @@
--- The places of columns, one for each, and where they stand behind a step.
+-- The places of columns, one for each, and where they stand after a step.
 -- Assumes nothing.
 use Prim.Native.Nat.{ℕ, zero, suc, _+_, _≤_, _<_}
 use mathlib.Core.Option.{none}
@@ -93,6 +93,9 @@ module _ {os : List ℕ} {es : List ℤ} {is : List ℕ} (q : Placed os es is) w
       let o = offset-within os (length es) c (q .offsets) k in
       record {
         offset = k;
-        place = record { inside = o .1; place = omega (arith, o .0, length-part (getD os c 0) (getD os (c + 1) 0) es (o .1), within-cons os es is c h k (r .0) .0) };
+        place = record {
+          inside = o .1;
+          place = omega (arith, o .0, length-part (getD os c 0) (getD os (c + 1) 0) es (o .1), within-cons os es is c h k (r .0) .0);
+        };
         valid = valid-cons os es is c h k (r .1) .0;
       }

@@ -48,7 +48,8 @@ module _ (os : List ℕ) (es e₀ : List ℤ) (x₀ : List ℕ) where
 
 module _ {os : List ℕ} {es e₀ : List ℤ} {x₀ is : List ℕ} {e : List ℤ} {x : List ℕ} {n m end : ℕ} (p : Planning os es e₀ x₀ is e x n m end) where
   pub planning-end : spent ≤ end → PlanManyFilled (segments (endsOfParts os es)) e₀ e x₀ x (record { segments = n; indexes = m })
-  planning-end h = rw (walk-end (p .walk) h) (record { segments = p .ends .count; indexes = p .count; ends-written = p .ends .entries; indexes-written = p .entries })
+  planning-end h = rw (walk-end (p .walk) h)
+      (record { segments = p .ends .count; indexes = p .count; ends-written = p .ends .entries; indexes-written = p .entries })
 
   columns : length os - 1 ≡ length is
   columns = omega (arith, p .walk .placed .count)
@@ -61,9 +62,15 @@ module _ {os : List ℕ} {es e₀ : List ℤ} {x₀ is : List ℕ} {e : List ℤ
     more = rw (add-one n, suc-mul n (length os - 1)) (omega (arith, p .product, columns))
 
     pub planning-indexes : m + length is ≤ length x
-    planning-indexes = omega (arith, more, mul-le-mul-right {m = n + 1} {n = length es} (length os - 1) (omega (arith, walk-few (p .walk) h, p .ends .count)), p .long)
+    planning-indexes = omega (
+      arith,
+      more,
+      mul-le-mul-right {m = n + 1} {n = length es} (length os - 1) (omega (arith, walk-few (p .walk) h, p .ends .count)),
+      p .long,
+    )
 
-    pub planning-next : {is′ : List ℕ} {x′ : List ℕ} {m′ end′ : ℕ} {z : ℤ} → z ≡ pos end → m′ ≡ m + length is → length x′ ≡ length x → x′ ≡ take m x ++ over is (drop m x)
+    pub planning-next : {is′ : List ℕ} {x′ : List ℕ} {m′ end′ : ℕ} {z : ℤ} → z ≡ pos end → m′ ≡ m + length is → length x′ ≡ length x
+        → x′ ≡ take m x ++ over is (drop m x)
         → Stepped os es end is is′ end′ → Planning os es e₀ x₀ is′ (set e n z) x′ (n + 1) m′ end′
     planning-next ez em el ex s =
         let i : allIndexes (p .done ++ segmentAt (placesOf os es is) (pos end) ∷ []) ≡ allIndexes (p .done) ++ is =

@@ -59,7 +59,8 @@ module _ {os : List ℕ} {es : List ℤ} {m : ℕ} {is is′ : List ℕ} {l c : 
       let n : is′ ≡ indexes (stepped m (placesOf os es is)) = (rw none-left at (s .places)) ∙ sym (rw none-left at (s .steps)) in
       record {
         next = n;
-        found = ap (λ (l : List ℕ). leastEnd (rests (placesOf os es l))) n ∙ ap (λ (ps : List Place). leastEnd (rests ps)) (places-again m is (parts os es)) ∙ (rw none-left at (s .least));
+        found = ap (λ (l : List ℕ). leastEnd (rests (placesOf os es l))) n ∙ ap (λ (ps : List Place). leastEnd (rests ps)) (places-again m is (parts os es))
+            ∙ (rw none-left at (s .least));
         small = s .small;
       }
 
@@ -97,7 +98,8 @@ module _ {os : List ℕ} {es : List ℤ} {m : ℕ} {is is′ : List ℕ} {l c : 
             done = s .done ++ n ∷ [];
             passed = simp length-append (omega (arith, s .passed));
             inside = omega (arith, h);
-            places = rw (s .places, drop-cons is c 0 h, set-at (s .done) (getD is c 0) (drop (suc c) is) n c (s .passed), add-one c) (sym (append-snoc (s .done) n (drop (suc c) is)));
+            places = rw (s .places, drop-cons is c 0 h, set-at (s .done) (getD is c 0) (drop (suc c) is) n c (s .passed), add-one c)
+                (sym (append-snoc (s .done) n (drop (suc c) is)));
             steps = s .steps ∙ rw step-cons (sym (append-snoc (s .done) n (indexes others)));
             least = s .least
                 ∙ rw step-cons

@@ -87,7 +87,8 @@ module _ (os : List ℕ) (es : List ℤ) where
     pub walk-start : {is′ : List ℕ} {end : ℕ} → Stepped os es 0 is is′ end → Walk [] is′ end
     walk-start {is′} s =
         let p : placesOf os es is′ ≡ firstPlaces (endsOfParts os es) =
-        ap (λ (l : List ℕ). placesOf os es l) (s .next) ∙ places-again 0 is (parts os es) ∙ ap (stepped 0) begin ∙ first-stays (parts os es) (sequences-told os es (q .valid)) in
+        ap (λ (l : List ℕ). placesOf os es l) (s .next) ∙ places-again 0 is (parts os es) ∙ ap (stepped 0) begin
+        ∙ first-stays (parts os es) (sequences-told os es (q .valid)) in
         record {
           placed = rw (s .next) (placed-next 0 walk-placed);
           listing = rw p (list-start (firstPlaces (endsOfParts os es)));
@@ -120,7 +121,12 @@ module _ {os : List ℕ} {es : List ℤ} {done : List Segment} {is : List ℕ} {
       walk-steps = record { natural = refl; ends = ends; next = ap (λ (l : List ℕ). placesOf os es l) (s .next) ∙ places-again end is (parts os es) }
 
       pub walk-next : Walk os es (done ++ segmentAt (placesOf os es is) (pos end) ∷ []) is′ end′
-      walk-next = record { placed = rw (s .next) (placed-next end (w .placed)); listing = list-next (w .listing) walk-steps; found = s .found; small = s .small }
+      walk-next = record {
+        placed = rw (s .next) (placed-next end (w .placed));
+        listing = list-next (w .listing) walk-steps;
+        found = s .found;
+        small = s .small;
+      }
 
       pub walk-less : left (placesOf os es is′) < left (placesOf os es is)
       walk-less = step-less walk-steps

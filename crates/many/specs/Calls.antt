@@ -16,7 +16,7 @@ use Rattle.column.specs.Lent.{Lent, given, after}
 abbrev pub mostColumns : ℕ
 mostColumns = 128
 
--- "plan_many also N × k indexes, segment after segment"
+-- "N (all runs) entries; `plan_many` also N × k indexes, segment after segment, for k columns"
 unfoldable pub planManyAsked : Flat → List ℕ → Question
 planManyAsked f buffers =
     let n = length (f .ends) in

@@ -24,7 +24,7 @@ placesFor (i ∷ is) (es ∷ columns) = placeAt es i ∷ placesFor is columns
 abbrev pub placesOf : List ℕ → List ℤ → List ℕ → List Place
 placesOf os es is = placesFor is (parts os es)
 
--- each column stands at one of its runs or behind the last
+-- each column stands at one of its runs or after the last
 abbrev pub Within : List ℕ → List (List ℤ) → Type 0
 Within [] columns = Unit {0}
 Within (i ∷ is) [] = Unit {0}

@@ -92,7 +92,8 @@ fn step_column(
     current: &mut [usize],
     shown: &mut [i64],
 ) -> usize
-    requires { ⌜ ColumnPlaced (now offsets) (now ends) (now places) c × (c < length (now places)) × (length (now ends) ≡ length (now values))
+    requires { ⌜ ColumnPlaced (now offsets) (now ends) (now places) c × (c < length (now places))
+        × (length (now ends) ≡ length (now values))
         × Kept (now offsets) (now ends) (now values) fill (now places) (now current) (now shown) (length (now places)) × (start < spent) ⌝ }
     ensures { λ r. ⌜ ColumnStepped (given offsets)
         (given ends) (given values) fill c start (given places) (after places) (given current) (after current) (after shown) r ⌝ }
@@ -149,7 +150,7 @@ pub fn step(
     least
 }
 
-// The places, written from `at` on; the index behind them.
+// The places, written from `at` on; the index after them.
 fn put_places(places: &[usize], out: &mut [usize], at: usize) -> usize
     requires { ⌜ at + length (now places) ≤ length (now out) ⌝ }
     ensures { λ r. ⌜ (r ≡ at + length (given places)) × (after out ≡ take at (given out) ++ over (given places) (drop at (given out))) ⌝ }
@@ -174,7 +175,8 @@ fn plan_walk(
     out_ends: &mut [i64],
     out_idx: &mut [usize],
 ) -> Counts
-    requires { ⌜ Walkable (now offsets) (now ends) (now places) × Paired (now ends) (now values) (now places) (now current) (now shown) × (length (now ends) ≤ length (now «out_ends»)) × (length (now ends) * (length (now offsets) - 1) ≤ length (now «out_idx»)) ⌝ }
+    requires { ⌜ Walkable (now offsets) (now ends) (now places) × Paired (now ends) (now values) (now places) (now current) (now shown)
+        × (length (now ends) ≤ length (now «out_ends»)) × (length (now ends) * (length (now offsets) - 1) ≤ length (now «out_idx»)) ⌝ }
     ensures { λ r. ⌜ PlanManyFilled (segments (map (map toNat) (parts (given offsets) (given ends))))
         (given «out_ends») (after «out_ends») (given «out_idx») (after «out_idx») r ⌝ }
 {

@@ -39,12 +39,11 @@ fn plan_many_asks(
         ⌜ («out_idx» < 2 ^ 64 - 1 → shownAsked r ≡ calls.planManyAsked (givenFlat offsets ends values) («out_ends» ∷ «out_idx» ∷ [])) ⌝ }
 {
     let k = columns(offsets);
-    let room = questions::first_no(
-        questions::ask_room(0, ends.len(), out_ends),
-        questions::ask_room(1, num::saturating_mul(ends.len(), k), out_idx),
-    );
-    let most = questions::first_no(questions::ask_columns(rle::Rle::MAX_COLUMNS, k), room);
-    questions::first_no(questions::ask_flat(offsets, ends, values), most)
+    let indexes = num::saturating_mul(ends.len(), k);
+    questions::ask_flat(offsets, ends, values)
+        .and(questions::ask_columns(rle::Rle::MAX_COLUMNS, k))
+        .and(questions::ask_room(0, ends.len(), out_ends))
+        .and(questions::ask_room(1, indexes, out_idx))
 }
 
 // The segments of many columns: where each ends, and for each column the run that covers it, or the column's run count where it is

@@ -39,7 +39,13 @@ module _ (op : ℤ → ℤ → ℤ) (fa fb : ℤ) (ae av be bv e₀ v₀ : List 
     pub merging : Merging (mergedRuns op cs done) (shownAt op cs (0 ∷ 0 ∷ [])) e₀ v₀ e v w
 
   pub zipped-last : {e v : List ℤ} {w : Writer} {c : Segments} → Zipped e v w c → w .at ≤ length ae + length be
-  zipped-last z = omega (arith, zip-last op cs (z .done) (z .merging), walk-few ae be (z .walk), z .walk .standing .left .within, z .walk .standing .right .within)
+  zipped-last z = omega (
+    arith,
+    zip-last op cs (z .done) (z .merging),
+    walk-few ae be (z .walk),
+    z .walk .standing .left .within,
+    z .walk .standing .right .within,
+  )
 
   -- ---- zip_with_raw
 
@@ -87,8 +93,11 @@ module _ (op : ℤ → ℤ → ℤ) (fa fb : ℤ) (ae av be bv e₀ v₀ : List 
         pub zipped-room : length ae + length be < 2 ^ 64 → (w .at + 1 < 2 ^ 64) × (nextPlace w x < length e) × (nextPlace w x < length v)
         zipped-room k =
             let p = zip-at op cs (z .walk .listing) (z .merging) (ex ∙ sym (shown (c .a .index) (c .b .index))) in
-            let f = walk-few ae be (z .walk) in
-            (omega (arith, zip-last op cs (z .done) (z .merging)), omega (arith, q .room-ends, z .merging .long-ends), omega (arith, q .room-values, z .merging .long-values))
+            let f = walk-few ae be (z .walk) in (
+              omega (arith, zip-last op cs (z .done) (z .merging)),
+              omega (arith, q .room-ends, z .merging .long-ends),
+              omega (arith, q .room-values, z .merging .long-values),
+            )
 
         pub zipped-more : {t t′ : ℤ} {c′ : Segments} {e′ v′ : List ℤ} {next : Writer} → Walks ae be c t c′ → t′ ≡ t
             → PushedMerged w t′ x e e′ v v′ next → Zipped e′ v′ next c′
@@ -113,7 +122,8 @@ module _ (op : ℤ → ℤ → ℤ) (fa fb : ℤ) (ae av be bv e₀ v₀ : List 
             done = _;
             walk = walk-next ae be (z .walk) s;
             ends = write-next runEnd (z .ends) (omega (arith, listed-few, q .room-ends)) (segmentAt (placesAt ae be c) t) (et ∙ s .steps .natural);
-            values = write-next runValue (z .values) (omega (arith, listed-few, q .room-values)) (segmentAt (placesAt ae be c) t) (ex ∙ sym (shown (c .a .index) (c .b .index)));
+            values = write-next runValue (z .values) (omega (arith, listed-few, q .room-values)) (segmentAt (placesAt ae be c) t)
+                (ex ∙ sym (shown (c .a .index) (c .b .index)));
           }
 
       pub listed-end : length ae + length be ≤ c .a .index + c .b .index → Filled (segmentRuns op cs) e₀ e v₀ v n
@@ -121,4 +131,8 @@ module _ (op : ℤ → ℤ → ℤ) (fa fb : ℤ) (ae av be bv e₀ v₀ : List 
       listed-end h =
           let all = walk-end ae be (z .walk) h in
           rw (ends-in ae av (q .paired-a), ends-in be bv (q .paired-b), all)
-          (record { count = z .ends .count ∙ sym (length-map (z .done) (segmentRun op cs)); ends = z .ends .entries ∙ ap (λ (l : List ℤ). over l e₀) (sym (map-map (λ (r : Run). pos (r .end)) (segmentRun op cs) (z .done))); values = z .values .entries ∙ ap (λ (l : List ℤ). over l v₀) (sym (map-map (λ (r : Run). r .value) (segmentRun op cs) (z .done))) })
+          (record {
+            count = z .ends .count ∙ sym (length-map (z .done) (segmentRun op cs));
+            ends = z .ends .entries ∙ ap (λ (l : List ℤ). over l e₀) (sym (map-map (λ (r : Run). pos (r .end)) (segmentRun op cs) (z .done)));
+            values = z .values .entries ∙ ap (λ (l : List ℤ). over l v₀) (sym (map-map (λ (r : Run). r .value) (segmentRun op cs) (z .done)));
+          })

@@ -41,7 +41,8 @@ pub fn zip_with(
     out_ends: &mut [i64],
     out_values: &mut [i64],
 ) -> usize
-    requires { ⌜ Zippable (sequence (now «a_ends») (now «a_values»)) (sequence (now «b_ends») (now «b_values»)) (now «out_ends») (now «out_values») ⌝ }
+    requires { ⌜ Zippable
+        (sequence (now «a_ends») (now «a_values»)) (sequence (now «b_ends») (now «b_values»)) (now «out_ends») (now «out_values») ⌝ }
     ensures { λ r. ⌜ Fills
         (combined (operation code)
         (sides (givenSequence «a_ends» «a_values») (givenSequence «b_ends» «b_values») (Value «fill_a») (Value «fill_b»)))
@@ -83,7 +84,8 @@ pub fn zip_with_raw(
     out_ends: &mut [i64],
     out_values: &mut [i64],
 ) -> usize
-    requires { ⌜ Zippable (sequence (now «a_ends») (now «a_values»)) (sequence (now «b_ends») (now «b_values»)) (now «out_ends») (now «out_values») ⌝ }
+    requires { ⌜ Zippable
+        (sequence (now «a_ends») (now «a_values»)) (sequence (now «b_ends») (now «b_values»)) (now «out_ends») (now «out_values») ⌝ }
     ensures { λ r. ⌜ Fills
         (segmentRuns (operation code)
         (sides (givenSequence «a_ends» «a_values») (givenSequence «b_ends» «b_values») (Value «fill_a») (Value «fill_b»)))

@@ -25,21 +25,16 @@ fn zip_asks(
     ensures { λ r. ⌜ shownAsked r ≡ calls.zipAsked
         (givenSequence «a_ends» «a_values») (givenSequence «b_ends» «b_values») «fill_a» «fill_b» code («out_ends» ∷ «out_values» ∷ []) ⌝ }
 {
-    let room = questions::ask_both(a_ends.len() + b_ends.len(), out_ends, out_values);
+    let needed = a_ends.len() + b_ends.len();
     let left = sequence::length(a_ends);
     let right = sequence::length(b_ends);
-    let filled = questions::first_no(questions::ask_fills(left, right, fill_a, fill_b), room);
-    let valid_b = questions::first_no(questions::ask_ends(b_ends), filled);
-    let valid_a = questions::first_no(questions::ask_ends(a_ends), valid_b);
-    let paired_b = questions::first_no(
-        questions::ask_lengths(3, b_ends.len(), b_values.len()),
-        valid_a,
-    );
-    let paired_a = questions::first_no(
-        questions::ask_lengths(3, a_ends.len(), a_values.len()),
-        paired_b,
-    );
-    questions::first_no(questions::ask_code(0, 9, code), paired_a)
+    questions::ask_code(0, 9, code)
+        .and(questions::ask_lengths(3, a_ends.len(), a_values.len()))
+        .and(questions::ask_lengths(3, b_ends.len(), b_values.len()))
+        .and(questions::ask_ends(a_ends))
+        .and(questions::ask_ends(b_ends))
+        .and(questions::ask_fills(left, right, fill_a, fill_b))
+        .and(questions::ask_both(needed, out_ends, out_values))
 }
 
 // Two columns combined position by position, merged.

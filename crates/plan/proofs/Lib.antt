@@ -1,5 +1,6 @@
 pub mod Asks
 pub mod Columns
+pub mod Fills
 pub mod Listing
 pub mod Planning
 pub mod Raw

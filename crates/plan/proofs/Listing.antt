@@ -1,4 +1,4 @@
--- A walk over the segments of columns that started at the places `start`: `done` are the segments so far, and the columns stand at `ps` behind them.
+-- A walk over the segments of columns that started at the places `start`: `done` are the segments so far, and the columns stand at `ps` after them.
 -- Assumes nothing.
 use Prim.Native.Nat.{ℕ, zero, suc, _+_, _≤_, _<_}
 use mathlib.Core.Option.{none}

@@ -22,7 +22,8 @@ use Rattle.column.proofs.Dense.{length-dense}
 use Rattle.column.proofs.Encode.{push-all}
 use Rattle.column.proofs.Positions.{eachPosition-add, eachPosition-length, eachPosition-const}
 use Rattle.column.proofs.Rising.{Rising, Valid}
-use Rattle.plan.specs.Calls.{Place, leastEnd, steppedOn, rests, indexes, stepped, segmentsFrom, firstPlaces, segments, valuesFor, segmentRun, endsIn, segmentRuns}
+use Rattle.plan.specs.Calls.{Place, leastEnd, steppedOn, rests, indexes, stepped, segmentsFrom, firstPlaces, segments, valuesFor, segmentRun, endsIn}
+use Rattle.plan.specs.Calls.{segmentRuns}
 use Rattle.plan.proofs.Segments.{left, left-less, withOthers, least-cons, none-left, segments-step, segments-end}
 use Rattle.column.specs.Workers.{pushAll}
 
@@ -46,7 +47,8 @@ drop-suc : (i : ℕ) (rs : Runs) (r : Run) (ds : Runs) → drop i rs ≡ r ∷ d
 drop-suc i rs r ds q = ap (λ (n : ℕ). drop n rs) (sym (add-one i)) ∙ sym (drop-drop 1 i rs) ∙ ap (drop 1) q
 
 step-drop : (e i : ℕ) (rs ds : Runs) → drop i rs ≡ ds
-    → _≡_ {A = Place} (record { index = steppedOn e i (endsIn ds) .index; rest = endsIn (drop (steppedOn e i (endsIn ds) .index) rs) }) (steppedOn e i (endsIn ds))
+    → _≡_ {A = Place} (record { index = steppedOn e i (endsIn ds) .index; rest = endsIn (drop (steppedOn e i (endsIn ds) .index) rs) })
+    (steppedOn e i (endsIn ds))
 step-drop e i rs [] q = rw q
 step-drop e i rs (d ∷ ds) q =
     by-test (eqb (d .end) e)
@@ -82,7 +84,11 @@ module _ (p e : ℕ) (c : Column) (h : p < e) where
 
   -- the current run goes on past e
   goes-on : (d : Run) (ds : Runs) → e < d .end → Stands p c (d ∷ ds) → Stands e c (d ∷ ds)
-  goes-on d ds k w = record { rises = (k, w .rises .1); shows = λ j l. w .shows j (omega arith); long = omega (arith, w .long, last-above (d .end) ds (w .rises .1)) }
+  goes-on d ds k w = record {
+    rises = (k, w .rises .1);
+    shows = λ j l. w .shows j (omega arith);
+    long = omega (arith, w .long, last-above (d .end) ds (w .rises .1));
+  }
 
   -- the current run ends at e
   ends-here : (d : Run) (ds : Runs) → d .end ≡ e → Stands p c (d ∷ ds) → Stands e c ds
@@ -150,7 +156,8 @@ all-within : (p : ℕ) (ys : List At) → All (Here p) ys → Within (greatestLe
 unfolding greatestLength columnsIn
 all-within p [] h = tt
 all-within p (a ∷ ys) h =
-    rw (least-cons (endsIn (runsLeft a)) (rests (map placeOf ys))) (both (runsLeft a) (nextEnd ys) (greatestLength (columnsIn ys)) (h .0) (all-within p ys (h .1)))
+    rw (least-cons (endsIn (runsLeft a)) (rests (map placeOf ys)))
+    (both (runsLeft a) (nextEnd ys) (greatestLength (columnsIn ys)) (h .0) (all-within p ys (h .1)))
   where
     both : (ds : Runs) (o : Option ℕ) (n : ℕ) → Stands p (a .column) ds → Within n o → Within (max (lengthOf (a .column .runs)) n) (withOthers (endsIn ds) o)
     both [] none n w k = tt
@@ -241,7 +248,9 @@ module _ (op : ℤ → ℤ → ℤ) (cs : List Column) where
   raw-from : (n p : ℕ) (ys : List At) → columnsIn ys ≡ cs → left (map placeOf ys) ≤ n → All (Here p) ys
       → Right p (map (segmentRun op cs) (segmentsFrom n (map placeOf ys)))
   raw-from zero p ys q f w = nothing-left 0 p ys q w (none-left (map placeOf ys) (omega arith))
-  raw-from (suc n) p ys q f w = go (nextEnd ys) refl (λ e r. raw-from n e (map (stepAt e) ys) (columns-step e ys ∙ q) (rw (places-step e ys) (omega (arith, left-less e (map placeOf ys) r))) (all-step p e ys (rw r at (all-past p ys w)) (all-upto e ys (rw r (omega arith))) w))
+  raw-from (suc n) p ys q f w = go (nextEnd ys)
+      refl (λ e r. raw-from n e (map (stepAt e) ys) (columns-step e ys ∙ q) (rw (places-step e ys) (omega (arith, left-less e (map placeOf ys) r)))
+      (all-step p e ys (rw r at (all-past p ys w)) (all-upto e ys (rw r (omega arith))) w))
     where
       go : (o : Option ℕ) → nextEnd ys ≡ o
           → ((e : ℕ) → nextEnd ys ≡ some e → Right e (map (segmentRun op cs) (segmentsFrom n (map placeOf (map (stepAt e) ys)))))
@@ -275,7 +284,9 @@ module _ (op : ℤ → ℤ → ℤ) (cs : List Column) (v : All (λ c. Valid (c 
   raw-right : Right op cs 0 (segmentRuns op cs)
   unfolding segmentRuns segments
   raw-right =
-      rw (← places-start cs) (raw-from op cs (total (map length (map (λ (c : Column). endsIn (c .runs)) cs))) 0 (map start cs) (columns-start cs) (rw (left-start cs) (omega arith)) (here-all cs v))
+      rw (← places-start cs)
+      (raw-from op cs (total (map length (map (λ (c : Column). endsIn (c .runs)) cs))) 0 (map start cs) (columns-start cs)
+      (rw (left-start cs) (omega arith)) (here-all cs v))
 
   pub raw-rises : Rising 0 (segmentRuns op cs)
   raw-rises = raw-right .rises

@@ -28,7 +28,8 @@ unfolding segmentsFrom
 segments-end zero ps h = refl
 segments-end (suc n) ps h = rw (h, segmentsFrom)
 
-few-step : (n : ℕ) (ps : List Place) (o : Option ℕ) → leastEnd (rests ps) ≡ o → ((e : ℕ) → length (segmentsFrom n (stepped e ps)) ≤ n) → length (segmentsFrom (suc n) ps) ≤ suc n
+few-step : (n : ℕ) (ps : List Place) (o : Option ℕ) → leastEnd (rests ps) ≡ o → ((e : ℕ) → length (segmentsFrom n (stepped e ps)) ≤ n)
+    → length (segmentsFrom (suc n) ps) ≤ suc n
 few-step n ps none h k = rw (segments-end (suc n) ps h) (omega arith)
 few-step n ps (some e) h k = rw (segments-step n ps e h) (omega (arith, k e))
 
@@ -71,7 +72,8 @@ less-cons e i (d ∷ ds) (some x) m m′ h k l =
 pub left-less : (e : ℕ) (ps : List Place) → leastEnd (rests ps) ≡ some e → left (stepped e ps) < left ps
 left-less e [] h = absurd (let z : _≡_ {A = ℕ} 0 1 = cc in omega arith)
 left-less e (p ∷ ps) h =
-    less-cons e (p .index) (p .rest) (leastEnd (rests ps)) (left ps) (left (stepped e ps)) (sym (least-cons (p .rest) (rests ps)) ∙ h) (left-less e ps) (left-step e ps)
+    less-cons e (p .index) (p .rest) (leastEnd (rests ps)) (left ps) (left (stepped e ps)) (sym (least-cons (p .rest) (rests ps)) ∙ h) (left-less e ps)
+    (left-step e ps)
 
 -- ---- there is a next end where runs are left, and there alone
 

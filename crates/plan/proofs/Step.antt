@@ -25,7 +25,7 @@ module _ (es : List ℤ) (i : ℕ) where
   abbrev pub ahead : List ℕ
   ahead = map toNat (drop i es)
 
-  -- its current end, and the ends behind it
+  -- its current end, and the ends after it
   pub ahead-some : i < length es → ahead ≡ toNat (getD es i (pos 0)) ∷ map toNat (drop (suc i) es)
   ahead-some h = ap (map toNat) (drop-cons es i (pos 0) h)
 
@@ -43,9 +43,9 @@ pub end-none : {rest : List ℕ} → rest ≡ [] → EndAt rest spent
 end-none h = rw h (record { current = refl; small = λ z. let y : ⊥ = omega arith in absurd y; some = λ z. let y : ⊥ = omega arith in absurd y })
 
 -- as the code steps
-pub cursor-steps : (c : Cursor) (other behind : ℕ) {b e : ℕ} → b ≡ cond (ltb other (c .end)) 1 0 → e ≡ cond (ltb other (c .end)) (c .end) behind
-    → (b ≤ c .index + 1) × (_≡_ {A = Cursor} (record { index = c .index + 1 - b; end = e }) (steppedCursor c other behind))
-cursor-steps c other behind {b} {e} eb ee =
+pub cursor-steps : (c : Cursor) (other next : ℕ) {b e : ℕ} → b ≡ cond (ltb other (c .end)) 1 0 → e ≡ cond (ltb other (c .end)) (c .end) next
+    → (b ≤ c .index + 1) × (_≡_ {A = Cursor} (record { index = c .index + 1 - b; end = e }) (steppedCursor c other next))
+cursor-steps c other next {b} {e} eb ee =
     by-test (ltb other (c .end))
     (λ t. let n : b ≡ 1 = eb ∙ rw t in let i : c .index + 1 - b ≡ c .index = omega arith in (omega arith, rw (i, ee, t)))
     (λ t. let n : b ≡ 0 = eb ∙ rw t in let i : c .index + 1 - b ≡ c .index + 1 = omega arith in (omega arith, rw (i, ee, t)))
@@ -69,7 +69,7 @@ module _ {es : List ℤ} {c : Cursor} (s : Stands es c) where
       (λ t. let z : ⊥ = omega (arith, s .ends .some (rw (ahead-run (ltb-true _ _ t)) (omega arith))) in absurd z)
       (λ t. ltb-false _ _ t)
 
-  module _ (other behind : ℕ) (h : min (c .end) other < spent) (n : EndAt (ahead es (c .index + 1)) behind) where
+  module _ (other next : ℕ) (h : min (c .end) other < spent) (n : EndAt (ahead es (c .index + 1)) next) where
     stays : other < c .end → placeAt es (c .index) ≡ steppedOn (min (c .end) other) (c .index) (ahead es (c .index))
     stays l =
         by-test (ltb (c .index) (length es))
@@ -79,8 +79,8 @@ module _ {es : List ℤ} {c : Cursor} (s : Stands es c) where
     goes : c .end ≤ other → placeAt es (c .index + 1) ≡ steppedOn (min (c .end) other) (c .index) (ahead es (c .index))
     goes l = rw (ahead-run (unspent-run (omega arith)), eq-eqb (c .end) (min (c .end) other) (omega arith), add-one (c .index))
 
-    place-steps : Stands es (steppedCursor c other behind)
-        × (placeAt es (steppedCursor c other behind .index) ≡ steppedOn (min (c .end) other) (c .index) (ahead es (c .index)))
+    place-steps : Stands es (steppedCursor c other next)
+        × (placeAt es (steppedCursor c other next .index) ≡ steppedOn (min (c .end) other) (c .index) (ahead es (c .index)))
     place-steps =
         by-test (ltb other (c .end))
         (λ t. rw t (s, stays (ltb-true _ _ t)))
@@ -126,12 +126,12 @@ module _ {a b : List ℤ} {c : Segments} (s : Standing a b c) where
     pub none-more : t ≡ false → length a + length b ≤ c .a .index + c .b .index
     none-more h = let l = ltb-false least spent (sym e ∙ h) in omega (arith, spent-run (s .left) (omega arith), spent-run (s .right) (omega arith))
 
-  pub walks : least < spent → {e : ℤ} {c′ : Segments} (behind-a behind-b : ℕ) → EndAt (ahead a (c .a .index + 1)) behind-a → EndAt (ahead b (c .b .index + 1)) behind-b
-      → e ≡ pos least → c′ ≡ record { a = steppedCursor (c .a) (c .b .end) behind-a; b = steppedCursor (c .b) (c .a .end) behind-b } → Walks a b c e c′
-  walks h {e} {c′} behind-a behind-b na nb ee ec =
+  pub walks : least < spent → {e : ℤ} {c′ : Segments} (next-a next-b : ℕ) → EndAt (ahead a (c .a .index + 1)) next-a → EndAt (ahead b (c .b .index + 1)) next-b
+      → e ≡ pos least → c′ ≡ record { a = steppedCursor (c .a) (c .b .end) next-a; b = steppedCursor (c .b) (c .a .end) next-b } → Walks a b c e c′
+  walks h {e} {c′} next-a next-b na nb ee ec =
       let m : min (c .b .end) (c .a .end) ≡ least = omega arith in
-      let p = place-steps (s .left) (c .b .end) behind-a h na in
-      let q = rw m at (place-steps (s .right) (c .a .end) behind-b (omega arith) nb) in
+      let p = place-steps (s .left) (c .b .end) next-a h na in
+      let q = rw m at (place-steps (s .right) (c .a .end) next-b (omega arith) nb) in
       rw (ee, ec) (record {
         steps = record { natural = refl; ends = least-ends h; next = rw (p .1, q .1) };
         standing = record { left = p .0; right = q .0 };

@@ -50,4 +50,13 @@ module _ (a b : List ℤ) where
 
       pub walk-moves : c .a .index + c .b .index < c′ .a .index + c′ .b .index
       walk-moves =
-          omega (arith, step-less (s .steps), left-at c, left-at c′, w .standing .left .within, w .standing .right .within, s .standing .left .within, s .standing .right .within)
+          omega (
+            arith,
+            step-less (s .steps),
+            left-at c,
+            left-at c′,
+            w .standing .left .within,
+            w .standing .right .within,
+            s .standing .left .within,
+            s .standing .right .within,
+          )

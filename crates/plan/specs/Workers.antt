@@ -21,7 +21,7 @@ placeAt es i = record { index = i; rest = map toNat (drop i es) }
 abbrev pub placesAt : List ℤ → List ℤ → Segments → List Place
 placesAt a b c = placeAt a (c .a .index) ∷ placeAt b (c .b .index) ∷ []
 
--- the next segment: its end, and where the columns stand behind it
+-- the next segment: its end, and where the columns stand after it
 pub record Steps (ps : List Place) (end : ℤ) (ps′ : List Place) : Type 0 where
   pub natural : end ≡ pos (toNat end)
   pub ends : leastEnd (rests ps) ≡ some (toNat end)
@@ -60,9 +60,9 @@ pub record Starts (a b : List ℤ) (c : Segments) : Type 0 where
   pub first-a : c .a .index ≡ 0
   pub first-b : c .b .index ≡ 0
 
--- a cursor behind a segment, where the other column's run ends at `other` and the run behind the current one at `behind`
+-- a cursor after a segment, where the other column's run ends at `other` and the run after the current one at `next`
 abbrev pub steppedCursor : Cursor → ℕ → ℕ → Cursor
-steppedCursor c other behind = cond (ltb other (c .end)) c (record { index = c .index + 1; end = behind })
+steppedCursor c other next = cond (ltb other (c .end)) c (record { index = c .index + 1; end = next })
 
 -- columns that are not both spent
 pub record Walkable (a b : List ℤ) (c : Segments) : Type 0 where

@@ -27,7 +27,7 @@ pub struct Segments {
     pub b: Cursor,
 }
 
-// Where a segment ends, and where the walk stands behind it.
+// Where a segment ends, and where the walk stands after it.
 pub struct Segment {
     pub end: i64,
     pub next: Segments,
@@ -53,21 +53,21 @@ fn below(a: usize, b: usize) -> usize
     if a < b { 1 } else { 0 }
 }
 
-// Where the current run ends behind a segment; the next one ends at `behind`.
-fn end_after(end: usize, other: usize, behind: usize) -> usize
-    ensures { λ r. ⌜ r ≡ cond (ltb other end) end behind ⌝ }
+// Where the current run ends after a segment; the next one ends at `next`.
+fn end_after(end: usize, other: usize, next: usize) -> usize
+    ensures { λ r. ⌜ r ≡ cond (ltb other end) end next ⌝ }
 {
-    if other < end { end } else { behind }
+    if other < end { end } else { next }
 }
 
 // Behind a segment a column stays if the other's run ends before its own. By numbers, not branches: which run ends first cannot be
-// foretold.
-fn stepped(here: Cursor, other: usize, behind: usize) -> Cursor
+// predicted.
+fn stepped(here: Cursor, other: usize, next: usize) -> Cursor
     requires { ⌜ here .index + 1 < 2 ^ 64 ⌝ }
-    ensures { λ r. ⌜ r ≡ steppedCursor here other behind ⌝ }
+    ensures { λ r. ⌜ r ≡ steppedCursor here other next ⌝ }
 {
     let index = here.index + 1 - below(other, here.end);
-    let end = end_after(here.end, other, behind);
+    let end = end_after(here.end, other, next);
     Cursor { index, end }
 }
 
@@ -95,7 +95,7 @@ impl Segments {
         num::smaller_count(self.a.end, self.b.end) < SPENT
     }
 
-    // The next segment. The ends behind the current ones are read before it is known which are wanted, so that the next segment does not
+    // The next segment. The ends after the current ones are read before it is known which are wanted, so that the next segment does not
     // wait for them.
     pub fn next(self, a: &[i64], b: &[i64]) -> Segment
         requires { ⌜ Walkable (now a) (now b) self ⌝ }
@@ -103,14 +103,14 @@ impl Segments {
     {
         let here_a = self.a;
         let here_b = self.b;
-        let behind_a = end_at(a, here_a.index + 1);
-        let behind_b = end_at(b, here_b.index + 1);
+        let next_a = end_at(a, here_a.index + 1);
+        let next_b = end_at(b, here_b.index + 1);
         let end = num::smaller_count(here_a.end, here_b.end);
         Segment {
             end: end as i64,
             next: Segments {
-                a: stepped(here_a, here_b.end, behind_a),
-                b: stepped(here_b, here_a.end, behind_b),
+                a: stepped(here_a, here_b.end, next_a),
+                b: stepped(here_b, here_a.end, next_b),
             },
         }
     }
@@ -123,8 +123,8 @@ pub fn plan(
     out_idx_a: &mut [usize],
     out_idx_b: &mut [usize],
 ) -> usize
-    requires { ⌜ (endsValid (now a) ≡ none) × (endsValid (now b) ≡ none)
-        × (length (now a) + length (now b) ≤ length (now «out_ends»)) × (length (now a) + length (now b) ≤ length (now «out_idx_a»)) × (length (now a) + length (now b) ≤ length (now «out_idx_b»)) ⌝ }
+    requires { ⌜ (endsValid (now a) ≡ none) × (endsValid (now b) ≡ none) × (length (now a) + length (now b) ≤ length (now «out_ends»))
+        × (length (now a) + length (now b) ≤ length (now «out_idx_a»)) × (length (now a) + length (now b) ≤ length (now «out_idx_b»)) ⌝ }
     ensures { λ r. ⌜ PlanFilled (segmentsOf (given a) (given b))
         (given «out_ends») (after «out_ends») (given «out_idx_a») (after «out_idx_a») (given «out_idx_b») (after «out_idx_b») r ⌝ }
 {

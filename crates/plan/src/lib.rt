@@ -13,13 +13,11 @@ fn plan_asks(a: &[i64], b: &[i64], out_ends: usize, out_idx_a: usize, out_idx_b:
     ensures { λ r. ⌜ shownAsked r ≡ calls.planAsked (given a) (given b) («out_ends» ∷ «out_idx_a» ∷ «out_idx_b» ∷ []) ⌝ }
 {
     let needed = a.len() + b.len();
-    let last = questions::first_no(
-        questions::ask_room(1, needed, out_idx_a),
-        questions::ask_room(2, needed, out_idx_b),
-    );
-    let room = questions::first_no(questions::ask_room(0, needed, out_ends), last);
-    let right = questions::first_no(questions::ask_ends(b), room);
-    questions::first_no(questions::ask_ends(a), right)
+    questions::ask_ends(a)
+        .and(questions::ask_ends(b))
+        .and(questions::ask_room(0, needed, out_ends))
+        .and(questions::ask_room(1, needed, out_idx_a))
+        .and(questions::ask_room(2, needed, out_idx_b))
 }
 
 // The segments of two columns, from their ends alone: where each ends, and the run of each column that covers it, or the column's run

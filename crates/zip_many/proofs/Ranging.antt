@@ -13,12 +13,13 @@ use Rattle.num.specs.Numbers.{smallerOf, largerOf}
 use Rattle.num.proofs.Tests.{by-test}
 use Rattle.column.specs.declared.answer.Fill.{Fill}
 use Rattle.column.specs.Asking.{refusal, _unless_}
-use Rattle.column.specs.Combine.{Column, many, greatestLength, sideOf, allFilled}
+use Rattle.column.specs.Combine.{many, greatestLength, sideOf, allFilled}
 use Rattle.column.specs.Lists.{any, part, parts}
 use Rattle.column.specs.Questions.{side, isMissing, longest, lacking, filled}
 use Rattle.column.specs.Runs.{Runs, lengthOf, lengthOfEnds}
 use Rattle.column.proofs.Naturals.{smaller-naturals, larger-naturals}
 use Rattle.column.proofs.Parts.{partsAt, parts-start, parts-cons, parts-end}
+use Rattle.plan.proofs.Fills.{longest-sides}
 use Rattle.zip_many.specs.Calls.{leastLength}
 use Rattle.zip_many.specs.Workers.{leastFrom, greatestFrom, fromFirst, LengthsOf}
 
@@ -60,11 +61,6 @@ module _ (os : List ℕ) (es : List ℤ) where
 
     pub ranging-end : length os ≤ c + 1 → LengthsOf (map lengthOfEnds (parts os es)) (record { least = l; greatest = g })
     ranging-end h = let n = parts-end c os es h in record { least = sym (rw n at (r .least)); greatest = sym (rw n at (r .greatest)) }
-
-pub longest-sides : (cs : List Column) → longest (map sideOf cs) ≡ pos (greatestLength cs)
-unfolding greatestLength
-longest-sides [] = refl
-longest-sides (c ∷ cs) = rw (longest-sides cs) (larger-naturals (lengthOf (c .runs)) (greatestLength cs))
 
 or-false : (t : Bool) → t || false ≡ t
 or-false true = refl

@@ -94,5 +94,6 @@ module _ (op : ℤ → ℤ → ℤ) (fill : ℤ) (os : List ℕ) (es vs e₀ v�
             record {
               done = _;
               walk = walk-next (z .walk) h s;
-              merging = zip-more op cs (z .walk .listing) (z .merging) is-shown (walk-steps (z .walk) h s) (rw et at d) (omega (arith, q .room-ends)) (omega (arith, q .room-values));
+              merging = zip-more op cs (z .walk .listing) (z .merging) is-shown (walk-steps (z .walk) h s) (rw et at d) (omega (arith, q .room-ends))
+                  (omega (arith, q .room-values));
             }

@@ -18,7 +18,7 @@ leastLength [] = 0
 leastLength (c ∷ []) = lengthOf c
 leastLength (c ∷ d ∷ cs) = min (lengthOf c) (leastLength (d ∷ cs))
 
--- "zip_many N (all runs) entries"
+-- "N (all runs) entries"
 unfoldable pub zipManyAsked : Flat → Fill → ℕ → List ℕ → Question
 zipManyAsked f fill code buffers =
     let cs = many fill (columns f) in

@@ -61,7 +61,8 @@ fn zip_walk(
     out_ends: &mut [i64],
     out_values: &mut [i64],
 ) -> usize
-    requires { ⌜ Combinable (now offsets) (now ends) (now values) (now places) (now «out_ends») (now «out_values») × Paired (now ends) (now values) (now places) (now current) (now shown) ⌝ }
+    requires { ⌜ Combinable (now offsets) (now ends) (now values) (now places) (now «out_ends») (now «out_values»)
+        × Paired (now ends) (now values) (now places) (now current) (now shown) ⌝ }
     ensures { λ r.
         ⌜ Fills (combined (operation code) (many (Value fill) (columns (givenFlat offsets ends values)))) «out_ends» «out_values» r ⌝ }
 {

@@ -54,18 +54,13 @@ fn zip_many_asks(
 ) -> Asked
     ensures { λ r. ⌜ shownAsked r ≡ calls.zipManyAsked (givenFlat offsets ends values) fill code («out_ends» ∷ «out_values» ∷ []) ⌝ }
 {
-    let room = questions::ask_both(ends.len(), out_ends, out_values);
+    let k = many::columns(offsets);
     let lengths = least_and_greatest(offsets, ends);
-    let filled = questions::first_no(
-        questions::ask_fills(lengths.least, lengths.greatest, fill, fill),
-        room,
-    );
-    let most = questions::first_no(
-        questions::ask_columns(rle::Rle::MAX_COLUMNS, many::columns(offsets)),
-        filled,
-    );
-    let valid = questions::first_no(questions::ask_flat(offsets, ends, values), most);
-    questions::first_no(questions::ask_code(0, 9, code), valid)
+    questions::ask_code(0, 9, code)
+        .and(questions::ask_flat(offsets, ends, values))
+        .and(questions::ask_columns(rle::Rle::MAX_COLUMNS, k))
+        .and(questions::ask_fills(lengths.least, lengths.greatest, fill, fill))
+        .and(questions::ask_both(ends.len(), out_ends, out_values))
 }
 
 // Many columns combined position by position, folded from the first, merged.

@@ -20,11 +20,13 @@ enum-known-asked c = search needs
 
 returns : tie.Need-returns
 unfolding equals
-returns c = value-answered (asked-yes (c .before .before .before .before .equals-asks .ensures) (c .before .before .enum-told .given .1)) (sym (c .if1 .taken) ∙ c .before .equals .ensures)
+returns c = value-answered (asked-yes (c .before .before .before .before .equals-asks .ensures) (c .before .before .enum-told .given .1))
+    (sym (c .if1 .taken) ∙ c .before .equals .ensures)
 
 returns-2 : tie.Need-returns-2
 unfolding equals
-returns-2 c = value-answered (asked-yes (c .before .before .before .before .equals-asks .ensures) (c .before .before .enum-told .given .1)) (sym (c .if1 .left) ∙ c .before .equals .ensures)
+returns-2 c = value-answered (asked-yes (c .before .before .before .before .equals-asks .ensures) (c .before .before .enum-told .given .1))
+    (sym (c .if1 .left) ∙ c .before .equals .ensures)
 
 returns-3 : tie.Need-returns-3
 unfolding equals

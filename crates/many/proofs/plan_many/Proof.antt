@@ -13,7 +13,8 @@ enum-told : tie.Need-enum-told
 enum-told c = search needs
 
 plan-many-requires : tie.Need-plan-many-requires
-plan-many-requires c κs = plan-many-yes _ _ _ _ _ (asked-yes (c .before .before .before .before .plan-many-asks .ensures (omega arith)) (c .before .before .enum-told .given .1))
+plan-many-requires c κs = let yes = c .before .before in
+    plan-many-yes _ _ _ _ _ (asked-yes (yes .before .before .plan-many-asks .ensures (omega arith)) (yes .enum-told .given .1))
 
 enum-known-asked : tie.Need-enum-known-asked
 enum-known-asked c = search needs
@@ -26,7 +27,11 @@ same-length-2 c = search needs
 
 returns : tie.Need-returns
 unfolding planMany
-returns c = let y = asked-yes (c .before .before .before .before .before .before .before .before .plan-many-asks .ensures (omega arith)) (c .before .before .before .before .before .before .enum-told .given .1) in plan-many-written y (plan-many-segments _ _ _ _ y) (c .before .before .before .plan-many .ensures)
+returns c = let made = c .before .before .before in
+    let yes = made .before .before .before in
+    let asks = yes .before .before in
+    let y = asked-yes (asks .plan-many-asks .ensures (omega (arith, asks .before .before .before .good))) (yes .enum-told .given .1) in
+    plan-many-written y (plan-many-segments _ _ _ _ y) (made .plan-many .ensures)
 
 returns-2 : tie.Need-returns-2
 unfolding planMany

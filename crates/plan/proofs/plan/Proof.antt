@@ -13,7 +13,7 @@ enum-told : tie.Need-enum-told
 enum-told c = search needs
 
 plan-requires : tie.Need-plan-requires
-plan-requires c κs = plan-yes _ _ _ _ _ (asked-yes (c .before .before .before .before .before .plan-asks .ensures) (c .before .before .before .enum-told .given .1))
+plan-requires c κs = let yes = c .before .before .before in plan-yes _ _ _ _ _ (asked-yes (yes .before .before .plan-asks .ensures) (yes .enum-told .given .1))
 
 enum-known-asked : tie.Need-enum-known-asked
 enum-known-asked c = search needs
@@ -29,7 +29,9 @@ same-length-3 c = search needs
 
 returns : tie.Need-returns
 unfolding plan
-returns c = plan-written _ (asked-yes (c .before .before .before .before .before .before .before .before .before .before .before .plan-asks .ensures) (c .before .before .before .before .before .before .before .before .before .enum-told .given .1)) (c .before .before .before .before .before .plan .ensures)
+returns c = let made = c .before .before .before .before .before in
+    let yes = made .before .before .before .before in
+    plan-written _ (asked-yes (yes .before .before .plan-asks .ensures) (yes .enum-told .given .1)) (made .plan .ensures)
 
 returns-2 : tie.Need-returns-2
 unfolding plan

@@ -45,7 +45,11 @@ loop-less : tie.Need-loop-less Inv-loop μ-loop
 loop-less c = omega arith
 
 loop-again : tie.Need-loop-again Inv-loop μ-loop
-loop-again c = let l = c .before .before .before .before in ranging-next _ _ (l .loop .inv) (c .before .before .before .loop-test .taken) (back _ (c .before .before .length-at2 .ok) ∙ c .before .before .length-at2 .ensures) (back _ (c .before .smaller .ok) ∙ c .before .smaller .ensures) (back _ (c .larger .ok) ∙ c .larger .ensures)
+loop-again c = let smaller = c .before in
+    let length = smaller .before in
+    let t = length .before in
+    ranging-next _ _ (t .before .loop .inv) (t .loop-test .taken) (back _ (length .length-at2 .ok) ∙ length .length-at2 .ensures)
+    (back _ (smaller .smaller .ok) ∙ smaller .smaller .ensures) (back _ (c .larger .ok) ∙ c .larger .ensures)
 
 returns-2 : tie.Need-returns-2 Inv-loop μ-loop
 returns-2 c = ranging-end _ _ (c .before .loop .inv) (c .loop-test .left)

@@ -20,7 +20,8 @@ value-requires : tie.Need-value-requires
 value-requires c κs = search needs
 
 zip-many-requires : tie.Need-zip-many-requires
-zip-many-requires c κs = zip-many-yes _ _ _ _ _ _ _ (asked-yes (c .before .before .before .before .before .zip-many-asks .ensures) (c .before .before .before .enum-told .given .1))
+zip-many-requires c κs = let yes = c .before .before .before in
+    zip-many-yes _ _ _ _ _ _ _ (asked-yes (yes .before .before .zip-many-asks .ensures) (yes .enum-told .given .1))
 
 enum-known-asked : tie.Need-enum-known-asked
 enum-known-asked c = search needs
@@ -33,7 +34,14 @@ same-length-2 c = search needs
 
 returns : tie.Need-returns
 unfolding zipMany
-returns c = let w = c .before .before .before .before .before in let a = c .before .before .before .before .before .before .before .before .before .before .args in runs-written _ (asked-yes (c .before .before .before .before .before .before .before .before .zip-many-asks .ensures) (c .before .before .before .before .before .before .enum-told .given .1)) (combined-filled _ (a .fill) (columns (flat (now (a .offsets)) (now (a .ends)) (now (a .values)))) (back _ (w .value .ok) ∙ w .value .ensures) (c .before .before .zip-many .ensures))
+returns c = let made = c .before .before in
+    let fill = made .before .before .before in
+    let yes = fill .before in
+    let asks = yes .before .before in
+    let a = asks .before .before .args in
+    let cs = columns (flat (now (a .offsets)) (now (a .ends)) (now (a .values))) in
+    let asked = asked-yes (asks .zip-many-asks .ensures) (yes .enum-told .given .1) in
+    runs-written _ asked (combined-filled _ (a .fill) cs (back _ (fill .value .ok) ∙ fill .value .ensures) (made .zip-many .ensures))
 
 returns-2 : tie.Need-returns-2
 unfolding zipMany

@@ -1,5 +1,5 @@
 use Rattle.num.proofs.Bits.{end-nat, end-cast}
-use Rattle.many.proofs.Entries.{end-natural, end-inside, end-behind}
+use Rattle.many.proofs.Entries.{end-natural, end-inside, end-past}
 use borrow.Author.Needs.{needs}
 use Rattle.many.proofs.inner.end_at.Statement.{statement}
 use Rattle.many.proofs.inner.end_at.Tie as tie
@@ -17,10 +17,14 @@ cast-result : tie.Need-cast-result
 cast-result c = let q = c .before .before .pre in end-cast (end-natural _ _ _ _ (q .0) (q .1) (c .before .if1 .taken)) (c .end .given)
 
 returns : tie.Need-returns
-returns c = let q = c .before .before .pre in end-inside _ _ _ _ (q .0) (q .1) (c .before .if1 .taken) (end-nat (end-natural _ _ _ _ (q .0) (q .1) (c .before .if1 .taken)) (c .end .given)) (record { sfits = c .end .given })
+returns c =
+    let q = c .before .before .pre in
+    let inside = c .before .if1 .taken in
+    let end = end-nat (end-natural _ _ _ _ (q .0) (q .1) inside) (c .end .given) in
+    end-inside _ _ _ _ (q .0) (q .1) inside end (record { sfits = c .end .given })
 
 returns-2 : tie.Need-returns-2
-returns-2 c = let q = c .before .pre in end-behind _ _ _ _ (q .0) (q .1) (c .if1 .left)
+returns-2 c = let q = c .before .pre in end-past _ _ _ _ (q .0) (q .1) (c .if1 .left)
 
 pub end-at-spec : {M : Type 1} → statement M
 end-at-spec =

@@ -29,7 +29,13 @@ slice-aggregate-plan-walk-3 : tie.Need-slice-aggregate-plan-walk-3
 slice-aggregate-plan-walk-3 c = let q = c .before .before .before .before .before .pre in sym (length-front (pos 0) _ 128 (q .columns))
 
 plan-walk-requires : tie.Need-plan-walk-requires
-plan-walk-requires c κs = let q = c .before .before .before .before .before .before .before .pre in (record { offsets = q .offsets; valid = q .valid; first = take-zeros _ 128 (q .columns) }, record { paired = q .paired; room-ends = refl; room-values = length-front (pos 0) _ 128 (q .columns) ∙ sym (length-front 0 _ 128 (q .columns)) }, q .room-ends, q .room-indexes)
+plan-walk-requires c κs =
+    let q = c .before .before .before .before .before .before .before .pre in (
+      record { offsets = q .offsets; valid = q .valid; first = take-zeros _ 128 (q .columns) },
+      record { paired = q .paired; room-ends = refl; room-values = length-front (pos 0) _ 128 (q .columns) ∙ sym (length-front 0 _ 128 (q .columns)) },
+      q .room-ends,
+      q .room-indexes,
+    )
 
 same-length : tie.Need-same-length
 same-length c = search needs

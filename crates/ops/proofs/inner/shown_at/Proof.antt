@@ -17,7 +17,16 @@ apply-requires c κs = search needs
 returns : tie.Need-returns
 returns c = let y = c .before in
     let x = y .before in
-    back _ (c .apply .ok) ∙ rw (back _ (x .entry-or .ok), back _ (y .entry-or2 .ok), x .entry-or .ensures, y .entry-or2 .ensures, toZ-ofZ (x .before .fits .fill-a), toZ-ofZ (x .before .fits .fill-b)) at (c .apply .ensures)
+    let s = x .before in
+    back _ (c .apply .ok)
+    ∙ rw (
+      back _ (x .entry-or .ok),
+      back _ (y .entry-or2 .ok),
+      x .entry-or .ensures,
+      y .entry-or2 .ensures,
+      toZ-ofZ (s .fits .fill-a),
+      toZ-ofZ (s .fits .fill-b),
+    ) at (c .apply .ensures)
 
 pub shown-at-spec : {M : Type 1} → statement M
 shown-at-spec = tie.close (tie.spec entry-or-requires entry-or-requires-2 apply-requires returns)

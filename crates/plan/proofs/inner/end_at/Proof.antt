@@ -19,8 +19,12 @@ cast-result : tie.Need-cast-result
 cast-result c = let s = c .before .before in end-cast (natural-end (now (s .args .ends)) (s .args .index) (s .pre) (c .before .if1 .taken)) (c .end .given)
 
 returns : tie.Need-returns
-returns c = let s = c .before .before in let n = natural-end (now (s .args .ends)) (s .args .index) (s .pre) (c .before .if1 .taken) in
-    end-some _ (ahead-some (now (s .args .ends)) (s .args .index) (c .before .if1 .taken)) (end-nat n (c .end .given)) (to-nat-below (getD (now (s .args .ends)) (s .args .index) (pos 0)) (record { sfits = c .end .given }))
+returns c = let s = c .before .before in
+    let es = now (s .args .ends) in
+    let i = s .args .index in
+    let inside = c .before .if1 .taken in
+    let end = end-nat (natural-end es i (s .pre) inside) (c .end .given) in
+    end-some _ (ahead-some es i inside) end (to-nat-below (getD es i (pos 0)) (record { sfits = c .end .given }))
 
 returns-2 : tie.Need-returns-2
 returns-2 c = end-none (ahead-none _ _ (c .if1 .left))

@@ -38,7 +38,8 @@ loop-less : tie.Need-loop-less Inv-loop μ-loop
 loop-less c = search needs
 
 loop-again : tie.Need-loop-again Inv-loop μ-loop
-loop-again c = let t = c .before .before in fold-next (t .before .loop .inv) (t .loop-test .taken) (back _ (c .apply .ok) ∙ rw (back _ (c .before .apply-arg .given)) at (c .apply .ensures))
+loop-again c = let t = c .before .before in
+    fold-next (t .before .loop .inv) (t .loop-test .taken) (back _ (c .apply .ok) ∙ rw (back _ (c .before .apply-arg .given)) at (c .apply .ensures))
 
 returns : tie.Need-returns Inv-loop μ-loop
 returns c = fold-end (c .before .loop .inv) (c .loop-test .left)

@@ -30,7 +30,16 @@ slice-aggregate-zip-walk-3 : tie.Need-slice-aggregate-zip-walk-3
 slice-aggregate-zip-walk-3 c = let q = c .before .before .before .before .pre in sym (length-front (pos 0) _ 128 (q .columns))
 
 zip-walk-requires : tie.Need-zip-walk-requires
-zip-walk-requires c κs = let q = c .before .before .before .before .before .before .pre in (record { walkable = record { offsets = q .offsets; valid = q .valid; first = take-zeros _ 128 (q .columns) }; paired = q .paired; room-ends = q .room-ends; room-values = q .room-values }, record { paired = q .paired; room-ends = refl; room-values = length-front (pos 0) _ 128 (q .columns) ∙ sym (length-front 0 _ 128 (q .columns)) })
+zip-walk-requires c κs =
+    let q = c .before .before .before .before .before .before .pre in (
+      record {
+        walkable = record { offsets = q .offsets; valid = q .valid; first = take-zeros _ 128 (q .columns) };
+        paired = q .paired;
+        room-ends = q .room-ends;
+        room-values = q .room-values;
+      },
+      record { paired = q .paired; room-ends = refl; room-values = length-front (pos 0) _ 128 (q .columns) ∙ sym (length-front 0 _ 128 (q .columns)) },
+    )
 
 same-length : tie.Need-same-length
 same-length c = search needs
@@ -39,7 +48,9 @@ same-length-2 : tie.Need-same-length-2
 same-length-2 c = search needs
 
 returns : tie.Need-returns
-returns c = rw (toZ-ofZ (c .before .before .before .before .before .before .before .before .before .before .before .before .fits .fill)) at (c .before .before .before .before .before .zip-walk .ensures)
+returns c = let walked = c .before .before .before .before .before in
+    let s = walked .before .before .before .before .before .before .before in
+    rw (toZ-ofZ (s .fits .fill)) at (walked .zip-walk .ensures)
 
 pub zip-many-spec : {M : Type 1} → statement M
 zip-many-spec =

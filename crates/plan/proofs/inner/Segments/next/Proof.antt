@@ -21,7 +21,8 @@ smaller-count-requires : tie.Need-smaller-count-requires
 smaller-count-requires c κs = search needs
 
 cast-t10 : tie.Need-cast-t10
-cast-t10 c = let s = c .before .before .before .before .before .before .before in record { sfits = rw (c .smaller-count .ensures) (least-fits (s .pre .standing) (s .pre .unspent)) }
+cast-t10 c = let s = c .before .before .before .before .before .before .before in
+    record { sfits = rw (c .smaller-count .ensures) (least-fits (s .pre .standing) (s .pre .unspent)) }
 
 stepped-requires : tie.Need-stepped-requires
 stepped-requires c κs = search needs
