@@ -26,16 +26,19 @@ use Rattle.column.proofs.Flattened.{sequences-told, columns-valid}
 use Rattle.column.proofs.Rising.{Valid}
 use Rattle.slice.specs.Calls.{cut, sliceRuns}
 use Rattle.slice.proofs.Sliced.{valid-slice}
-use Rattle.batch.specs.Batch.{Batch, Entry, entriesFrom, entries, keysOf, columnsOf, keyed, lengthsAsked, contentAsked, batchValid, has, find, batchNeeds, bothValid}
+use Rattle.batch.specs.Batch.{Batch, Entry, entriesFrom, entries, keysOf, columnsOf, keyed, lengthsAsked, contentAsked, batchValid, has, find, batchNeeds}
+use Rattle.batch.specs.Batch.{bothValid}
 use Rattle.batch_map_rles.specs.Calls.{onEach, eachAsked, mapRlesSlice}
-use Rattle.batch_zip_with.specs.Calls.{keep, keepsLeft, keepsRight, Pair, withRight, rightOnly, pairs, filledPair, filledPairs, zipNeeds, zipPair, zipAsked, zipWith}
-use Rattle.cutting.specs.Cut.{longest, cutPoints, Span, spansFrom, spans, batchOf}
-use Rattle.cutting.specs.Claim.{ValidBatch, NeverShows, zipBatches, zipBatchPieces, JoinsUp, runsAt, JoinsUpByKey}
+use Rattle.batch_zip_with.specs.Calls.{keep, keepsLeft, keepsRight, Pair, withRight, rightOnly, pairs, filledPair, filledPairs, zipNeeds, zipPair, zipAsked}
+use Rattle.batch_zip_with.specs.Calls.{zipWith}
+use Rattle.cutting.specs.Cut.{longest, cutPoints, Span, spansFrom, spans, numbered, batchOf}
+use Rattle.cutting.specs.Claim.{ValidBatch, NeverShows, runsAt, zipBatches, JoinsUp, Call, combinesWhole, cuts, combines, joins, zipBatchPieces}
+use Rattle.cutting.specs.Claim.{JoinsUpByKey}
 use Rattle.cutting.proofs.Tests.{any-map, any-any, any-same, any-all, all-map}
 use Rattle.cutting.proofs.Laid.{entries-laid, keyed-laid, paired-flat, offsets-flat, ends-flat}
 use Rattle.cutting.proofs.Outcomes.{noWith, never-shows}
 use Rattle.cutting.proofs.Combined.{after-zero, points-less, piece, lacks, lacking-some}
-use Rattle.cutting.proofs.Columns.{map-same, first-same, ten-filled, joins-columns}
+use Rattle.cutting.proofs.Columns.{numbered-same, first-same, ten-filled, joins-columns}
 
 -- ---- the pairs of the pieces are the pieces of the pairs
 
@@ -72,7 +75,8 @@ pairs-cut z how l r =
     (withRight r) (withRight (map (cutEntry z) r)) l (λ e. rw has-cut) (λ e. rw find-cut))
     (keep-map (cutEntry z) (cutPair z) (λ e. keepsRight how && not (has (e .key) l)) (λ e. keepsRight how && not (has (e .key) (map (cutEntry z) l)))
     rightOnly rightOnly r (λ e. rw has-cut) (λ e. rw (cut-nothing z)))
-    ∙ sym (map-append (cutPair z) (map (withRight r) (keep (λ e. keepsLeft how || has (e .key) r) l)) (map rightOnly (keep (λ e. keepsRight how && not (has (e .key) l)) r)))
+    ∙ sym (map-append (cutPair z) (map (withRight r) (keep (λ e. keepsLeft how || has (e .key) r) l))
+    (map rightOnly (keep (λ e. keepsRight how && not (has (e .key) l)) r)))
 
 -- ---- the columns of the pairs are valid, and no longer than the longest handed in
 
@@ -90,12 +94,13 @@ unfolding lengthOf
 within-nothing n = (tt, omega arith)
 
 within-columns : (n : ℕ) (ks : List ℕ) (cs : List Runs) → All Valid cs → longest cs ≤ n → All (EntryWithin n) (entriesFrom ks cs)
-unfolding entriesFrom
+unfolding entriesFrom greatestLength
 within-columns n [] cs v h = tt
 within-columns n (k ∷ ks) [] v h = tt
 within-columns n (k ∷ ks) (c ∷ cs) v h = ((v .0, omega arith), within-columns n ks cs (v .1) (omega arith))
 
 longest-append : (cs ds : List Runs) → longest (cs ++ ds) ≡ max (longest cs) (longest ds)
+unfolding greatestLength
 longest-append [] ds = omega arith
 longest-append (c ∷ cs) ds = omega (arith, longest-append cs ds)
 
@@ -104,7 +109,8 @@ unfolding find
 within-find n k [] v = within-nothing n
 within-find n k (e ∷ b) v = by-test (eqb k (e .key)) (λ t. rw t (v .0)) (λ t. rw t (within-find n k b (v .1)))
 
-all-kept : {A B : Type 0} (P : A → Type 0) (Q : B → Type 0) (p : A → Bool) (f : A → B) → ((x : A) → P x → Q (f x)) → (xs : List A) → All P xs → All Q (map f (keep p xs))
+all-kept : {A B : Type 0} (P : A → Type 0) (Q : B → Type 0) (p : A → Bool) (f : A → B) → ((x : A) → P x → Q (f x)) → (xs : List A) → All P xs
+    → All Q (map f (keep p xs))
 all-kept P Q p f h [] v = tt
 all-kept P Q p f h (x ∷ xs) v = by-test (p x) (λ t. rw t (h x (v .0), all-kept P Q p f h xs (v .1))) (λ t. rw t (all-kept P Q p f h xs (v .1)))
 
@@ -115,7 +121,8 @@ all-append P (x ∷ xs) ys v w = (v .0, all-append P xs ys (v .1) w)
 within-pairs : (n how : ℕ) (l r : List Entry) → All (EntryWithin n) l → All (EntryWithin n) r → All (PairWithin n) (pairs how l r)
 unfolding pairs
 within-pairs n how l r v w =
-    all-append (PairWithin n) (map (withRight r) (keep (λ e. keepsLeft how || has (e .key) r) l)) (map rightOnly (keep (λ e. keepsRight how && not (has (e .key) l)) r))
+    all-append (PairWithin n) (map (withRight r) (keep (λ e. keepsLeft how || has (e .key) r) l))
+    (map rightOnly (keep (λ e. keepsRight how && not (has (e .key) l)) r))
     (all-kept (EntryWithin n) (PairWithin n) (λ e. keepsLeft how || has (e .key) r) (withRight r) (λ e u. (u, within-find n (e .key) r w)) l v)
     (all-kept (EntryWithin n) (PairWithin n) (λ e. keepsRight how && not (has (e .key) l)) rightOnly (λ e u. (within-nothing n, u)) r w)
 
@@ -171,20 +178,21 @@ module _ (fa fb : Fill) where
         ∙ any-any (λ z x. lacksPair (cutPair z x)) (spans points) xs
         ∙ any-all (λ x. any (λ z. lacksPair (cutPair z x)) (spans points)) lacksPair xs (all-map lacks-cut xs v)
 
-    module _ (lent : List ℕ → List ℕ) (enough : (needed : List ℕ) → room needed (lent needed) ≡ none) (op : ℤ → ℤ → ℤ) where
+    module _ (op : ℤ → ℤ → ℤ) where
       -- ---- the parts join up, key by key
 
       abbrev part : List Pair → Span → List Entry
       part xs z = map (zipPair op fa fb) (map (cutPair z) xs)
 
-      joins-pair : (x : Pair) → PairWithin n x → JoinsUp lent (zipPair op fa fb x .runs) (map (λ z. zipPair op fa fb (cutPair z x) .runs) (spans points))
-      joins-pair x v = joins-columns lent enough op (two fa fb (x .first) (x .second)) (v .0 .0, (v .1 .0, tt)) points (reaches-pair x v)
+      module _ (lent : List ℕ → List ℕ) (enough : (needed : List ℕ) → room needed (lent needed) ≡ none) where
+        joins-pair : (x : Pair) → PairWithin n x → JoinsUp lent (zipPair op fa fb x .runs) (map (λ z. zipPair op fa fb (cutPair z x) .runs) (spans points))
+        joins-pair x v = joins-columns lent enough op (two fa fb (x .first) (x .second)) (v .0 .0, (v .1 .0, tt)) points (reaches-pair x v)
 
-      each-pair : (xs : List Pair) → All (PairWithin n) xs → (k : ℕ) → k < length (map (zipPair op fa fb) xs)
-          → JoinsUp lent (runsAt k (map (zipPair op fa fb) xs)) (map (λ z. runsAt k (part xs z)) (spans points))
-      each-pair [] v k h = absurd (let z : ⊥ = omega arith in z)
-      each-pair (x ∷ xs) v zero h = joins-pair x (v .0)
-      each-pair (x ∷ xs) v (suc k) h = each-pair xs (v .1) k (omega arith)
+        each-pair : (xs : List Pair) → All (PairWithin n) xs → (k : ℕ) → k < length (map (zipPair op fa fb) xs)
+            → JoinsUp lent (runsAt k (map (zipPair op fa fb) xs)) (map (λ z. runsAt k (part xs z)) (spans points))
+        each-pair [] v k h = absurd (let z : ⊥ = omega arith in z)
+        each-pair (x ∷ xs) v zero h = joins-pair x (v .0)
+        each-pair (x ∷ xs) v (suc k) h = each-pair xs (v .1) k (omega arith)
 
       keys-of : (xs : List Pair) → keysOf (map (zipPair op fa fb) xs) ≡ map (λ x. x .key) xs
       keys-of xs = map-map (λ e. e .key) (zipPair op fa fb) xs
@@ -192,25 +200,28 @@ module _ (fa fb : Fill) where
       keys-cut : (xs : List Pair) (z : Span) → keysOf (part xs z) ≡ keysOf (map (zipPair op fa fb) xs)
       keys-cut xs z = keys-of (map (cutPair z) xs) ∙ map-map (λ x. x .key) (cutPair z) xs ∙ sym (keys-of xs)
 
-      same-keys : (xs : List Pair) (zs : List Span) → map keysOf (map (part xs) zs) ≡ map (λ (es : List Entry). keysOf (map (zipPair op fa fb) xs)) (map (part xs) zs)
+      same-keys : (xs : List Pair) (zs : List Span) → map keysOf (map (part xs) zs) ≡ map (λ (es : List Entry). keysOf (map (zipPair op fa fb) xs))
+          (map (part xs) zs)
       same-keys xs [] = refl
       same-keys xs (z ∷ zs) = ap₂ (λ (ks : List ℕ) (kss : List (List ℕ)). ks ∷ kss) (keys-cut xs z) (same-keys xs zs)
 
-      joins-pairs : (xs : List Pair) → All (PairWithin n) xs → JoinsUpByKey lent (map (zipPair op fa fb) xs) (map (part xs) (spans points))
-      joins-pairs xs v = record {
-        keys = same-keys xs (spans points);
-        each-key = λ k h. rw (map-map (runsAt k) (part xs) (spans points)) (each-pair xs v k h);
-      }
+      module _ (lends : Call → List ℕ → List ℕ) (enough : (call : Call) (needed : List ℕ) → room needed (lends call needed) ≡ none) where
+        joins-pairs : (xs : List Pair) → All (PairWithin n) xs → JoinsUpByKey lends (map (zipPair op fa fb) xs) (map (part xs) (spans points))
+        joins-pairs xs v = record {
+          keys = same-keys xs (spans points);
+          each-key = λ k h. rw (map-map (runsAt k) (part xs) (spans points)) (each-pair (lends (joins k)) (enough (joins k)) xs v k h);
+        }
 
-      cut-pairs : (q : Question) (xs : List Pair) → All (PairWithin n) xs
-          → NeverShows (JoinsUpByKey lent) (firstNo (q ∷ filledPairs fa fb xs ∷ []) otherwise map (zipPair op fa fb) xs)
-          (map (λ z. firstNo (q ∷ filledPairs fa fb (map (cutPair z) xs) ∷ []) otherwise part xs z) (spans points))
-      cut-pairs q xs v =
-          let (q₀, ps, e, r) = after-zero n points t in
-          rw e
-          (never-shows (JoinsUpByKey lent) (filledPairs fa fb xs) (map (zipPair op fa fb) xs) (λ z. filledPairs fa fb (map (cutPair z) xs)) (part xs)
-          (any lacksPair xs) (λ z. any lacksPair (map (cutPair z) xs)) (record { start = pos 0; end = q₀ }) (spansFrom q₀ ps) (ten-pairs xs) (λ z. ten-pairs (map (cutPair z) xs))
-          (rw e at (lacks-parts xs v)) (rw e at (joins-pairs xs v)) q)
+        cut-pairs : (q : Question) (xs : List Pair) → All (PairWithin n) xs
+            → NeverShows (JoinsUpByKey lends) (firstNo (q ∷ filledPairs fa fb xs ∷ []) otherwise map (zipPair op fa fb) xs)
+            (map (λ z. firstNo (q ∷ filledPairs fa fb (map (cutPair z) xs) ∷ []) otherwise part xs z) (spans points))
+        cut-pairs q xs v =
+            let (q₀, ps, e, r) = after-zero n points t in
+            rw e
+            (never-shows (JoinsUpByKey lends) (filledPairs fa fb xs) (map (zipPair op fa fb) xs) (λ z. filledPairs fa fb (map (cutPair z) xs)) (part xs)
+            (any lacksPair xs) (λ z. any lacksPair (map (cutPair z) xs)) (record { start = pos 0; end = q₀ }) (spansFrom q₀ ps)
+            (ten-pairs xs) (λ z. ten-pairs (map (cutPair z) xs))
+            (rw e at (lacks-parts xs v)) (rw e at (joins-pairs xs v)) q)
 
 -- ---- what the calls come to, of valid batches and with buffers long enough
 
@@ -263,30 +274,36 @@ module _ (how : ℕ) (fa fb : Fill) (code : ℕ) where
       (ap (λ q. q otherwise map (zipPair (operation code) fa fb) ps)
       (first-same before (fills ∷ room (zipNeeds a b ps) given ∷ []) (fills ∷ []) (first-same fills (room (zipNeeds a b ps) given ∷ []) [] (rw r))))
 
-  module _ (lent : List ℕ → List ℕ) (enough : (needed : List ℕ) → room needed (lent needed) ≡ none) where
-    zip-laid : (l r : List Entry) → All Valid (columnsOf l) → All Valid (columnsOf r) → zipBatches lent how fa fb code (batchOf l) (batchOf r) ≡ settled (pairs how l r)
-    zip-laid l r v w =
+  module _ (lends : Call → List ℕ → List ℕ) (enough : (call : Call) (needed : List ℕ) → room needed (lends call needed) ≡ none) where
+    zip-laid : (call : Call) (l r : List Entry) → All Valid (columnsOf l) → All Valid (columnsOf r)
+        → zipBatches (lends call) how fa fb code (batchOf l) (batchOf r) ≡ settled (pairs how l r)
+    zip-laid call l r v w =
         let needed = zipNeeds (batchOf l) (batchOf r) (pairs how (entries (batchOf l)) (entries (batchOf r))) in
-        zip-settles (batchOf l) (batchOf r) (lent needed) (fine-laid l v) (fine-laid r w) (enough needed)
+        zip-settles (batchOf l) (batchOf r) (lends call needed) (fine-laid l v) (fine-laid r w) (enough call needed)
         ∙ ap₂ (λ l r. settled (pairs how l r)) (entries-laid l) (entries-laid r)
 
-    piece-settles : (n : ℕ) (a b : Batch) → Fine a → Fine b → All (EntryWithin n) (entries a) → All (EntryWithin n) (entries b) → (z : Span)
-        → zipBatchPieces lent how fa fb code a b z ≡ settled (map (cutPair z) (pairs how (entries a) (entries b)))
-    piece-settles n a b h k v w z =
+    piece-settles : (n : ℕ) (a b : Batch) → Fine a → Fine b → All (EntryWithin n) (entries a) → All (EntryWithin n) (entries b) → (i : ℕ) (z : Span)
+        → zipBatchPieces lends how fa fb code a b i z ≡ settled (map (cutPair z) (pairs how (entries a) (entries b)))
+    piece-settles n a b h k v w i z =
         let na = batchNeeds (length (a .keys)) (length (a .flat .ends)) in
         let nb = batchNeeds (length (b .keys)) (length (b .flat .ends)) in
-        rw (slice-answers a (z .start) (z .end) (lent na) h (enough na), slice-answers b (z .start) (z .end) (lent nb) k (enough nb))
-        (zip-laid (map (cutEntry z) (entries a)) (map (cutEntry z) (entries b)) (valid-cut n z (entries a) v) (valid-cut n z (entries b) w)
+        rw (
+          slice-answers a (z .start) (z .end) (lends (cuts i 0) na) h (enough (cuts i 0) na),
+          slice-answers b (z .start) (z .end) (lends (cuts i 1) nb) k (enough (cuts i 1) nb),
+        )
+        (zip-laid (combines i) (map (cutEntry z) (entries a)) (map (cutEntry z) (entries b)) (valid-cut n z (entries a) v) (valid-cut n z (entries b) w)
         ∙ ap settled (pairs-cut z how (entries a) (entries b)))
 
     within : (n : ℕ) (b : Batch) → Fine b → longest (columns (b .flat)) ≤ n → All (EntryWithin n) (entries b)
     unfolding entries
     within n b h l =
-        within-columns n (b .keys) (columns (b .flat)) (columns-valid (b .flat .offsets) (b .flat .ends) (b .flat .values) (sequences-told (b .flat .offsets) (b .flat .ends) (h .3))) l
+        let f = b .flat in
+        within-columns n (b .keys) (columns f) (columns-valid (f .offsets) (f .ends) (f .values) (sequences-told (f .offsets) (f .ends) (h .3))) l
 
     pub batch : (points : List ℤ) (a b : Batch) → ValidBatch a → ValidBatch b
         → cutPoints (longest (columns (a .flat) ++ columns (b .flat))) points ≡ true
-        → NeverShows (JoinsUpByKey lent) (zipBatches lent how fa fb code a b) (map (zipBatchPieces lent how fa fb code a b) (spans points))
+        → NeverShows (JoinsUpByKey lends) (zipBatches (lends combinesWhole) how fa fb code a b)
+        (numbered (zipBatchPieces lends how fa fb code a b) 0 (spans points))
     batch points a b va vb t =
         let h = fine-valid a va in
         let k = fine-valid b vb in
@@ -297,8 +314,8 @@ module _ (how : ℕ) (fa fb : Fill) (code : ℕ) where
         let w = within n b k (omega (arith, m)) in
         let needed = zipNeeds a b ps in
         rw (
-          zip-settles a b (lent needed) h k (enough needed),
-          map-same (zipBatchPieces lent how fa fb code a b) (λ z. settled (map (cutPair z) ps)) (spans points)
+          zip-settles a b (lends combinesWhole needed) h k (enough combinesWhole needed),
+          numbered-same (zipBatchPieces lends how fa fb code a b) (λ z. settled (map (cutPair z) ps)) 0 (spans points)
               (piece-settles n a b h k v w),
         )
-        (cut-pairs fa fb n points t lent enough (operation code) before ps (within-pairs n how (entries a) (entries b) v w))
+        (cut-pairs fa fb n points t (operation code) lends enough before ps (within-pairs n how (entries a) (entries b) v w))

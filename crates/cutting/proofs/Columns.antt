@@ -1,10 +1,10 @@
 -- Columns combined, whichever two lengths a refusal shows, after questions that are the same for the whole and for every piece.
 -- Assumes nothing.
-use Prim.Native.Nat.{ℕ}
+use Prim.Native.Nat.{ℕ, suc}
 use mathlib.Core.Bool.{true, _&&_}
 use mathlib.Core.Option.{none, some}
 use mathlib.Core.List.{List, [], _∷_, map}
-use mathlib.Core.Path.{_≡_, refl, ap, fun-ext}
+use mathlib.Core.Path.{_≡_, refl}
 use lib.IntN.{ℤ, pos}
 use lib.Signed.{ltZ}
 use lib.ListN.{length}
@@ -20,16 +20,18 @@ use Rattle.column.proofs.Encoded.{valid-encode}
 use Rattle.column.proofs.Positions.{eachPosition-length}
 use Rattle.column.proofs.Rising.{Valid}
 use Rattle.slice.specs.Calls.{slice}
-use Rattle.zip_many.proofs.Ranging.{longest-sides}
-use Rattle.cutting.specs.Cut.{cutPoints, Span, spansFrom, spans}
+use Rattle.plan.proofs.Fills.{longest-sides}
+use Rattle.cutting.specs.Cut.{cutPoints, Span, spansFrom, spans, numbered}
 use Rattle.cutting.specs.Claim.{NeverShows, cut, JoinsUp}
 use Rattle.cutting.proofs.Tests.{any-map}
 use Rattle.cutting.proofs.Outcomes.{noWith, never-shows}
 use Rattle.cutting.proofs.Joined.{joins-up}
 use Rattle.cutting.proofs.Combined.{points-i64, after-zero, piece, sliced, ValidColumn, shown-all, lacks, lacking-some}
 
-pub map-same : {A B : Type 0} (f g : A → B) (xs : List A) → ((x : A) → f x ≡ g x) → map f xs ≡ map g xs
-map-same f g xs h = ap (λ k. map k xs) (fun-ext h)
+-- numbers that do not matter
+pub numbered-same : {A B : Type 0} (f : ℕ → A → B) (g : A → B) (i : ℕ) (xs : List A) → ((j : ℕ) (x : A) → f j x ≡ g x) → numbered f i xs ≡ map g xs
+numbered-same f g i [] h = refl
+numbered-same f g i (x ∷ xs) h = rw (h i x, numbered-same f g (suc i) xs h)
 
 -- a question of which the rest may be put in another way
 pub first-same : (q : Question) (qs qs′ : List Question) → firstNo qs ≡ firstNo qs′ → firstNo (q ∷ qs) ≡ firstNo (q ∷ qs′)
@@ -57,7 +59,8 @@ module _ (lent : List ℕ → List ℕ) (enough : (needed : List ℕ) → room n
       → JoinsUp lent (combined op cs) (map (λ z. combined op (map (sliced z) cs)) (spans points))
   unfolding combined table
   joins-columns op cs v points t =
-      joins-up lent enough (table op cs) (map (λ z. combined op (map (sliced z) cs)) (spans points)) (all-valid op cs (spans points)) (shown-all op cs v points t)
+      joins-up lent enough (table op cs) (map (λ z. combined op (map (sliced z) cs)) (spans points)) (all-valid op cs (spans points))
+      (shown-all op cs v points t)
       (rw (eachPosition-length (rowAt op cs) 0 (greatestLength cs)) (points-i64 (greatestLength cs) points t))
 
   pub cut-columns : (q : Question) (op : ℤ → ℤ → ℤ) (cs : List Column) (left right : ℕ) (lefts rights : Span → ℕ) → All ValidColumn cs
@@ -67,7 +70,8 @@ module _ (lent : List ℕ → List ℕ) (enough : (needed : List ℕ) → room n
   cut-columns q op cs left right lefts rights v points t =
       let (q₀, ps, e, r) = after-zero (greatestLength cs) points t in
       rw e
-      (never-shows (JoinsUp lent) (allFilled left right cs) (combined op cs) (λ z. allFilled (lefts z) (rights z) (map (sliced z) cs)) (λ z. combined op (map (sliced z) cs))
+      (never-shows (JoinsUp lent) (allFilled left right cs) (combined op cs) (λ z. allFilled (lefts z) (rights z) (map (sliced z) cs))
+      (λ z. combined op (map (sliced z) cs))
       (lacks cs) (λ z. lacks (map (sliced z) cs)) (record { start = pos 0; end = q₀ }) (spansFrom q₀ ps)
       (ten-filled left right cs) (λ z. ten-filled (lefts z) (rights z) (map (sliced z) cs))
       (rw e at (lacking-some cs v points t))

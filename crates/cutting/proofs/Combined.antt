@@ -11,7 +11,7 @@ use lib.Signed.{leZ, ltZ}
 use lib.Dec.{leb, ltb}
 use borrow.Author.Tests.{leb-true, le-leb, ltb-true, ltb-false, lt-ltb, le-ltb}
 use Rattle.num.specs.Numbers.{eqZ}
-use Rattle.num.proofs.Tests.{by-test, eqZ-true}
+use Rattle.num.proofs.Tests.{by-test, eqZ-true, both-true}
 use Rattle.column.specs.Combine.{Column, valueOf, valueAt, greatestLength, eachPosition, rowAt, table, combined}
 use Rattle.column.specs.Lists.{any}
 use Rattle.column.specs.Questions.{isMissing}
@@ -20,7 +20,6 @@ use Rattle.column.proofs.All.{All}
 use Rattle.column.proofs.Encoded.{dense-encode}
 use Rattle.column.proofs.Positions.{eachPosition-cong, eachPosition-add}
 use Rattle.column.proofs.Rising.{Valid}
-use Rattle.column.proofs.Told.{both-true}
 use Rattle.slice.specs.Calls.{sliceRuns}
 use Rattle.slice.proofs.Sliced.{length-slice, value-slice}
 use Rattle.transform.specs.Calls.{shown}
@@ -52,7 +51,8 @@ reaches-i64 n p [] t = reached n p t .1
 reaches-i64 n p (q ∷ ps) t = reaches-i64 n q ps (both-true (leZ p q) (reaches n q ps) t .1)
 
 -- the cut points after the first, which is 0: there is one, and so at least one piece
-pub after-zero : (n : ℕ) (points : List ℤ) → cutPoints n points ≡ true → (q : ℤ) × (ps : List ℤ) × (points ≡ pos 0 ∷ q ∷ ps) × (reaches n (pos 0) (q ∷ ps) ≡ true)
+pub after-zero : (n : ℕ) (points : List ℤ) → cutPoints n points ≡ true → (q : ℤ) × (ps : List ℤ) × (points ≡ pos 0 ∷ q ∷ ps)
+    × (reaches n (pos 0) (q ∷ ps) ≡ true)
 after-zero n [] t = absurd (never (sym t))
 after-zero n (p ∷ []) t = absurd (never (sym t))
 after-zero n (p ∷ q ∷ ps) t =
@@ -104,7 +104,8 @@ greatest-sliced : (z : Span) (cs : List Column) → All ValidColumn cs → great
 unfolding greatestLength
 greatest-sliced z [] v = omega arith
 greatest-sliced z (c ∷ cs) v =
-    rw (length-slice (z .start) (z .end) (c .runs) (v .0), greatest-sliced z cs (v .1), max-sub) (max-min (wide z) (lengthOf (c .runs) - from z) (greatestLength cs - from z))
+    rw (length-slice (z .start) (z .end) (c .runs) (v .0), greatest-sliced z cs (v .1), max-sub)
+    (max-min (wide z) (lengthOf (c .runs) - from z) (greatestLength cs - from z))
 
 values-sliced : (z : Span) (cs : List Column) → All ValidColumn cs → (i : ℕ) → i < wide z → map (valueAt i) (map (sliced z) cs) ≡ map (valueAt (from z + i)) cs
 unfolding valueAt
@@ -158,8 +159,8 @@ lacks cs = any (lackingAt (greatestLength cs)) cs
 not-before : (w a b : ℕ) → a < b → min w b ≤ min w a → w ≤ a
 not-before w a b h k = omega arith
 
-then-behind : (m n p q : ℕ) → p ≤ q → m - p < n - p → q - p ≤ m - p → m - q < n - q
-then-behind m n p q h l k = omega arith
+then-after : (m n p q : ℕ) → p ≤ q → m - p < n - p → q - p ≤ m - p → m - q < n - q
+then-after m n p q h l k = omega arith
 
 -- from p on, for a column of length m: cut at q
 short-step : (m n p q : ℕ) → p ≤ q → ltb (min (q - p) (m - p)) (min (q - p) (n - p)) || ltb (m - q) (n - q) ≡ ltb (m - p) (n - p)
@@ -168,7 +169,8 @@ short-step m n p q h =
     (λ t. let l = ltb-true (m - p) (n - p) t in
     by-test (ltb (min (q - p) (m - p)) (min (q - p) (n - p)))
     (λ u. rw (t, u))
-    (λ u. let k = ltb-false (min (q - p) (m - p)) (min (q - p) (n - p)) u in rw (t, u, lt-ltb (m - q) (n - q) (then-behind m n p q h l (not-before (q - p) (m - p) (n - p) l k)))))
+    (λ u. let k = ltb-false (min (q - p) (m - p)) (min (q - p) (n - p))
+    u in rw (t, u, lt-ltb (m - q) (n - q) (then-after m n p q h l (not-before (q - p) (m - p) (n - p) l k)))))
     (λ t. let l = ltb-false (m - p) (n - p) t in
     rw (t, le-ltb (min (q - p) (m - p)) (min (q - p) (n - p)) (omega arith), le-ltb (m - q) (n - q) (omega arith)))
 
@@ -189,9 +191,11 @@ module _ (n : ℕ) (points : List ℤ) (t : cutPoints n points ≡ true) where
       any-and (λ z. ltb (lengthOf (piece z (c .runs))) (min (wide z) (n - from z))) (isMissing (c .fill)) (spans points)
       ∙ ap (_&& isMissing (c .fill)) (short-whole n (c .runs) w points t)
 
-  lacking-pieces : (cs : List Column) → All ValidColumn cs → any (λ z. any (lackingAt (min (wide z) (n - from z))) (map (sliced z) cs)) (spans points) ≡ any (lackingAt n) cs
+  lacking-pieces : (cs : List Column) → All ValidColumn cs → any (λ z. any (lackingAt (min (wide z) (n - from z))) (map (sliced z) cs))
+      (spans points) ≡ any (lackingAt n) cs
   lacking-pieces cs v =
-      any-same (λ z. any (lackingAt (min (wide z) (n - from z))) (map (sliced z) cs)) (λ z. any (λ c. lackingAt (min (wide z) (n - from z)) (sliced z c)) cs) (spans points)
+      any-same (λ z. any (lackingAt (min (wide z) (n - from z))) (map (sliced z) cs)) (λ z. any (λ c. lackingAt (min (wide z) (n - from z)) (sliced z c)) cs)
+      (spans points)
       (λ z. any-map (lackingAt (min (wide z) (n - from z))) (sliced z) cs)
       ∙ any-any (λ z c. lackingAt (min (wide z) (n - from z)) (sliced z c)) (spans points) cs
       ∙ any-all (λ c. any (λ z. lackingAt (min (wide z) (n - from z)) (sliced z c)) (spans points)) (lackingAt n) cs (all-map lacking-column cs v)

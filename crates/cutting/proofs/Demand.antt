@@ -14,10 +14,10 @@ use Rattle.cutting.proofs.ManyWay.{many-way}
 use Rattle.cutting.proofs.Batches.{batch}
 
 pub demand-3 : Demand3
-demand-3 lent enough points = record {
-  two-way = two-way lent enough points;
-  many-way = λ fill code. many-way fill code lent enough points;
-  batch = λ how fa fb code. batch how fa fb code lent enough points;
+demand-3 lends enough points = record {
+  two-way = two-way lends enough points;
+  many-way = λ fill code. many-way fill code lends enough points;
+  batch = λ how fa fb code. batch how fa fb code lends enough points;
 }
 
 -- ---- in particular with every buffer exactly as long as document 01 asks
@@ -31,5 +31,5 @@ room-exact : (ns : List ℕ) → room ns ns ≡ none
 unfolding room
 room-exact ns = room-from 0 ns
 
-pub exactly : (points : List ℤ) → CuttingNeverShows (λ needed. needed) points
-exactly points = demand-3 (λ needed. needed) room-exact points
+pub exactly : (points : List ℤ) → CuttingNeverShows (λ call needed. needed) points
+exactly points = demand-3 (λ call needed. needed) (λ call. room-exact) points

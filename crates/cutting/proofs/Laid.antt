@@ -91,7 +91,8 @@ pub keyed-laid : (es : List Entry) → keyed (batchOf es) ≡ none
 unfolding keyed
 keyed-laid es =
     agree-yes 2 (length (flatOf (columnsOf es) .offsets)) (length (keysOf es) + 1)
-    (length-flat-offsets (columnsOf es) ∙ ap suc (length-map es (λ (e : Entry). e .runs) ∙ sym (length-map es (λ (e : Entry). e .key))) ∙ sym (add-one (length (keysOf es))))
+    (length-flat-offsets (columnsOf es) ∙ ap suc (length-map es (λ (e : Entry). e .runs) ∙ sym (length-map es (λ (e : Entry). e .key)))
+    ∙ sym (add-one (length (keysOf es))))
 
 -- ---- 3: offsets
 
@@ -107,7 +108,8 @@ last-offset a (c ∷ cs) = let i = last-offset (a + length c) cs in omega arith
 
 pub offsets-flat : (cs : List Runs) → offsetsFlat (flatOf cs) ≡ none
 offsets-flat cs =
-    offsets-yes (flatOf cs .offsets) (length (flatEnds cs)) (rise-offsets 0 cs) (last-offset 0 cs ∙ zero-add (total (map length cs)) ∙ sym (length-flat-ends cs))
+    offsets-yes (flatOf cs .offsets) (length (flatEnds cs)) (rise-offsets 0 cs)
+    (last-offset 0 cs ∙ zero-add (total (map length cs)) ∙ sym (length-flat-ends cs))
 
 -- ---- 4: ends
 

@@ -2,11 +2,11 @@ pub mod Batches
 pub mod Columns
 pub mod Combined
 pub mod Demand
+pub mod Examples
 pub mod Joined
 pub mod Laid
 pub mod ManyWay
 pub mod Outcomes
 pub mod Returned
-pub mod Seams
 pub mod Tests
 pub mod TwoWay

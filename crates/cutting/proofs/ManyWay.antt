@@ -1,6 +1,6 @@
 -- Cutting never shows: many columns combined.
 -- Assumes nothing.
-use Prim.Native.Nat.{ℕ}
+use Prim.Native.Nat.{ℕ, suc}
 use mathlib.Core.Bool.{true}
 use mathlib.Core.Option.{none}
 use mathlib.Core.List.{List, [], _∷_, map, map-map}
@@ -12,11 +12,11 @@ use Rattle.num.specs.Numbers.{operation}
 use Rattle.column.specs.declared.answer.Fill.{Fill}
 use Rattle.column.specs.Asking.{Question, firstNo, _otherwise_}
 use Rattle.column.specs.Combine.{many, greatestLength, allFilled, combined}
-use Rattle.column.specs.Flat.{Flat, count, sequencesOf, sequences, columns, pairedFlat, offsetsFlat, endsFlat, flatAsked}
+use Rattle.column.specs.Flat.{Flat, flat, count, sequencesOf, sequences, columns, pairedFlat, offsetsFlat, endsFlat, flatAsked}
 use Rattle.column.specs.Lists.{part, partsFrom, parts}
 use Rattle.column.specs.Paper.{Outcome, answers}
 use Rattle.column.specs.Questions.{listed, paired, endsValid, atMost, room, both}
-use Rattle.column.specs.Runs.{Sequence, Runs, runs}
+use Rattle.column.specs.Runs.{Sequence, sequence, Runs, runs}
 use Rattle.column.proofs.All.{All}
 use Rattle.column.proofs.FirstNo.{first-several, all-yes}
 use Rattle.column.proofs.Flattened.{AllValid, sequences-told, columns-valid}
@@ -28,10 +28,10 @@ use Rattle.batch.proofs.Entries.{length-columns}
 use Rattle.many.specs.Calls.{mostColumns}
 use Rattle.zip_many.specs.Calls.{leastLength, zipManyAsked}
 use Rattle.zip_many.specs.Calls as calls
-use Rattle.cutting.specs.Cut.{longest, cutPoints, Span, spans, flatOf, inTurn}
-use Rattle.cutting.specs.Claim.{ValidFlat, NeverShows, cut, zipMany, zipManyPieces, JoinsUp}
+use Rattle.cutting.specs.Cut.{longest, cutPoints, Span, spans, numbered, flatOf, inTurn}
+use Rattle.cutting.specs.Claim.{ValidFlat, NeverShows, cut, zipMany, JoinsUp, Call, combinesWhole, cuts, combines, joins, zipManyPieces}
 use Rattle.cutting.proofs.Combined.{piece, sliced, ValidColumn}
-use Rattle.cutting.proofs.Columns.{map-same, first-same, cut-columns, cut-answers}
+use Rattle.cutting.proofs.Columns.{numbered-same, first-same, cut-columns, cut-answers}
 use Rattle.cutting.proofs.Laid.{agree-yes, columns-flat, paired-flat, length-flat-offsets, offsets-flat, ends-flat}
 
 -- ---- each sequence of several laid flat
@@ -40,13 +40,14 @@ use Rattle.cutting.proofs.Laid.{agree-yes, columns-flat, paired-flat, l
 abbrev Fine : Sequence → Type 0
 Fine s = (paired s ≡ none) × (endsValid (s .ends) ≡ none)
 
-fine-from : (a : ℕ) (os : List ℕ) (es vs : List ℤ) → length es ≡ length vs → AllValid (partsFrom a os es) → All Fine (sequencesOf (partsFrom a os es) (partsFrom a os vs))
+fine-from : (a : ℕ) (os : List ℕ) (es vs : List ℤ) → length es ≡ length vs → AllValid (partsFrom a os es)
+    → All Fine (sequencesOf (partsFrom a os es) (partsFrom a os vs))
 unfolding sequencesOf partsFrom paired
 fine-from a [] es vs l v = tt
 fine-from a (b ∷ os) es vs l v =
     ((agree-yes 3 (length (part a b es)) (length (part a b vs)) (part-paired a b es vs l), v .0), fine-from b os es vs l (v .1))
 
-fine-at : (os : List ℕ) (es vs : List ℤ) → paired (record { ends = es; values = vs }) ≡ none → endsFlat (record { offsets = os; ends = es; values = vs }) ≡ none → All Fine (sequencesOf (parts os es) (parts os vs))
+fine-at : (os : List ℕ) (es vs : List ℤ) → paired (sequence es vs) ≡ none → endsFlat (flat os es vs) ≡ none → All Fine (sequencesOf (parts os es) (parts os vs))
 unfolding paired sequencesOf
 fine-at [] es vs p e = tt
 fine-at (a ∷ os) es vs p e = fine-from a os es vs (agree-told 3 (length es) (length vs) p) (sequences-told (a ∷ os) es e)
@@ -99,46 +100,49 @@ module _ (fill : Fill) (code : ℕ) where
       (rw (p, o, e) (first-same few (ask ∷ room ∷ []) (ask ∷ []) (first-same ask (room ∷ []) [] (rw r))))
       ∙ first-several (listed 0 9 code ∷ few ∷ []) (ask ∷ []))
 
-  module _ (lent : List ℕ → List ℕ) (enough : (needed : List ℕ) → room needed (lent needed) ≡ none) where
-    in-turn : (z : Span) (ss : List Sequence) → All Fine ss → inTurn (map (cut lent z) ss) ≡ answers (map (λ s. piece z (runs s)) ss)
-    in-turn z [] h = refl
-    in-turn z (s ∷ ss) h = rw (cut-answers lent enough s z (h .0 .0) (h .0 .1), in-turn z ss (h .1))
+  module _ (lends : Call → List ℕ → List ℕ) (enough : (call : Call) (needed : List ℕ) → room needed (lends call needed) ≡ none) where
+    in-turn : (i : ℕ) (z : Span) (c : ℕ) (ss : List Sequence) → All Fine ss
+        → inTurn (numbered (λ c. cut (lends (cuts i c)) z) c ss) ≡ answers (map (λ s. piece z (runs s)) ss)
+    in-turn i z c [] h = refl
+    in-turn i z c (s ∷ ss) h = rw (cut-answers (lends (cuts i c)) (enough (cuts i c)) s z (h .0 .0) (h .0 .1), in-turn i z (suc c) ss (h .1))
 
-    zip-runs : (cs : List Runs) → All Valid cs → zipMany lent fill code (flatOf cs) ≡ settled (length cs) cs
-    zip-runs cs v =
+    zip-runs : (call : Call) (cs : List Runs) → All Valid cs → zipMany (lends call) fill code (flatOf cs) ≡ settled (length cs) cs
+    zip-runs call cs v =
         let needed = both (length (flatOf cs .ends)) in
-        let z = zip-settles (flatOf cs) (lent needed) (paired-flat cs) (offsets-flat cs) (ends-flat cs v) (enough needed) in
+        let z = zip-settles (flatOf cs) (lends call needed) (paired-flat cs) (offsets-flat cs) (ends-flat cs v) (enough call needed) in
         let k : count (flatOf cs) ≡ length cs = rw (length-flat-offsets cs) (omega arith) in
         rw (columns-flat cs, k) at z
 
     abbrev pieceOf : List Runs → Span → Outcome Runs
     pieceOf cs z =
-        firstNo (before (length cs) ∷ allFilled (leastLength (map (piece z) cs)) (greatestLength (map (sliced z) (many fill cs))) (map (sliced z) (many fill cs)) ∷ [])
+        firstNo (before (length cs) ∷ allFilled (leastLength (map (piece z) cs)) (greatestLength (map (sliced z) (many fill cs)))
+        (map (sliced z) (many fill cs)) ∷ [])
         otherwise combined (operation code) (map (sliced z) (many fill cs))
 
-    piece-settles : (f : Flat) → All Fine (sequences f) → All Valid (columns f) → (z : Span)
-        → zipManyPieces lent fill code f z ≡ pieceOf (columns f) z
+    piece-settles : (f : Flat) → All Fine (sequences f) → All Valid (columns f) → (i : ℕ) (z : Span)
+        → zipManyPieces lends fill code f i z ≡ pieceOf (columns f) z
     unfolding columns
-    piece-settles f h v z =
+    piece-settles f h v i z =
         let cs = map runs (sequences f) in
         let e : map (λ s. piece z (runs s)) (sequences f) ≡ map (piece z) cs = sym (map-map (piece z) runs (sequences f)) in
         let k : length (map (piece z) cs) ≡ length cs = length-map cs (piece z) in
-        let g : zipMany lent fill code (flatOf (map (piece z) cs)) ≡ pieceOf cs z = rw (k, many-cut fill z cs) at (zip-runs (map (piece z) cs) (valid-cut z cs v)) in
-        rw (in-turn z (sequences f) h, e) g
+        let g : zipMany (lends (combines i)) fill code (flatOf (map (piece z) cs)) ≡ pieceOf cs z =
+        rw (k, many-cut fill z cs) at (zip-runs (combines i) (map (piece z) cs) (valid-cut z cs v)) in
+        rw (in-turn i z 0 (sequences f) h, e) g
 
     pub many-way : (points : List ℤ) (f : Flat) → ValidFlat f → cutPoints (longest (columns f)) points ≡ true
-        → NeverShows (JoinsUp lent) (zipMany lent fill code f) (map (zipManyPieces lent fill code f) (spans points))
+        → NeverShows (JoinsUp (lends (joins 0))) (zipMany (lends combinesWhole) fill code f) (numbered (zipManyPieces lends fill code f) 0 (spans points))
     many-way points f v t =
         let (p, (o, (e, _))) = all-yes (flatAsked f) v in
         let w = columns-valid (f .offsets) (f .ends) (f .values) (sequences-told (f .offsets) (f .ends) e) in
         let cs = columns f in
         let needed = both (length (f .ends)) in
         rw (
-          zip-settles f (lent needed) p o e (enough needed),
+          zip-settles f (lends combinesWhole needed) p o e (enough combinesWhole needed),
           ← columns-count f p e,
-          map-same (zipManyPieces lent fill code f) (pieceOf cs) (spans points)
+          numbered-same (zipManyPieces lends fill code f) (pieceOf cs) 0 (spans points)
               (piece-settles f (fine-at (f .offsets) (f .ends) (f .values) p e) w),
         )
-        (cut-columns lent enough (before (length cs)) (operation code) (many fill cs) (leastLength cs) (greatestLength (many fill cs))
+        (cut-columns (lends (joins 0)) (enough (joins 0)) (before (length cs)) (operation code) (many fill cs) (leastLength cs) (greatestLength (many fill cs))
         (λ z. leastLength (map (piece z) cs)) (λ z. greatestLength (map (sliced z) (many fill cs))) (valid-many fill cs w)
         points (rw (greatest-many fill cs) t))

@@ -8,10 +8,10 @@ use mathlib.Core.Path.{_≡_, refl, ap, sym, _∙_}
 use native.Mathlib.Omega.{arith}
 use lib.Dec.{eqb}
 use borrow.Author.Tests.{eq-eqb}
+use Rattle.num.proofs.Tests.{both-false}
 use Rattle.column.specs.Asking.{Question, firstNo, _otherwise_}
 use Rattle.column.specs.Lists.{any}
 use Rattle.column.specs.Paper.{answers}
-use Rattle.column.proofs.Told.{both-false}
 use Rattle.cutting.specs.Cut.{refusedWith}
 use Rattle.cutting.specs.Claim.{Answered, NeverShows}
 use Rattle.cutting.proofs.Tests.{any-and, any-map, any-same}
@@ -68,7 +68,8 @@ module _ {X Z : Type 0} (Joins : X → List X → Type 0) (whole : Question) (x 
   never-shows none = record {
     refused = λ n.
         any-map (refusedWith n) (λ z. firstNo (none ∷ piece z ∷ []) otherwise value z) (z₀ ∷ zs)
-        ∙ any-same (λ z. refusedWith n (firstNo (piece z ∷ []) otherwise value z)) (λ z. lack z && eqb 10 n) (z₀ ∷ zs) (λ z. refused-no n (piece z) (value z) ∙ tens z n)
+        ∙ any-same (λ z. refusedWith n (firstNo (piece z ∷ []) otherwise value z)) (λ z. lack z && eqb 10 n) (z₀ ∷ zs)
+        (λ z. refused-no n (piece z) (value z) ∙ tens z n)
         ∙ any-and lack (eqb 10 n) (z₀ ∷ zs)
         ∙ ap (_&& eqb 10 n) some-piece
         ∙ sym (refused-no n whole x ∙ ten n);

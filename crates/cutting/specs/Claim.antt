@@ -20,7 +20,8 @@ use Rattle.zip_many.specs.Calls as zip-many
 use Rattle.batch.specs.Batch.{Batch, Entry, entries, keysOf, columnsOf, batchValid, batchNeeds}
 use Rattle.batch_map_rles.specs.Calls as each
 use Rattle.batch_zip_with.specs.Calls as join
-use Rattle.cutting.specs.Cut.{longest, cutPoints, Span, spans, sequenceOf, flatOf, batchOf, _then_, inTurn, refusedWith, someRefusedWith, addWrapping}
+use Rattle.cutting.specs.Cut.{longest, cutPoints, Span, spans, numbered, sequenceOf, flatOf, batchOf, _then_, inTurn, refusedWith, someRefusedWith}
+use Rattle.cutting.specs.Cut.{addWrapping}
 
 -- ---- "valid columns": "as many values as ends, ends as at the top and offsets as under 2 and 3"
 
@@ -54,10 +55,9 @@ sum rs = reduce.sum (sequenceOf rs)
 abbrev pub runsAt : ℕ → List Entry → Runs
 runsAt k es = getD (columnsOf es) k []
 
--- "buffers as long as document 01 asks", or longer: a call that needs such lengths is lent these
-module _ (lent : List ℕ → List ℕ) where
-  -- ---- the calls
+-- ---- the calls, each with the buffers that it is lent, by the lengths that it needs
 
+module _ (lent : List ℕ → List ℕ) where
   -- "Its cut is `slice` .., in a batch of every key alike"
   abbrev pub cut : Span → Sequence → Outcome Runs
   cut z s = slice.slice s (z .start) (z .end) (lent (both (length (slice.sliceRuns (z .start) (z .end) (runs s)))))
@@ -78,17 +78,6 @@ module _ (lent : List ℕ → List ℕ) where
   abbrev pub concat : List Runs → Outcome Runs
   concat parts = let f = flatOf parts in transform.concat f (lent (both (length (f .ends))))
 
-  -- ---- "Cut every column at the same points, combine each set of pieces": one set, from a cut point to the next
-
-  abbrev pub zipPieces : Fill → Fill → ℕ → Sequence → Sequence → Span → Outcome Runs
-  zipPieces fa fb code a b z = cut z a then λ pa. cut z b then λ pb. zipWith fa fb code (sequenceOf pa) (sequenceOf pb)
-
-  abbrev pub zipManyPieces : Fill → ℕ → Flat → Span → Outcome Runs
-  zipManyPieces fill code f z = inTurn (map (cut z) (sequences f)) then λ ps. zipMany fill code (flatOf ps)
-
-  abbrev pub zipBatchPieces : ℕ → Fill → Fill → ℕ → Batch → Batch → Span → Outcome (List Entry)
-  zipBatchPieces how fa fb code a b z = cutBatch z a then λ pa. cutBatch z b then λ pb. zipBatches how fa fb code (batchOf pa) (batchOf pb)
-
   -- ---- how parts join up to a whole
 
   pub record JoinsUp (whole : Runs) (parts : List Runs) : Type 0 where
@@ -103,21 +92,51 @@ module _ (lent : List ℕ → List ℕ) where
     pub summed : map sum parts ≡ map answers sums
     pub added : sum whole ≡ answers (addWrapping (pos 0) sums)
 
+-- ---- which call it is: the whole combined, a column of a set of pieces cut, a set of pieces combined, the parts of a key joined
+
+pub data Call : Type 0 where
+  combinesWhole : Call
+  cuts : (set column : ℕ) → Call
+  combines : (set : ℕ) → Call
+  joins : (key : ℕ) → Call
+
+-- "buffers as long as document 01 asks", or longer, for each call its own
+module _ (lends : Call → List ℕ → List ℕ) where
+  -- ---- "Cut every column at the same points, combine each set of pieces": set number i, from a cut point to the next
+
+  abbrev pub zipPieces : Fill → Fill → ℕ → Sequence → Sequence → ℕ → Span → Outcome Runs
+  zipPieces fa fb code a b i z =
+      cut (lends (cuts i 0)) z a then λ pa. cut (lends (cuts i 1)) z b then λ pb.
+      zipWith (lends (combines i)) fa fb code (sequenceOf pa) (sequenceOf pb)
+
+  abbrev pub zipManyPieces : Fill → ℕ → Flat → ℕ → Span → Outcome Runs
+  zipManyPieces fill code f i z =
+      inTurn (numbered (λ c. cut (lends (cuts i c)) z) 0 (sequences f)) then λ ps. zipMany (lends (combines i)) fill code (flatOf ps)
+
+  abbrev pub zipBatchPieces : ℕ → Fill → Fill → ℕ → Batch → Batch → ℕ → Span → Outcome (List Entry)
+  zipBatchPieces how fa fb code a b i z =
+      cutBatch (lends (cuts i 0)) z a then λ pa. cutBatch (lends (cuts i 1)) z b then λ pb.
+      zipBatches (lends (combines i)) how fa fb code (batchOf pa) (batchOf pb)
+
   -- "in a batch this holds key by key, with equal keys in the same order"
   pub record JoinsUpByKey (whole : List Entry) (parts : List (List Entry)) : Type 0 where
     pub keys : map keysOf parts ≡ map (λ (part : List Entry). keysOf whole) parts
-    pub each-key : (k : ℕ) → k < length whole → JoinsUp (runsAt k whole) (map (runsAt k) parts)
+    pub each-key : (k : ℕ) → k < length whole → JoinsUp (lends (joins k)) (runsAt k whole) (map (runsAt k) parts)
 
   -- ---- the claim, "for two-way, many-way and keyed batch combination, with every operation, whichever fills are given or missing"
 
   pub record CuttingNeverShows (points : List ℤ) : Type 0 where
-    pub two-way : (fa fb : Fill) (code : ℕ) (a b : Sequence) → ValidSequence a → ValidSequence b → cutPoints (longest (runs a ∷ runs b ∷ [])) points ≡ true
-        → NeverShows JoinsUp (zipWith fa fb code a b) (map (zipPieces fa fb code a b) (spans points))
-    pub many-way : (fill : Fill) (code : ℕ) (f : Flat) → ValidFlat f → cutPoints (longest (columns f)) points ≡ true
-        → NeverShows JoinsUp (zipMany fill code f) (map (zipManyPieces fill code f) (spans points))
-    pub batch : (how : ℕ) (fa fb : Fill) (code : ℕ) (a b : Batch) → ValidBatch a → ValidBatch b → cutPoints (longest (columns (a .flat) ++ columns (b .flat))) points ≡ true
-        → NeverShows JoinsUpByKey (zipBatches how fa fb code a b) (map (zipBatchPieces how fa fb code a b) (spans points))
+    pub two-way : (fa fb : Fill) (code : ℕ) (a b : Sequence) → ValidSequence a → ValidSequence b
+        → cutPoints (longest (runs a ∷ runs b ∷ [])) points ≡ true
+        → NeverShows (JoinsUp (lends (joins 0))) (zipWith (lends combinesWhole) fa fb code a b) (numbered (zipPieces fa fb code a b) 0 (spans points))
+    pub many-way : (fill : Fill) (code : ℕ) (f : Flat) → ValidFlat f
+        → cutPoints (longest (columns f)) points ≡ true
+        → NeverShows (JoinsUp (lends (joins 0))) (zipMany (lends combinesWhole) fill code f) (numbered (zipManyPieces fill code f) 0 (spans points))
+    pub batch : (how : ℕ) (fa fb : Fill) (code : ℕ) (a b : Batch) → ValidBatch a → ValidBatch b
+        → cutPoints (longest (columns (a .flat) ++ columns (b .flat))) points ≡ true
+        → NeverShows JoinsUpByKey (zipBatches (lends combinesWhole) how fa fb code a b) (numbered (zipBatchPieces how fa fb code a b) 0 (spans points))
 
 -- for all buffers that are long enough, and every list of cut points
 abbrev pub Demand3 : Type 0
-Demand3 = (lent : List ℕ → List ℕ) → ((needed : List ℕ) → room needed (lent needed) ≡ none) → (points : List ℤ) → CuttingNeverShows lent points
+Demand3 = (lends : Call → List ℕ → List ℕ) → ((call : Call) (needed : List ℕ) → room needed (lends call needed) ≡ none)
+    → (points : List ℤ) → CuttingNeverShows lends points

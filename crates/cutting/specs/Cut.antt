@@ -1,23 +1,24 @@
 -- Cut points, the pieces between them, and calls that get what earlier calls returned.
-use Prim.Native.Nat.{ℕ, _^_, max}
+use Prim.Native.Nat.{ℕ, suc, _^_}
 use mathlib.Core.Bool.{Bool, false, _&&_}
 use mathlib.Core.List.{List, [], _∷_}
 use lib.IntN.{ℤ, pos, _+ℤ_}
 use lib.Signed.{leZ, ltZ}
 use lib.Dec.{eqb}
 use Rattle.num.specs.Numbers.{eqZ, wrap}
+use Rattle.column.specs.declared.answer.Fill.the-variants.{Missing}
+use Rattle.column.specs.Combine.{many, greatestLength}
 use Rattle.column.specs.Flat.{Flat, flat, flatOffsets, flatEnds, flatValues}
 use Rattle.column.specs.Lists.{any}
 use Rattle.column.specs.Paper.{Outcome, answers, refuses}
-use Rattle.column.specs.Runs.{Sequence, sequence, Runs, endsOf, valuesOf, lengthOf}
+use Rattle.column.specs.Runs.{Sequence, sequence, Runs, endsOf, valuesOf}
 use Rattle.batch.specs.Batch.{Batch, Entry, keysOf, columnsOf}
 
 -- ---- cut points
 
--- "The longest length is the greatest handed in, or 0"
+-- "The longest length is the greatest handed in, or 0", whichever fills are given
 abbrev pub longest : List Runs → ℕ
-longest [] = 0
-longest (c ∷ cs) = max (lengthOf c) (longest cs)
+longest cs = greatestLength (many Missing cs)
 
 -- from p on the points never fall, the last reaches n, and it is an i64, as all of them then are
 abbrev pub reaches : ℕ → ℤ → List ℤ → Bool
@@ -42,6 +43,11 @@ spansFrom p (q ∷ ps) = record { start = p; end = q } ∷ spansFrom q ps
 abbrev pub spans : List ℤ → List Span
 spans [] = []
 spans (p ∷ ps) = spansFrom p ps
+
+-- f of each entry and of its number, from i on
+abbrev pub numbered : {A B : Type 0} → (ℕ → A → B) → ℕ → List A → List B
+numbered f i [] = []
+numbered f i (x ∷ xs) = f i x ∷ numbered f (suc i) xs
 
 -- ---- "what earlier calls returned .. laid flat where a call takes several"
 

@@ -1,7 +1,7 @@
 -- The seams of document 01 that are marked *, as rows of one table, computed from the definitions that the contracts and the claim cite.
 -- Assumes nothing.
 use Prim.Native.Nat.{ℕ, _+_, _*_, _^_}
-use mathlib.Core.Bool.{Bool, true, false, cond}
+use mathlib.Core.Bool.{true, false}
 use mathlib.Core.Option.{Option, none, some}
 use mathlib.Core.List.{List, [], _∷_, map}
 use mathlib.Core.Path.{refl}
@@ -13,10 +13,11 @@ use Rattle.column.specs.declared.answer.Fill.the-variants.{Value, Missing}
 use Rattle.column.specs.Combine.{valueAt, greatestLength, allFilled, rowAt, eachPosition, table, combined}
 use Rattle.column.specs.Asking.{eachFrom}
 use Rattle.column.specs.Paper.{Outcome, answers, counts}
-use Rattle.column.specs.Flat.{sequencesOf, columns, offsetsFrom, flatOffsets, flatEnds, flatValues}
+use Rattle.column.specs.Flat.{sequencesOf, columns, offsetsFrom, flatEnds, flatValues}
 use Rattle.column.specs.Lists.{partsFrom}
-use Rattle.column.specs.Questions.{listed, maskListed, agree, paired, offsetsValid, endsFrom, endsValid, sequencesValid, fits, filled, roomAt, roomFrom, room, sequenceAsked, maskAgrees}
-use Rattle.column.specs.Runs.{Sequence, sequence, Runs, runs, runsOf, endsOf, valuesOf, lengthOf, denseFrom, dense, joined, encodeFrom, encode}
+use Rattle.column.specs.Questions.{listed, maskListed, agree, paired, maskAgrees, offsetsValid, endsFrom, endsValid, sequencesValid, fits, filled, roomAt}
+use Rattle.column.specs.Questions.{roomFrom, room, sequenceAsked}
+use Rattle.column.specs.Runs.{Runs, runsOf, endsOf, valuesOf, lengthOf, denseFrom, dense, joined, encodeFrom, encode}
 use Rattle.column.proofs.Rows.{Lines, Row, row, Hold, refused, asRuns, asEntries}
 use Rattle.float.specs.Float.{converted}
 use Rattle.merge_plan.specs.Calls.{mergePlanAsked, mergePlan, groupEnds, pastEach, groupOffsets}
@@ -28,42 +29,23 @@ use Rattle.reduce.specs.Calls.{foldRuns, sumRuns}
 use Rattle.reduce.specs.Calls as reduce
 use Rattle.slice.specs.Calls.{covering, runIndex, sliceRuns}
 use Rattle.slice.specs.Calls as slice
-use Rattle.batch.specs.Batch.{Entry, keysOf, columnsOf, batchValid, entriesFrom, entries}
-use Rattle.batch.specs.Batch as batch
-use Rattle.batch_map_rles.specs.Calls.{eachAsked, mapRlesSlice}
 use Rattle.shift.specs.Calls.{shiftValues, shift}
 use Rattle.transform.specs.Calls.{shown, concatAsked}
 use Rattle.transform.specs.Calls as transform
-use Rattle.cutting.specs.Cut.{cutPoints, spans, batchOf, _then_, inTurn, refusedWith, someRefusedWith, addWrapping}
-use Rattle.cutting.specs.Claim.{cutBatch, zipWith, zipPieces, concat, sum}
+use Rattle.cutting.specs.Cut.{_then_, inTurn}
+use Rattle.cutting.specs.Claim.{sum}
+use Rattle.cutting.proofs.Examples.{A, B, whole, pieces, join, asTotal}
 
-abbrev A : Sequence
-A = sequence (pos 3 ∷ pos 5 ∷ pos 9 ∷ []) (pos 7 ∷ pos 2 ∷ pos 7 ∷ [])
+-- A and B added, with B's fill
+abbrev add : Fill → Outcome Runs
+add fb = whole Missing fb 0 A B
 
-abbrev B : Sequence
-B = sequence (pos 2 ∷ pos 5 ∷ []) (pos 1 ∷ pos 4 ∷ [])
-
--- buffers exactly as long as document 01 asks
-abbrev exactly : List ℕ → List ℕ
-exactly needed = needed
-
--- A and B added
-abbrev add : Fill → Fill → Outcome Runs
-add fa fb = zipWith exactly fa fb 0 A B
-
--- what that comes to with B's fill 0
+-- what that comes to with the fill 0
 abbrev added : Outcome Lines
 added = answers ((pos 2 ∷ pos 3 ∷ pos 5 ∷ pos 9 ∷ []) ∷ (pos 8 ∷ pos 11 ∷ pos 6 ∷ pos 7 ∷ []) ∷ [])
 
--- cut at 0, 4, 4, 12
-abbrev points : List ℤ
-points = pos 0 ∷ pos 4 ∷ pos 4 ∷ pos 12 ∷ []
-
-abbrev pieces : Fill → Fill → List (Outcome Runs)
-pieces fa fb = map (zipPieces exactly fa fb 0 A B) (spans points)
-
 abbrev parts : Outcome (List Runs)
-parts = inTurn (pieces Missing (Value (pos 0)))
+parts = inTurn (pieces Missing (Value (pos 0)) 0 A B)
 
 abbrev asIndexes : ℕ → List Segment → List ℤ
 asIndexes c ss = map pos (indexesOf c ss)
@@ -82,9 +64,6 @@ asFound o = counts (λ i. asIndex i ∷ []) o
 abbrev asGroups : Outcome (List (Group ℤ)) → Outcome Lines
 asGroups o = counts (λ gs. groupEnds gs ∷ map pos (groupOffsets gs) ∷ []) o
 
-abbrev asTotal : Outcome ℤ → Outcome Lines
-asTotal o = counts (λ z. (z ∷ []) ∷ []) o
-
 -- a float that is a whole number, not negative; any other is no line
 abbrev asWhole : Float → Outcome Lines
 asWhole (fin false m (pos k)) = answers ((pos (m * 2 ^ k) ∷ []) ∷ [])
@@ -93,28 +72,18 @@ asWhole (fin true m e) = answers []
 asWhole (inf s) = answers []
 asWhole nan = answers []
 
-abbrev asTest : Bool → Outcome Lines
-asTest b = asTotal (answers (cond b (pos 1) (pos 0)))
-
--- a batch of A and B
-abbrev keyed : List Entry
-keyed = record { key = 5; runs = runs A } ∷ record { key = 6; runs = runs B } ∷ []
-
-abbrev asBatch : Outcome (List Entry) → Outcome Lines
-asBatch o = counts (λ es. map pos (keysOf es) ∷ map pos (flatOffsets (columnsOf es)) ∷ []) o
-
 abbrev rows : List Row
 rows =
     -- plan(A, B): ends 2, 3, 5, 9; indexes 0, 0, 1, 2 and 0, 1, 1, 2
     row (asPlan (plan (A .ends) (B .ends) (5 ∷ 5 ∷ 5 ∷ [])))
     (answers ((pos 2 ∷ pos 3 ∷ pos 5 ∷ pos 9 ∷ []) ∷ (pos 0 ∷ pos 0 ∷ pos 1 ∷ pos 2 ∷ []) ∷ (pos 0 ∷ pos 1 ∷ pos 1 ∷ pos 2 ∷ []) ∷ []))
     -- Add, B's fill 0: values 8, 11, 6, 7; sum 67
-    ∷ row (asRuns (add Missing (Value (pos 0)))) added
-    ∷ row (asTotal (add Missing (Value (pos 0)) then sum)) (answers ((pos 67 ∷ []) ∷ []))
+    ∷ row (asRuns (add (Value (pos 0)))) added
+    ∷ row (asTotal (add (Value (pos 0)) then sum)) (answers ((pos 67 ∷ []) ∷ []))
     -- The same without fill: 10, left 9, right 5
-    ∷ row (asRuns (add Missing Missing)) (refused 10 (pos 9 ∷ pos 5 ∷ []) none)
+    ∷ row (asRuns (add Missing)) (refused 10 (pos 9 ∷ pos 5 ∷ []) none)
     -- The add cut at 0, 4, 4, 12: the joined runs above; sums 33, 0, 34
-    ∷ row (asRuns (parts then concat exactly)) added
+    ∷ row (asRuns (parts then join)) added
     ∷ row (asEntries (parts then λ rs. inTurn (map sum rs))) (answers ((pos 33 ∷ pos 0 ∷ pos 34 ∷ []) ∷ []))
     -- slice(A, 2, 6): ends 1, 3, 4. slice(A, 9, 12): empty
     ∷ row (asRuns (slice.slice A (pos 2) (pos 6) (3 ∷ 3 ∷ []))) (answers ((pos 1 ∷ pos 3 ∷ pos 4 ∷ []) ∷ (pos 7 ∷ pos 2 ∷ pos 7 ∷ []) ∷ []))
@@ -132,22 +101,12 @@ rows =
     -- 2^53 + 1 becomes 2^53; 2^53 + 3 becomes 2^53 + 4
     ∷ row (asWhole (converted (pos (2 ^ 53 + 1)))) (answers ((pos (2 ^ 53) ∷ []) ∷ []))
     ∷ row (asWhole (converted (pos (2 ^ 53 + 3)))) (answers ((pos (2 ^ 53 + 4) ∷ []) ∷ []))
-    -- And the claim's own words, where a wrong reading would differ.
-    -- Cut points start at 0, never fall and reach the longest length; they are two or more, and i64
-    ∷ row (asTest (cutPoints 9 points)) (asTest true)
-    ∷ row (asTest (cutPoints 9 (pos 1 ∷ pos 12 ∷ []))) (asTest false)
-    ∷ row (asTest (cutPoints 9 (pos 0 ∷ pos 12 ∷ pos 9 ∷ []))) (asTest false)
-    ∷ row (asTest (cutPoints 9 (pos 0 ∷ pos 8 ∷ []))) (asTest false)
-    ∷ row (asTest (cutPoints 0 (pos 0 ∷ []))) (asTest false)
-    ∷ row (asTest (cutPoints 9 (pos 0 ∷ pos (2 ^ 63) ∷ []))) (asTest false)
-    -- without fill some set of pieces is refused with 10, as the whole is; the first is not
-    ∷ row (asTest (someRefusedWith 10 (pieces Missing Missing))) (asTest (refusedWith 10 (add Missing Missing)))
-    -- past the end of every key the slice keeps the keys
-    ∷ row (asBatch (cutBatch exactly (record { start = pos 9; end = pos 12 }) (batchOf keyed))) (answers ((pos 5 ∷ pos 6 ∷ []) ∷ (pos 0 ∷ pos 0 ∷ pos 0 ∷ []) ∷ []))
-    -- sums wrap
-    ∷ row (asTotal (answers (addWrapping (pos 0) (pos 0x7fffffffffffffff ∷ pos 1 ∷ [])))) (asTotal (answers (negsuc 0x7fffffffffffffff)))
     ∷ []
 
 pub seams : Hold rows
-unfolding addWrapping batch.keyed eachAsked batchValid mapRlesSlice entriesFrom entries wrap operation valueAt greatestLength allFilled rowAt eachPosition table combined eachFrom listed maskListed agree paired endsFrom endsValid filled roomAt roomFrom room sequenceAsked runsOf endsOf valuesOf lengthOf denseFrom dense joined encodeFrom encode zipAsked ops.zipWith segmentsFrom segments planAsked plan covering runIndex slice.cut sliceRuns slice.slice shown concatAsked transform.concat offsetsFrom flatEnds flatValues sequencesOf partsFrom columns offsetsValid sequencesValid fits shiftValues shift groupsFrom groups maskAgrees mergePlanAsked mergePlan groupEnds pastEach foldRuns sumRuns reduce.sum ofInt converted
-seams = (refl, (refl, (refl, (refl, (refl, (refl, (refl, (refl, (refl, (refl, (refl, (refl, (refl, (refl, (refl, (refl, (refl, (refl, (refl, (refl, (refl, (refl, (refl, (refl, (refl, (refl, tt))))))))))))))))))))))))))
+unfolding wrap operation valueAt greatestLength allFilled rowAt eachPosition table combined eachFrom listed maskListed agree paired endsFrom endsValid filled
+    roomAt roomFrom room sequenceAsked runsOf endsOf valuesOf lengthOf denseFrom dense joined encodeFrom encode zipAsked ops.zipWith segmentsFrom segments
+    planAsked plan covering runIndex slice.cut sliceRuns slice.slice shown concatAsked transform.concat offsetsFrom flatEnds flatValues sequencesOf partsFrom
+    columns offsetsValid sequencesValid fits shiftValues shift groupsFrom groups maskAgrees mergePlanAsked mergePlan groupEnds pastEach foldRuns sumRuns
+    reduce.sum ofInt converted
+seams = (refl, (refl, (refl, (refl, (refl, (refl, (refl, (refl, (refl, (refl, (refl, (refl, (refl, (refl, (refl, (refl, (refl, tt)))))))))))))))))
