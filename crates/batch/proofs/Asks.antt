@@ -1,4 +1,4 @@
--- The questions of a batch, as the code joins them, and what they tell.
+-- What the questions of a batch tell.
 -- Assumes nothing.
 use Prim.Native.Nat.{ℕ, _+_, _≤_, _<_, _^_}
 use mathlib.Core.Option.{none}
@@ -8,20 +8,15 @@ use native.Mathlib.Omega.{arith}
 use lib.IntN.{ℤ}
 use lib.ListN.{length}
 use Rattle.num.specs.Numbers.{saturated}
-use Rattle.column.specs.Asking.{Question, firstNo}
-use Rattle.column.specs.Questions.{agree, paired, offsetsValid, sequencesValid, roomAt, room}
-use Rattle.column.proofs.FirstNo.{all-yes, asked-next, asked-last}
+use Rattle.column.specs.Asking.{firstNo}
+use Rattle.column.specs.Questions.{paired, roomAt, room}
+use Rattle.column.proofs.FirstNo.{all-yes}
 use Rattle.column.proofs.Told.{agree-told, room-told}
 use Rattle.column.proofs.YesNo.{room-each, room-saturated}
 use Rattle.batch.specs.Batch.{Batch, batch, keyed, lengthsAsked, contentAsked, batchValid, batchNeeds, bothLengths, bothContent, bothValid}
 use Rattle.batch.specs.Workers.{ValidBatch}
 
 -- what 2 and what 3
-pub lengths-asked : (ks os : List ℕ) (es vs : List ℤ) {r a b : Question} → r ≡ firstNo (a ∷ b ∷ []) → a ≡ agree 2 (length os) (length ks + 1) → b ≡ agree 3 (length es) (length vs)
-    → r ≡ firstNo (lengthsAsked (batch ks os es vs))
-unfolding keyed paired
-lengths-asked ks os es vs hr ha hb = asked-last (agree 2 (length os) (length ks + 1)) hr ha (λ y. hb)
-
 lengths-told : (ks os : List ℕ) (es vs : List ℤ) → firstNo (lengthsAsked (batch ks os es vs)) ≡ none → (length os ≡ length ks + 1) × (length es ≡ length vs)
 unfolding keyed paired
 lengths-told ks os es vs h =
@@ -29,7 +24,8 @@ lengths-told ks os es vs h =
     (agree-told 2 (length os) (length ks + 1) (y .0), agree-told 3 (length es) (length vs) (y .1 .0))
 
 -- 2, 3 and 4
-pub batch-told : (ks os : List ℕ) (es vs : List ℤ) → firstNo (lengthsAsked (batch ks os es vs)) ≡ none → firstNo (contentAsked (batch ks os es vs)) ≡ none → ValidBatch (batch ks os es vs)
+pub batch-told : (ks os : List ℕ) (es vs : List ℤ) → firstNo (lengthsAsked (batch ks os es vs)) ≡ none → firstNo (contentAsked (batch ks os es vs)) ≡ none
+    → ValidBatch (batch ks os es vs)
 batch-told ks os es vs h k =
     let l = lengths-told ks os es vs h in
     let y = all-yes (contentAsked (batch ks os es vs)) k in
@@ -50,40 +46,29 @@ module _ (ka oa : List ℕ) (ea va : List ℤ) (kb ob : List ℕ) (eb vb : List 
   abbrev second : Batch
   second = batch kb ob eb vb
 
-  pub both-lengths : {r a b c d f g : Question} → r ≡ firstNo (a ∷ b ∷ []) → a ≡ agree 2 (length oa) (length ka + 1) → b ≡ firstNo (c ∷ d ∷ []) → c ≡ agree 2 (length ob) (length kb + 1)
-      → d ≡ firstNo (f ∷ g ∷ []) → f ≡ agree 3 (length ea) (length va) → g ≡ agree 3 (length eb) (length vb) → r ≡ firstNo (bothLengths first second)
-  unfolding keyed paired
-  both-lengths hr ha hb hc hd hf hg =
-      asked-next (agree 2 (length oa) (length ka + 1)) (agree 2 (length ob) (length kb + 1) ∷ agree 3 (length ea) (length va) ∷ agree 3 (length eb) (length vb) ∷ []) hr ha
-      (λ y. asked-next (agree 2 (length ob) (length kb + 1)) (agree 3 (length ea) (length va) ∷ agree 3 (length eb) (length vb) ∷ []) hb hc
-      (λ z. asked-last (agree 3 (length ea) (length va)) hd hf (λ w. hg)))
-
-  pub both-content : {r a b c d f g : Question} → r ≡ firstNo (a ∷ b ∷ []) → a ≡ offsetsValid oa (length ea) → b ≡ firstNo (c ∷ d ∷ []) → c ≡ offsetsValid ob (length eb)
-      → d ≡ firstNo (f ∷ g ∷ []) → f ≡ sequencesValid oa ea → g ≡ sequencesValid ob eb → r ≡ firstNo (bothContent first second)
-  both-content hr ha hb hc hd hf hg =
-      asked-next (offsetsValid oa (length ea)) (offsetsValid ob (length eb) ∷ sequencesValid oa ea ∷ sequencesValid ob eb ∷ []) hr ha
-      (λ y. asked-next (offsetsValid ob (length eb)) (sequencesValid oa ea ∷ sequencesValid ob eb ∷ []) hb hc (λ z. asked-last (sequencesValid oa ea) hd hf (λ w. hg)))
-
   pub both-told : bothValid first second ≡ none → ValidBatch first × ValidBatch second
   unfolding bothValid keyed paired
   both-told h =
       let y = all-yes (firstNo (bothLengths first second) ∷ firstNo (bothContent first second) ∷ []) h in
       let l = all-yes (bothLengths first second) (y .0) in
       let c = all-yes (bothContent first second) (y .1 .0) in (
-        record { keyed = agree-told 2 (length oa) (length ka + 1) (l .0); paired = agree-told 3 (length ea) (length va) (l .1 .1 .0); offsets = c .0; valid = c .1 .1 .0 },
-        record { keyed = agree-told 2 (length ob) (length kb + 1) (l .1 .0); paired = agree-told 3 (length eb) (length vb) (l .1 .1 .1 .0); offsets = c .1 .0; valid = c .1 .1 .1 .0 },
+        record {
+          keyed = agree-told 2 (length oa) (length ka + 1) (l .0);
+          paired = agree-told 3 (length ea) (length va) (l .1 .1 .0);
+          offsets = c .0;
+          valid = c .1 .1 .0;
+        },
+        record {
+          keyed = agree-told 2 (length ob) (length kb + 1) (l .1 .0);
+          paired = agree-told 3 (length eb) (length vb) (l .1 .1 .1 .0);
+          offsets = c .1 .0;
+          valid = c .1 .1 .1 .0;
+        },
       )
 
 -- ---- 12, of the four buffers of a batch
 
 module _ (keys runs k x e v : ℕ) where
-  pub room-asked : {r a b c d f g : Question} → r ≡ firstNo (a ∷ b ∷ []) → a ≡ roomAt 0 keys k → b ≡ firstNo (c ∷ d ∷ []) → c ≡ roomAt 1 (keys + 1) x
-      → d ≡ firstNo (f ∷ g ∷ []) → f ≡ roomAt 2 runs e → g ≡ roomAt 3 runs v → r ≡ room (batchNeeds keys runs) (k ∷ x ∷ e ∷ v ∷ [])
-  room-asked hr ha hb hc hd hf hg =
-      asked-next (roomAt 0 keys k) (roomAt 1 (keys + 1) x ∷ roomAt 2 runs e ∷ roomAt 3 runs v ∷ []) hr ha
-      (λ y. asked-next (roomAt 1 (keys + 1) x) (roomAt 2 runs e ∷ roomAt 3 runs v ∷ []) hb hc (λ z. asked-last (roomAt 2 runs e) hd hf (λ w. hg)))
-      ∙ sym (room-each (batchNeeds keys runs) (k ∷ x ∷ e ∷ v ∷ []))
-
   -- what the four tell
   pub record Room : Type 0 where
     pub for-keys : keys ≤ k
@@ -93,7 +78,8 @@ module _ (keys runs k x e v : ℕ) where
 
   pub batch-room : room (batchNeeds keys runs) (k ∷ x ∷ e ∷ v ∷ []) ≡ none → Room
   batch-room h =
-      let y = all-yes (roomAt 0 keys k ∷ roomAt 1 (keys + 1) x ∷ roomAt 2 runs e ∷ roomAt 3 runs v ∷ []) (sym (room-each (batchNeeds keys runs) (k ∷ x ∷ e ∷ v ∷ [])) ∙ h) in
+      let y = all-yes (roomAt 0 keys k ∷ roomAt 1 (keys + 1) x ∷ roomAt 2 runs e ∷ roomAt 3 runs v ∷ [])
+      (sym (room-each (batchNeeds keys runs) (k ∷ x ∷ e ∷ v ∷ [])) ∙ h) in
       record {
         for-keys = room-told 0 keys k (y .0);
         for-offsets = room-told 1 (keys + 1) x (y .1 .0);
@@ -101,7 +87,7 @@ module _ (keys runs k x e v : ℕ) where
         for-values = room-told 3 runs v (y .1 .1 .1 .0);
       }
 
-  -- a number of runs that is told at most up to 2^64 − 1 asks the same
+  -- a number of runs that saturates at 2^64 − 1 asks the same
   pub saturated-room : e < 2 ^ 63 → v < 2 ^ 63 → room (batchNeeds keys (saturated runs)) (k ∷ x ∷ e ∷ v ∷ []) ≡ room (batchNeeds keys runs) (k ∷ x ∷ e ∷ v ∷ [])
   saturated-room he hv =
       room-each (batchNeeds keys (saturated runs)) (k ∷ x ∷ e ∷ v ∷ [])

@@ -21,12 +21,15 @@ pub copy-start : (es before : List ℤ) → Copying es before before 0
 unfolding over
 copy-start es before = record { within = omega arith; copied = refl; long = refl }
 
-pub copy-next : {es before now : List ℤ} {i : ℕ} → Copying es before now i → i < length es → length es ≤ length before → {x : ℤ} → x ≡ getD es i (pos 0) → Copying es before (set now i x) (i + 1)
+pub copy-next : {es before now : List ℤ} {i : ℕ} → Copying es before now i → i < length es → length es ≤ length before → {x : ℤ} → x ≡ getD es i (pos 0)
+    → Copying es before (set now i x) (i + 1)
 copy-next {es} {before} {now} {i} c h l {x} e =
-    let next : take (i + 1) es ≡ take i es ++ x ∷ [] = ap (λ (n : ℕ). take n es) (add-one i) ∙ take-suc es i (pos 0) h ∙ ap (λ (y : ℤ). take i es ++ y ∷ []) (sym e) in
+    let next : take (i + 1) es ≡ take i es ++ x ∷ [] = ap (λ (n : ℕ). take n es) (add-one i) ∙ take-suc es i (pos 0) h
+    ∙ ap (λ (y : ℤ). take i es ++ y ∷ []) (sym e) in
     record {
       within = omega arith;
-      copied = rw (c .copied) (over-next (take i es) before i x (sym (length-take-le i es (c .within))) (omega arith) ∙ ap (λ (ys : List ℤ). over ys before) (sym next));
+      copied = rw (c .copied) (over-next (take i es) before i x (sym (length-take-le i es (c .within))) (omega arith)
+          ∙ ap (λ (ys : List ℤ). over ys before) (sym next));
       long = rw length-set (c .long);
     }
 

@@ -73,7 +73,8 @@ has-any key (k ∷ ks) (c ∷ cs) e = ap (λ (t : Bool). eqb key k || t) (has-an
 
 -- ---- the columns
 
-at-columns-from : (a : ℕ) (os : List ℕ) (es vs : List ℤ) (k : ℕ) → getD (map runs (sequencesOf (partsFrom a os es) (partsFrom a os vs))) k [] ≡ runsOf (getD (partsFrom a os es) k []) (getD (partsFrom a os vs) k [])
+at-columns-from : (a : ℕ) (os : List ℕ) (es vs : List ℤ) (k : ℕ)
+    → getD (map runs (sequencesOf (partsFrom a os es) (partsFrom a os vs))) k [] ≡ runsOf (getD (partsFrom a os es) k []) (getD (partsFrom a os vs) k [])
 unfolding sequencesOf partsFrom runsOf
 at-columns-from a [] es vs k = refl
 at-columns-from a (b ∷ os) es vs zero = refl
@@ -90,7 +91,8 @@ valid-at [] k v = refl
 valid-at (es ∷ ess) zero v = v .0
 valid-at (es ∷ ess) (suc k) v = valid-at ess k (v .1)
 
-paired-from : (a : ℕ) (os : List ℕ) (es vs : List ℤ) (k : ℕ) → length es ≡ length vs → length (getD (partsFrom a os es) k []) ≡ length (getD (partsFrom a os vs) k [])
+paired-from : (a : ℕ) (os : List ℕ) (es vs : List ℤ) (k : ℕ) → length es ≡ length vs
+    → length (getD (partsFrom a os es) k []) ≡ length (getD (partsFrom a os vs) k [])
 unfolding partsFrom
 paired-from a [] es vs k e = refl
 paired-from a (b ∷ os) es vs zero e = part-paired a b es vs e
@@ -165,4 +167,5 @@ module _ (ks os : List ℕ) (es vs : List ℤ) (v : ValidBatch (batch ks os es v
     column-count = ap length column-is ∙ length-runs (getD (parts os es) k []) (getD (parts os vs) k []) parts-paired
 
     pub column-length : lengthOfEnds (getD (parts os es) k []) ≡ pos (lengthOf (columnAt (batch ks os es vs) k))
-    column-length = length-of-ends (getD (parts os es) k []) (getD (parts os vs) k []) part-valid parts-paired ∙ ap (λ (rs : Runs). pos (lengthOf rs)) (sym column-is)
+    column-length = length-of-ends (getD (parts os es) k []) (getD (parts os vs) k []) part-valid parts-paired
+        ∙ ap (λ (rs : Runs). pos (lengthOf rs)) (sym column-is)

@@ -44,7 +44,8 @@ module _ (ks os : List ℕ) (es vs : List ℤ) (key : ℕ) {at : ℕ} (ea : at �
     found-values : valuesOf (find key (entries (batch ks os es vs))) ≡ getD (parts os vs) at []
     found-values = ap valuesOf found ∙ values-runs _ _ (parts-paired ks os es vs w at)
 
-  pub get-asked : {n : ℕ} (e v : ℕ) {r a b : Question} → n ≡ length (getD (parts os es) at []) → r ≡ firstNo (a ∷ b ∷ []) → a ≡ batchValid (batch ks os es vs) → b ≡ room (both n) (e ∷ v ∷ [])
+  pub get-asked : {n : ℕ} (e v : ℕ) {r a b : Question} → n ≡ length (getD (parts os es) at []) → r ≡ firstNo (a ∷ b ∷ []) → a ≡ batchValid (batch ks os es vs)
+      → b ≡ room (both n) (e ∷ v ∷ [])
       → r ≡ getAsked ks os es vs key e v
   get-asked e v en hr ha hb =
       asked-last (batchValid (batch ks os es vs)) hr ha (λ y. hb ∙ ap (λ (m : ℕ). room (both m) (e ∷ v ∷ [])) (en ∙ found-count (valid-told ks os es vs y)))
@@ -52,7 +53,8 @@ module _ (ks os : List ℕ) (es vs : List ℤ) (key : ℕ) {at : ℕ} (ea : at �
   module _ (e v : List ℤ) where
     module _ (yes : getAsked ks os es vs key (length e) (length v) ≡ none) where
       told : ValidBatch (batch ks os es vs)
-      told = valid-told ks os es vs (all-yes (batchValid (batch ks os es vs) ∷ room (both (length (find key (entries (batch ks os es vs))))) (length e ∷ length v ∷ []) ∷ []) yes .0)
+      told = valid-told ks os es vs
+          (all-yes (batchValid (batch ks os es vs) ∷ room (both (length (find key (entries (batch ks os es vs))))) (length e ∷ length v ∷ []) ∷ []) yes .0)
 
       pub get-room : (length (getD (parts os es) at []) ≤ length e) × (length (getD (parts os vs) at []) ≤ length v)
       get-room =
@@ -62,9 +64,11 @@ module _ (ks os : List ℕ) (es vs : List ℤ) (key : ℕ) {at : ℕ} (ea : at �
 
       pub got-nothing : at ≡ length ks → WrittenGot (get (batch ks os es vs) key (length e ∷ length v ∷ [])) Got.Nothing e e v v
       unfolding get over endsOf valuesOf
-      got-nothing h = rw (yes, has-is ks os es vs told key, le-ltb (lowest key ks) (length ks) (omega (arith, h, ea))) (record { answer = refl; ends = refl; values = refl })
+      got-nothing h = rw (yes, has-is ks os es vs told key, le-ltb (lowest key ks) (length ks) (omega (arith, h, ea)))
+          (record { answer = refl; ends = refl; values = refl })
 
-      pub got-runs : {n : ℕ} {e′ v′ : List ℤ} → (at ≡ length ks → ⊥) → n ≡ length (getD (parts os es) at []) → e′ ≡ over (getD (parts os es) at []) e → v′ ≡ over (getD (parts os vs) at []) v
+      pub got-runs : {n : ℕ} {e′ v′ : List ℤ} → (at ≡ length ks → ⊥) → n ≡ length (getD (parts os es) at []) → e′ ≡ over (getD (parts os es) at []) e
+          → v′ ≡ over (getD (parts os vs) at []) v
           → WrittenGot (get (batch ks os es vs) key (length e ∷ length v ∷ [])) (Got.Count n) e e′ v v′
       unfolding get
       got-runs {n} h en ee ev =
@@ -72,8 +76,13 @@ module _ (ks os : List ℕ) (es vs : List ℤ) (key : ℕ) {at : ℕ} (ea : at �
           let l : lowest key ks < length ks = omega (arith, lowest-within key ks, ne) in
           let m : n ≡ length (find key (entries (batch ks os es vs))) = en ∙ found-count told in
           rw (yes, has-is ks os es vs told key, lt-ltb (lowest key ks) (length ks) l)
-          (record { answer = rw m; ends = ee ∙ ap (λ (l : List ℤ). over l e) (sym (found-ends told)); values = ev ∙ ap (λ (l : List ℤ). over l v) (sym (found-values told)) })
+          (record {
+            answer = rw m;
+            ends = ee ∙ ap (λ (l : List ℤ). over l e) (sym (found-ends told));
+            values = ev ∙ ap (λ (l : List ℤ). over l v) (sym (found-values told));
+          })
 
-    pub got-refused : {r : Refusal} → getAsked ks os es vs key (length e) (length v) ≡ some (paper r) → WrittenGot (get (batch ks os es vs) key (length e ∷ length v ∷ [])) (Got.Refused r) e e v v
+    pub got-refused : {r : Refusal} → getAsked ks os es vs key (length e) (length v) ≡ some (paper r)
+        → WrittenGot (get (batch ks os es vs) key (length e ∷ length v ∷ [])) (Got.Refused r) e e v v
     unfolding get
     got-refused h = rw h (record { answer = refl; ends = refl; values = refl })

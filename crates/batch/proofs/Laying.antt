@@ -1,4 +1,4 @@
--- Entries laid flat one behind another, and what a call promises of them.
+-- Entries laid flat one after another, and what a call promises of them.
 -- Assumes nothing.
 use Prim.Native.Nat.{ℕ, _+_, _-_, _≤_, _<_}
 use mathlib.Core.Option.{none, some}
@@ -53,7 +53,8 @@ module _ {es : List Entry} {k₀ k x₀ x : List ℕ} {e₀ e v₀ v : List ℤ}
   pub batch-next : {key m : ℕ} {e₂ v₂ : List ℤ} → key ≡ getD es n noEntry .key
       → Filled (getD es n noEntry .runs) (take (length e - used) (drop used e)) e₂ (take (length v - used) (drop used v)) v₂ m
       → total (map length (columnsOf es)) ≤ length e₀ → total (map length (columnsOf es)) ≤ length v₀ → length es < length x₀ → length es ≤ length k₀
-      → LayingBatch es k₀ (set k n key) x₀ (set x (n + 1) (used + m)) e₀ (putMid used (length e - used) e e₂) v₀ (putMid used (length v - used) v v₂) (used + m) (n + 1)
+      → LayingBatch es k₀ (set k n key) x₀ (set x (n + 1) (used + m)) e₀ (putMid used (length e - used) e e₂) v₀ (putMid used (length v - used) v v₂) (used + m)
+      (n + 1)
   batch-next {m = m} {e₂} {v₂} ek f he hv hx hk =
       let next : take (n + 1) es ≡ take n es ++ getD es n noEntry ∷ [] = ap (λ (i : ℕ). take i es) (add-one n) ∙ take-suc es n noEntry h in
       let g : Filled (getD (columnsOf es) n []) (take (length e - used) (drop used e)) e₂ (take (length v - used) (drop used v)) v₂ m = rw runs-at f in
@@ -62,7 +63,8 @@ module _ {es : List Entry} {k₀ k x₀ x : List ℕ} {e₀ e v₀ v : List ℤ}
         laying = laying-next (s .laying) in-columns g he hv (rw length-map hx);
       }
 
-pub batch-end : {es : List Entry} {k₀ k x y : List ℕ} {e₀ e v₀ v : List ℤ} {used n : ℕ} → 0 < length x → LayingBatch es k₀ k (set x 0 0) y e₀ e v₀ v used n → length es ≤ n
+pub batch-end : {es : List Entry} {k₀ k x y : List ℕ} {e₀ e v₀ v : List ℤ} {used n : ℕ} → 0 < length x → LayingBatch es k₀ k (set x 0 0) y e₀ e v₀ v used n
+    → length es ≤ n
     → FilledBatch es k₀ k x y e₀ e v₀ v used
 batch-end {es} {x = x} {n = n} hx s h =
     let all : take n es ≡ es = take-all n es h in

@@ -5,3 +5,5 @@ pub mod Copying
 pub mod Getting
 pub mod Places
 pub mod Others
+pub mod Rows
+pub mod Examples

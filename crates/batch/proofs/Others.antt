@@ -8,13 +8,13 @@ use native.Mathlib.Omega.{arith}
 use lib.ListN.{length, getD}
 use borrow.Author.Tests.{lt-ltb, le-ltb}
 use Rattle.batch_index.specs.Calls.{lowest}
-use Rattle.batch_keys.specs.Workers.{Kept}
+use Rattle.batch_keys.specs.Workers.{blockSize, Kept}
 use Rattle.batch_keys.proofs.Blocks.{kept-start}
 use Rattle.batch.specs.declared.inner.lookup.Lookup.{Lookup}
 use Rattle.batch.specs.Workers.{KnownKeys, otherAt, KeptOther}
 
 module _ {ka kb : List ℕ} where
-  pub other-start : {l : Lookup} {bs : List ℕ} → KnownKeys ka kb l → (l .indexed ≡ true → length bs ≡ 32768) → KeptOther ka kb (l .indexed) bs 0
+  pub other-start : {l : Lookup} {bs : List ℕ} → KnownKeys ka kb l → (l .indexed ≡ true → length bs ≡ blockSize) → KeptOther ka kb (l .indexed) bs 0
   other-start k r =
       record {
         room = r;
@@ -35,7 +35,8 @@ module _ {ka kb : List ℕ} where
       },
     )
 
-    pub other-right : length ka ≤ n → {r : ℕ} {cs : List ℕ} → length cs ≡ length bs → (r ≡ lowest (getD kb (n - length ka) 0) ka) × Kept ka kb (l .indexed) cs (n - length ka + 1)
+    pub other-right : length ka ≤ n → {r : ℕ} {cs : List ℕ} → length cs ≡ length bs → (r ≡ lowest (getD kb (n - length ka) 0) ka)
+        × Kept ka kb (l .indexed) cs (n - length ka + 1)
         → (r ≡ otherAt ka kb n) × KeptOther ka kb (l .indexed) cs (n + 1)
     other-right h long f = (
       rw (le-ltb n (length ka) h) (f .0),

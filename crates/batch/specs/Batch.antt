@@ -59,7 +59,8 @@ pub record WrittenBatch (o : Outcome (List Entry)) (r : Batched) (k k′ x x′ 
 -- of the buffers that a call is lent: question 12 is about their lengths
 abbrev pub WritesBatch : (List ℕ → Outcome (List Entry)) → Lent ℕ → Lent ℕ → Lent ℤ → Lent ℤ → Batched → Type 0
 WritesBatch call k x e v r =
-    WrittenBatch (call (length (given k) ∷ length (given x) ∷ length (given e) ∷ length (given v) ∷ [])) r (given k) (after k) (given x) (after x) (given e) (after e) (given v) (after v)
+    WrittenBatch (call (length (given k) ∷ length (given x) ∷ length (given e) ∷ length (given v) ∷ [])) r
+    (given k) (after k) (given x) (after x) (given e) (after e) (given v) (after v)
 
 -- ---- what a batch is asked: 2 (what 2 and what 3), then 3 and 4
 

@@ -12,7 +12,7 @@ use Rattle.column.specs.Flat.{offsetsFlat, endsFlat, flatOffsets, flatEnds, fla
 use Rattle.column.specs.Lists.{total}
 use Rattle.column.specs.Runs.{over}
 use Rattle.batch_index.specs.Calls.{lowest}
-use Rattle.batch_keys.specs.Workers.{Known, Kept}
+use Rattle.batch_keys.specs.Workers.{Known, blockSize, Kept}
 use Rattle.batch.specs.Batch.{Batch, Entry, keysOf, columnsOf}
 use Rattle.batch.specs.declared.inner.lookup.Lookup.{Lookup}
 use Rattle.batch.specs.declared.two.Joined.{Joined}
@@ -67,8 +67,8 @@ pub record KnownKeys (ka kb : List ℕ) (l : Lookup) : Type 0 where
 abbrev pub otherAt : List ℕ → List ℕ → ℕ → ℕ
 otherAt ka kb n = cond (ltb n (length ka)) (lowest (getD ka n 0) kb) (lowest (getD kb (n - length ka) 0) ka)
 
--- before the key at place n is looked for: what a block holds of the first batch's keys, or behind them of the second's
+-- before the key at place n is looked for: what a block holds of the first batch's keys, or after them of the second's
 pub record KeptOther (ka kb : List ℕ) (indexed : Bool) (bs : List ℕ) (n : ℕ) : Type 0 where
-  pub room : indexed ≡ true → length bs ≡ 32768
+  pub room : indexed ≡ true → length bs ≡ blockSize
   pub left : n < length ka → Kept kb ka indexed bs n
   pub right : length ka ≤ n → Kept ka kb indexed bs (n - length ka)

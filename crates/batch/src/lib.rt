@@ -5,13 +5,12 @@ pub mod two;
 use column::answer::Asked;
 use column::answer::Checked;
 use column::error::Refusal;
-ghost use Prim.Native.Nat.{_+_};
 ghost use mathlib.Core.List.{[], _∷_};
 ghost use mathlib.Core.Path.{_≡_};
 ghost use Rattle.column.specs.Asking.{shownAsked, firstNo};
 ghost use Rattle.column.specs.Paper.{shownChecked};
-ghost use Rattle.column.specs.Questions.{room};
-ghost use Rattle.batch.specs.Batch.{lengthsAsked, contentAsked, batchValid, batchNeeds, givenBatch};
+ghost use Rattle.column.specs.Questions.{room, both};
+ghost use Rattle.batch.specs.Batch.{lengthsAsked, contentAsked, batchValid, givenBatch};
 ghost use Rattle.batch.specs.Calls.{WritesGot};
 ghost use Rattle.batch.specs.Calls as calls;
 
@@ -26,30 +25,25 @@ pub enum Got {
 pub fn ask_lengths(keys: &[u32], offsets: &[usize], ends: &[i64], values: &[i64]) -> Asked
     ensures { λ r. ⌜ shownAsked r ≡ firstNo (lengthsAsked (givenBatch keys offsets ends values)) ⌝ }
 {
-    questions::first_no(
-        questions::ask_lengths(2, offsets.len(), keys.len() + 1),
-        questions::ask_lengths(3, ends.len(), values.len()),
-    )
+    questions::ask_lengths(2, offsets.len(), keys.len() + 1).and(questions::ask_lengths(
+        3,
+        ends.len(),
+        values.len(),
+    ))
 }
 
 // 3 and 4.
 pub fn ask_content(keys: &[u32], offsets: &[usize], ends: &[i64], values: &[i64]) -> Asked
     ensures { λ r. ⌜ shownAsked r ≡ firstNo (contentAsked (givenBatch keys offsets ends values)) ⌝ }
 {
-    questions::first_no(
-        questions::ask_offsets(offsets, ends.len()),
-        questions::ask_sequences(offsets, ends),
-    )
+    questions::ask_offsets(offsets, ends.len()).and(questions::ask_sequences(offsets, ends))
 }
 
 // 2, 3 and 4.
 pub fn ask_batch(keys: &[u32], offsets: &[usize], ends: &[i64], values: &[i64]) -> Asked
     ensures { λ r. ⌜ shownAsked r ≡ batchValid (givenBatch keys offsets ends values) ⌝ }
 {
-    questions::first_no(
-        ask_lengths(keys, offsets, ends, values),
-        ask_content(keys, offsets, ends, values),
-    )
+    ask_lengths(keys, offsets, ends, values).and(ask_content(keys, offsets, ends, values))
 }
 
 // 12, of buffers for keys, offsets, ends and values.
@@ -62,24 +56,19 @@ pub fn ask_room(
     out_ends: usize,
     out_values: usize,
 ) -> Asked
-    ensures { λ r. ⌜ (offsets ≡ keys + 1 → shownAsked r ≡ room (batchNeeds keys runs) («out_keys» ∷ «out_offsets» ∷ «out_ends» ∷ «out_values» ∷ [])) ⌝ }
+    ensures { λ r. ⌜ shownAsked r ≡ room (keys ∷ offsets ∷ both runs) («out_keys» ∷ «out_offsets» ∷ «out_ends» ∷ «out_values» ∷ []) ⌝ }
 {
-    let runs_fit = questions::first_no(
-        questions::ask_room(2, runs, out_ends),
-        questions::ask_room(3, runs, out_values),
-    );
-    let offsets_fit = questions::first_no(questions::ask_room(1, offsets, out_offsets), runs_fit);
-    questions::first_no(questions::ask_room(0, keys, out_keys), offsets_fit)
+    questions::ask_room(0, keys, out_keys)
+        .and(questions::ask_room(1, offsets, out_offsets))
+        .and(questions::ask_room(2, runs, out_ends))
+        .and(questions::ask_room(3, runs, out_values))
 }
 
 // A batch that may come from anywhere: only checked.
 pub fn from_parts(keys: &[u32], offsets: &[usize], ends: &[i64], values: &[i64]) -> Checked
     ensures { λ r. ⌜ shownChecked r ≡ calls.fromParts (givenBatch keys offsets ends values) ⌝ }
 {
-    let asked = questions::first_no(
-        ask_batch(keys, offsets, ends, values),
-        batch_keys::ask_keys(keys),
-    );
+    let asked = ask_batch(keys, offsets, ends, values).and(batch_keys::ask_keys(keys));
     match asked {
         Asked::Yes => Checked::Valid,
         Asked::No(r) => Checked::Refused(r),
@@ -101,10 +90,11 @@ pub fn get(
     let at = batch_index::inner::scan(keys, key);
     let found_ends = inner::part_at(offsets, ends, at);
     let found_values = inner::part_at(offsets, values, at);
-    let asked = questions::first_no(
-        ask_batch(keys, offsets, ends, values),
-        questions::ask_both(found_ends.len(), out_ends.len(), out_values.len()),
-    );
+    let asked = ask_batch(keys, offsets, ends, values).and(questions::ask_both(
+        found_ends.len(),
+        out_ends.len(),
+        out_values.len(),
+    ));
     match asked {
         Asked::Yes => {
             if at == keys.len() {

@@ -1,5 +1,5 @@
 // Two batches, each of which is handed in as its keys, its offsets, and its ends and values laid flat. Their keys stand one after the other:
-// place n is position n of the first, or, behind its keys, position n less their number of the second.
+// place n is position n of the first, or, after its keys, position n less their number of the second.
 use column::answer::Asked;
 ghost use mathlib.Core.Path.{_≡_};
 ghost use Rattle.column.specs.Asking.{shownAsked, firstNo};
@@ -28,18 +28,10 @@ fn ask_lengths(
     ensures { λ r. ⌜ shownAsked r ≡ firstNo
         (bothLengths (givenBatch «a_keys» «a_offsets» «a_ends» «a_values») (givenBatch «b_keys» «b_offsets» «b_ends» «b_values»)) ⌝ }
 {
-    let paired = questions::first_no(
-        questions::ask_lengths(3, a_ends.len(), a_values.len()),
-        questions::ask_lengths(3, b_ends.len(), b_values.len()),
-    );
-    let keyed_b = questions::first_no(
-        questions::ask_lengths(2, b_offsets.len(), b_keys.len() + 1),
-        paired,
-    );
-    questions::first_no(
-        questions::ask_lengths(2, a_offsets.len(), a_keys.len() + 1),
-        keyed_b,
-    )
+    questions::ask_lengths(2, a_offsets.len(), a_keys.len() + 1)
+        .and(questions::ask_lengths(2, b_offsets.len(), b_keys.len() + 1))
+        .and(questions::ask_lengths(3, a_ends.len(), a_values.len()))
+        .and(questions::ask_lengths(3, b_ends.len(), b_values.len()))
 }
 
 // 3 and 4, of both batches.
@@ -56,12 +48,10 @@ fn ask_content(
     ensures { λ r. ⌜ shownAsked r ≡ firstNo
         (bothContent (givenBatch «a_keys» «a_offsets» «a_ends» «a_values») (givenBatch «b_keys» «b_offsets» «b_ends» «b_values»)) ⌝ }
 {
-    let valid = questions::first_no(
-        questions::ask_sequences(a_offsets, a_ends),
-        questions::ask_sequences(b_offsets, b_ends),
-    );
-    let offsets_b = questions::first_no(questions::ask_offsets(b_offsets, b_ends.len()), valid);
-    questions::first_no(questions::ask_offsets(a_offsets, a_ends.len()), offsets_b)
+    questions::ask_offsets(a_offsets, a_ends.len())
+        .and(questions::ask_offsets(b_offsets, b_ends.len()))
+        .and(questions::ask_sequences(a_offsets, a_ends))
+        .and(questions::ask_sequences(b_offsets, b_ends))
 }
 
 // 2, 3 and 4, of both batches.
@@ -78,26 +68,23 @@ pub fn ask_batches(
     ensures { λ r. ⌜ shownAsked
         r ≡ bothValid (givenBatch «a_keys» «a_offsets» «a_ends» «a_values») (givenBatch «b_keys» «b_offsets» «b_ends» «b_values») ⌝ }
 {
-    questions::first_no(
-        ask_lengths(
-            a_keys,
-            a_offsets,
-            a_ends,
-            a_values,
-            b_keys,
-            b_offsets,
-            b_ends,
-            b_values,
-        ),
-        ask_content(
-            a_keys,
-            a_offsets,
-            a_ends,
-            a_values,
-            b_keys,
-            b_offsets,
-            b_ends,
-            b_values,
-        ),
-    )
+    ask_lengths(
+        a_keys,
+        a_offsets,
+        a_ends,
+        a_values,
+        b_keys,
+        b_offsets,
+        b_ends,
+        b_values,
+    ).and(ask_content(
+        a_keys,
+        a_offsets,
+        a_ends,
+        a_values,
+        b_keys,
+        b_offsets,
+        b_ends,
+        b_values,
+    ))
 }

@@ -1,4 +1,4 @@
--- The groups laid flat one behind another, and what collapse promises of them.
+-- The groups laid flat one after another, and what collapse promises of them.
 -- Assumes nothing.
 use Prim.Native.Nat.{ℕ, zero, suc, _+_, _*_, _-_, _≤_, _<_}
 use mathlib.Core.Bool.{Bool}
@@ -101,8 +101,10 @@ module _ (op : ℤ → ℤ → ℤ) (fill : Fill) (ks os : List ℕ) (es vs : Li
 
           -- the room that is left
           pub collapsing-room : (used + memberRuns entries (getD newKeys first 0) ≤ length e) × (used + memberRuns entries (getD newKeys first 0) ≤ length v)
-          collapsing-room =
-              (omega (arith, group-left, c .left, room .room-ends, c .laying .laying .long-ends), omega (arith, group-left, c .left, room .room-values, c .laying .laying .long-values))
+          collapsing-room = (
+            omega (arith, group-left, c .left, room .room-ends, c .laying .laying .long-ends),
+            omega (arith, group-left, c .left, room .room-values, c .laying .laying .long-values),
+          )
 
           pub collapsing-fold : FoldRoom (batch ks os es vs) newKeys first (take (length e - used) (drop used e)) (take (length v - used) (drop used v)) s t
           collapsing-fold = record {
@@ -115,7 +117,8 @@ module _ (op : ℤ → ℤ → ℤ) (fill : Fill) (ks os : List ℕ) (es vs : Li
           }
 
           at-group : getD results n noEntry ≡ collapseKey op fill entries (getD newKeys first 0)
-          at-group = at-map (collapseKey op fill entries) (once newKeys) n 0 noEntry (group-within newKeys (c .groups) h) ∙ ap (collapseKey op fill entries) (group-key newKeys (c .groups) h)
+          at-group = at-map (collapseKey op fill entries) (once newKeys) n 0 noEntry (group-within newKeys (c .groups) h)
+              ∙ ap (collapseKey op fill entries) (group-key newKeys (c .groups) h)
 
           module _ {m : ℕ} {e₂ v₂ s₂ t₂ : List ℤ}
               (f : FilledGroup (collapseRuns op fill (members entries (getD newKeys first 0))) (2 * length es)
@@ -124,7 +127,8 @@ module _ (op : ℤ → ℤ → ℤ) (fill : Fill) (ks os : List ℕ) (es vs : Li
             collapsing-used = omega (arith, f .filled .count, group-runs (getD newKeys first 0), group-left, c .left)
 
             pub collapsing-next : {key r : ℕ} → key ≡ getD newKeys first 0 → NextGroup newKeys (first + 1) r
-                → Collapsing k₀ (set k n key) (set x₀ 0 0) (set x (n + 1) (used + m)) e₀ (putMid used (length e - used) e e₂) v₀ (putMid used (length v - used) v v₂) s₀ s₂ t₀ t₂ (used + m) (n + 1) r
+                → Collapsing k₀ (set k n key) (set x₀ 0 0) (set x (n + 1) (used + m)) e₀ (putMid used (length e - used) e e₂)
+                v₀ (putMid used (length v - used) v v₂) s₀ s₂ t₀ t₂ (used + m) (n + 1) r
             collapsing-next ek t =
                 let w : n < length results = omega (arith, length-map (once newKeys) (collapseKey op fill entries), group-within newKeys (c .groups) h) in
                 let g : Filled (getD results n noEntry .runs) (take (length e - used) (drop used e)) e₂ (take (length v - used) (drop used v)) v₂ m =
@@ -132,7 +136,8 @@ module _ (op : ℤ → ℤ → ℤ) (fill : Fill) (ks os : List ℕ) (es vs : Li
                 record {
                   groups = grouping-next newKeys (c .groups) h t;
                   laying = batch-next (c .laying) w (ek ∙ sym (ap (λ (y : Entry). y .key) at-group)) g
-                      (omega (arith, results-few (once newKeys), all-few, room .room-ends)) (omega (arith, results-few (once newKeys), all-few, room .room-values))
+                      (omega (arith, results-few (once newKeys), all-few, room .room-ends))
+                      (omega (arith, results-few (once newKeys), all-few, room .room-values))
                       (rw length-set (omega (arith, results-many, room .room-offsets))) (omega (arith, results-many, room .room-keys));
                   left = omega (arith, f .filled .count, group-runs (getD newKeys first 0), group-left, c .left);
                   scratch-ends = free-next (c .scratch-ends) (f .scratch-ends);
@@ -143,7 +148,10 @@ module _ (op : ℤ → ℤ → ℤ) (fill : Fill) (ks os : List ℕ) (es vs : Li
         collapsing-end h =
             let a : length results ≤ n = omega (arith, length-map (once newKeys) (collapseKey op fill entries), group-all newKeys (c .groups) h) in
             record {
-              filled = record { filled = batch-end (omega (arith, room .room-offsets)) (c .laying) a; many = omega (arith, c .laying .laying .within, length-map results (λ (y : Entry). y .runs)) };
+              filled = record {
+                filled = batch-end (omega (arith, room .room-offsets)) (c .laying) a;
+                many = omega (arith, c .laying .laying .within, length-map results (λ (y : Entry). y .runs));
+              };
               scratch-ends = c .scratch-ends;
               scratch-values = c .scratch-values;
             }
@@ -160,7 +168,8 @@ unfolding collapseRuns
 runs-filled op fill [] = refl
 runs-filled op fill (m ∷ ms) = from-filled op fill (encode (dense m)) ms
 
-keys-filled : (op : ℤ → ℤ → ℤ) (fill : Fill) (es : List Entry) (groups : List ℕ) → map (collapseKey op (Value (valueOf fill)) es) groups ≡ map (collapseKey op fill es) groups
+keys-filled : (op : ℤ → ℤ → ℤ) (fill : Fill) (es : List Entry) (groups : List ℕ)
+    → map (collapseKey op (Value (valueOf fill)) es) groups ≡ map (collapseKey op fill es) groups
 keys-filled op fill es [] = refl
 keys-filled op fill es (k ∷ groups) =
     ap₂ (λ (r : Runs) (l : List Entry). record { key = k; runs = r } ∷ l) (runs-filled op fill (members es k)) (keys-filled op fill es groups)
@@ -175,12 +184,14 @@ module _ (ks os : List ℕ) (es vs : List ℤ) (newKeys : List ℕ) (fill : Fill
   outcome = collapse (batch ks os es vs) newKeys fill code (length k ∷ length x ∷ length e ∷ length v ∷ length s ∷ length t ∷ [])
 
   pub collapse-written : {k′ x′ : List ℕ} {e′ v′ s′ t′ : List ℤ} {r : RleBatch} {w : ℤ} → asked ≡ none → w ≡ valueOf fill
-      → FilledGroups (map (collapseKey (operation code) (Value w) (renamed (batch ks os es vs) newKeys)) (once newKeys)) (2 * length es) k k′ x x′ e e′ v v′ s s′ t t′ r
+      → FilledGroups (map (collapseKey (operation code) (Value w) (renamed (batch ks os es vs) newKeys)) (once newKeys)) (2 * length es)
+      k k′ x x′ e e′ v v′ s s′ t t′ r
       → WrittenCollapse outcome (2 * length es) (Batched.Batch r) k k′ x x′ e e′ v v′ s s′ t t′
   unfolding collapse
   collapse-written {k′} {x′} {e′} {v′} {s′} {t′} {r} h ew f =
       let rs = map (collapseKey (operation code) fill (renamed (batch ks os es vs) newKeys)) (once newKeys) in
-      let p : FilledGroups rs (2 * length es) k k′ x x′ e e′ v v′ s s′ t t′ r = rw (ew, keys-filled (operation code) fill (renamed (batch ks os es vs) newKeys) (once newKeys)) at f in
+      let p : FilledGroups rs (2 * length es) k k′ x x′ e e′ v v′ s s′ t t′ r =
+      rw (ew, keys-filled (operation code) fill (renamed (batch ks os es vs) newKeys) (once newKeys)) at f in
       record {
         batch = batch-written rs h (p .filled .many) (p .filled .filled);
         scratch-ends = rw h (p .scratch-ends .long, p .scratch-ends .later);
@@ -190,4 +201,8 @@ module _ (ks os : List ℕ) (es vs : List ℤ) (newKeys : List ℕ) (fill : Fill
   pub collapse-refused : {r : Refusal} → asked ≡ some (paper r) → WrittenCollapse outcome (2 * length es) (Batched.Refused r) k k x x e e v v s s t t
   unfolding collapse
   collapse-refused h =
-      record { batch = batch-refused (map (collapseKey (operation code) fill (renamed (batch ks os es vs) newKeys)) (once newKeys)) h; scratch-ends = rw h; scratch-values = rw h }
+      record {
+        batch = batch-refused (map (collapseKey (operation code) fill (renamed (batch ks os es vs) newKeys)) (once newKeys)) h;
+        scratch-ends = rw h;
+        scratch-values = rw h;
+      }

@@ -39,7 +39,8 @@ module _ (op : ℤ → ℤ → ℤ) (fa fb : Fill) (a b : Runs) where
 
 -- ---- a group
 
-from-few : (op : ℤ → ℤ → ℤ) (fill : Fill) (sofar : Runs) (ms : List Runs) → Valid sofar → All Valid ms → length (collapseFrom op fill sofar ms) ≤ length sofar + total (map length ms)
+from-few : (op : ℤ → ℤ → ℤ) (fill : Fill) (sofar : Runs) (ms : List Runs) → Valid sofar → All Valid ms
+    → length (collapseFrom op fill sofar ms) ≤ length sofar + total (map length ms)
 unfolding collapseFrom
 from-few op fill sofar [] v a = omega arith
 from-few op fill sofar (m ∷ ms) v a =

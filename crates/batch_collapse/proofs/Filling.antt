@@ -54,7 +54,8 @@ unfolding filledGroup
 value-group op v [] = refl
 value-group op v (m ∷ ms) = value-from op v (encode (dense m)) ms
 
-value-each : (op : ℤ → ℤ → ℤ) (v : ℤ) (es : List Entry) (n : ℕ) (groups : List ℕ) → eachFrom (λ n k. inKey n (filledGroup op (Value v) (members es k))) n groups ≡ none
+value-each : (op : ℤ → ℤ → ℤ) (v : ℤ) (es : List Entry) (n : ℕ) (groups : List ℕ)
+    → eachFrom (λ n k. inKey n (filledGroup op (Value v) (members es k))) n groups ≡ none
 unfolding eachFrom
 value-each op v es n [] = refl
 value-each op v es n (k ∷ groups) = rw (value-group op v (members es k), value-each op v es (suc n) groups)
@@ -82,7 +83,8 @@ missing-equal a b e =
     cc)
     (λ t. by-test (ltb b a)
     (λ u. let h = ltb-true b a u in
-    let n : leZ (pos a) (largerOf (pos b) (pos 0)) ≡ false = by-test (leb b 0) (λ w. rw (w, lt-leb a 0 (omega arith))) (λ w. rw (w, lt-leb a b (omega arith))) in
+    let n : leZ (pos a) (largerOf (pos b) (pos 0)) ≡ false = by-test (leb b 0) (λ w. rw (w, lt-leb a 0 (omega arith)))
+    (λ w. rw (w, lt-leb a b (omega arith))) in
     let m : pos a ≡ largerOf (pos a) (largerOf (pos b) (pos 0)) = rw n in
     let z : refusal 10 (pos a ∷ pos b ∷ []) ≡ none = sym (fills-second (pos a) (pos b) Missing Missing m (rw (le-ltb a a (omega arith))) (rw u)) ∙ e in
     cc)
@@ -92,7 +94,8 @@ module _ (op : ℤ → ℤ → ℤ) (sofar m : Runs) (ms : List Runs) where
   abbrev ask : Question
   ask = allFilled (lengthOf sofar) (lengthOf m) (two Missing Missing sofar m)
 
-  from-yes : ask ≡ none → (filledFrom op Missing sofar (m ∷ ms) ≡ filledFrom op Missing (combined op (two Missing Missing sofar m)) ms) × (lengthOf (combined op (two Missing Missing sofar m)) ≡ lengthOf sofar)
+  from-yes : ask ≡ none → (filledFrom op Missing sofar (m ∷ ms) ≡ filledFrom op Missing (combined op (two Missing Missing sofar m)) ms)
+      × (lengthOf (combined op (two Missing Missing sofar m)) ≡ lengthOf sofar)
   unfolding filledFrom allFilled
   from-yes y =
       let e = missing-equal (lengthOf sofar) (lengthOf m) y in
@@ -110,7 +113,8 @@ pub record Asking (op : ℤ → ℤ → ℤ) (key : ℕ) (ks : List ℕ) (cs : L
   pub left : filledGroup op Missing (members (entriesFrom ks cs) key) ≡ filledFrom op Missing sofar (membersAt key ks cs at)
 
 module _ (op : ℤ → ℤ → ℤ) (ks : List ℕ) (cs : List Runs) (l : length ks ≡ length cs) where
-  pub asking-start : (first : ℕ) {r : ℕ} → Valid (getD cs first []) → first < length ks → doubled ks first ≡ false → NextPosition (getD ks first 0) ks (first + 1) r
+  pub asking-start : (first : ℕ) {r : ℕ} → Valid (getD cs first []) → first < length ks → doubled ks first ≡ false
+      → NextPosition (getD ks first 0) ks (first + 1) r
       → Asking op (getD ks first 0) ks cs (getD cs first []) r
   unfolding filledGroup
   asking-start first v h t s = record {
@@ -122,15 +126,19 @@ module _ (op : ℤ → ℤ → ℤ) (ks : List ℕ) (cs : List Runs) (l : length
 
   module _ (key : ℕ) (first : Runs) (at : ℕ) (s : Asking op key ks cs first at) where
     module _ (h : at < length ks) {x y : ℤ} (ex : x ≡ pos (lengthOf first)) (ey : y ≡ pos (lengthOf (getD cs at []))) where
-      asked : allFilled (lengthOf (s .sofar)) (lengthOf (getD cs at [])) (two Missing Missing (s .sofar) (getD cs at [])) ≡ filled x y (side x Missing ∷ side y Missing ∷ [])
+      asked : allFilled (lengthOf (s .sofar)) (lengthOf (getD cs at [])) (two Missing Missing (s .sofar) (getD cs at []))
+          ≡ filled x y (side x Missing ∷ side y Missing ∷ [])
       unfolding allFilled
       asked = sym (rw (ex ∙ ap pos (sym (s .long)), ey))
 
-      pub asking-no : {r : PaperRefusal} → filled x y (side x Missing ∷ side y Missing ∷ []) ≡ some r → some r ≡ filledGroup op Missing (members (entriesFrom ks cs) key)
+      pub asking-no : {r : PaperRefusal} → filled x y (side x Missing ∷ side y Missing ∷ []) ≡ some r
+          → some r ≡ filledGroup op Missing (members (entriesFrom ks cs) key)
       asking-no q =
-          sym (s .left ∙ ap (filledFrom op Missing (s .sofar)) (member-at key ks cs l at h (s .member .here h)) ∙ from-no op (s .sofar) (getD cs at []) (membersAt key ks cs (at + 1)) (asked ∙ q))
+          sym (s .left ∙ ap (filledFrom op Missing (s .sofar)) (member-at key ks cs l at h (s .member .here h))
+          ∙ from-no op (s .sofar) (getD cs at []) (membersAt key ks cs (at + 1)) (asked ∙ q))
 
-      pub asking-next : filled x y (side x Missing ∷ side y Missing ∷ []) ≡ none → {n : ℕ} → NextPosition (getD ks at 0) ks (at + 1) n → Asking op key ks cs first n
+      pub asking-next : filled x y (side x Missing ∷ side y Missing ∷ []) ≡ none → {n : ℕ} → NextPosition (getD ks at 0) ks (at + 1) n
+          → Asking op key ks cs first n
       asking-next q {n} nx =
           let f = from-yes op (s .sofar) (getD cs at []) (membersAt key ks cs n) (asked ∙ q) in
           record {

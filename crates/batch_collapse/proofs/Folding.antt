@@ -55,10 +55,12 @@ module _ (op : ℤ → ℤ → ℤ) (f : ℤ) {pe pv : List ℤ} {count : ℕ} {
   both-few =
       let q = z .zippable in
       let c : length (take count s) ≡ count = length-take-le count s (omega (arith, z .scratch-ends)) in
+      let valid-a = runs-rise 0 (take count s) (take count t) (rising (take count s) (q .valid-a)) in
+      let valid-b = runs-rise 0 pe pv (rising pe (q .valid-b)) in
       omega (
         arith,
         c,
-        two-few op (Value f) (Value f) (runsOf (take count s) (take count t)) (runsOf pe pv) (runs-rise 0 (take count s) (take count t) (rising (take count s) (q .valid-a))) (runs-rise 0 pe pv (rising pe (q .valid-b))),
+        two-few op (Value f) (Value f) (runsOf (take count s) (take count t)) (runsOf pe pv) valid-a valid-b,
         length-runs (take count s) (take count t) (q .paired-a),
         length-runs pe pv (q .paired-b),
       )
@@ -70,7 +72,8 @@ module _ (op : ℤ → ℤ → ℤ) (f : ℤ) {pe pv : List ℤ} {count : ℕ} {
     front-values : take r v′ ≡ valuesOf both
     front-values = front _ v v′ (d .values) r (d .count ∙ sym (length-values both))
 
-    pub member-room : (r ≡ length (take r e′)) × (r ≡ length (take r v′)) × (r ≤ length e′) × (r ≤ length v′) × (length (take r e′) ≤ length s) × (length (take r v′) ≤ length t)
+    pub member-room : (r ≡ length (take r e′)) × (r ≡ length (take r v′)) × (r ≤ length e′) × (r ≤ length v′) × (length (take r e′) ≤ length s)
+        × (length (take r v′) ≤ length t)
     member-room =
         let q = z .zippable in
         let c : length (take count s) ≡ count = length-take-le count s (omega (arith, z .scratch-ends)) in
@@ -113,8 +116,10 @@ module _ (ks os : List ℕ) (es vs : List ℤ) where
     pub most-few : (key : ℕ) → memberRuns (renamed (batch ks os es vs) nk) key ≤ length es
     most-few key = omega (arith, members-few nk (columns (flat os es vs)) key, all-runs ks os es vs nk g)
 
-    pub group-few : (op : ℤ → ℤ → ℤ) (fill : Fill) (key : ℕ) → length (collapseRuns op fill (members (renamed (batch ks os es vs) nk) key)) ≤ memberRuns (renamed (batch ks os es vs) nk) key
-    group-few op fill key = collapse-few op fill (members (renamed (batch ks os es vs) nk) key) (members-all Valid key nk (columns (flat os es vs)) (all-valid ks os es vs nk g))
+    pub group-few : (op : ℤ → ℤ → ℤ) (fill : Fill) (key : ℕ) → length (collapseRuns op fill (members (renamed (batch ks os es vs) nk) key))
+        ≤ memberRuns (renamed (batch ks os es vs) nk) key
+    group-few op fill key = collapse-few op fill (members (renamed (batch ks os es vs) nk) key)
+        (members-all Valid key nk (columns (flat os es vs)) (all-valid ks os es vs nk g))
 
 -- ---- the members of the key at `first`
 
@@ -132,7 +137,8 @@ module _ (ks os : List ℕ) (es vs : List ℤ) (nk : List ℕ) (first : ℕ) whe
   most = memberRuns (renamed (batch ks os es vs) nk) key
 
   -- buffers that stay as long have room still
-  pub room-kept : {e e′ v v′ s s′ t t′ : List ℤ} → FoldRoom (batch ks os es vs) nk first e v s t → length e′ ≡ length e → length v′ ≡ length v → length s′ ≡ length s → length t′ ≡ length t
+  pub room-kept : {e e′ v v′ s s′ t t′ : List ℤ} → FoldRoom (batch ks os es vs) nk first e v s t → length e′ ≡ length e → length v′ ≡ length v
+      → length s′ ≡ length s → length t′ ≡ length t
       → FoldRoom (batch ks os es vs) nk first e′ v′ s′ t′
   room-kept q le lv ls lt = record {
     within = q .within;
@@ -159,7 +165,12 @@ module _ (ks os : List ℕ) (es vs : List ℤ) (nk : List ℕ) (first : ℕ) whe
       module _ {pe pv : List ℤ} (p : Part ks os es vs first pe pv) where
         -- it is merged into the scratch buffers, or into the other two
         pub first-scratch : (endsValid pe ≡ none) × (length pe ≡ length pv) × (length pe ≤ length s) × (length pe ≤ length t)
-        first-scratch = (p .valid, p .paired, omega (arith, first-few, low, p .count, q .scratch-ends), omega (arith, first-few, low, p .count, q .scratch-values))
+        first-scratch = (
+          p .valid,
+          p .paired,
+          omega (arith, first-few, low, p .count, q .scratch-ends),
+          omega (arith, first-few, low, p .count, q .scratch-values),
+        )
 
         pub first-out : (endsValid pe ≡ none) × (length pe ≡ length pv) × (length pe ≤ length e) × (length pe ≤ length v)
         first-out = (p .valid, p .paired, omega (arith, first-few, p .count, q .room-ends), omega (arith, first-few, p .count, q .room-values))
@@ -187,7 +198,8 @@ module _ (ks os : List ℕ) (es vs : List ℤ) (nk : List ℕ) (first : ℕ) whe
       pub folded : Folded sofar (length es) most e₀ e v₀ v s₀ s t₀ t count
 
     module _ {together : Bool} (g : Grouped (batch ks os es vs) nk together) where
-      module _ {e v s t : List ℤ} (q : FoldRoom (batch ks os es vs) nk first e v s t) {at : ℕ} (m : NextPosition key nk (first + 1) at) {pe pv : List ℤ} (p : Part ks os es vs first pe pv) where
+      module _ {e v s t : List ℤ} (q : FoldRoom (batch ks os es vs) nk first e v s t) {at : ℕ} (m : NextPosition key nk (first + 1) at)
+          {pe pv : List ℤ} (p : Part ks os es vs first pe pv) where
         -- no other member
         pub alone-filled : {r : ℕ} {e′ v′ : List ℤ} → length nk ≤ at → Filled (encode (dense (runsOf pe pv))) e e′ v v′ r
             → FilledGroup (collapseRuns op (Value f) all) (2 * length es) e e′ v v′ s s t t r
@@ -205,7 +217,8 @@ module _ (ks os : List ℕ) (es vs : List ℤ) (nk : List ℕ) (first : ℕ) whe
                 place = record { within = m .within; here = m .here };
                 sofar = encode (dense (runsOf pe pv));
                 valid = valid-encode (dense (runsOf pe pv));
-                rest = ap (collapseRuns op (Value f)) (from-first g q m) ∙ ap (λ (c : Runs). collapseFrom op (Value f) (encode (dense c)) (left at)) (sym (p .runs));
+                rest = ap (collapseRuns op (Value f)) (from-first g q m) ∙ ap (λ (c : Runs). collapseFrom op (Value f) (encode (dense c)) (left at))
+                    (sym (p .runs));
                 few = first-runs g q m p;
                 folded = record {
                   count = d .count;
@@ -227,7 +240,8 @@ module _ (ks os : List ℕ) (es vs : List ℤ) (nk : List ℕ) (first : ℕ) whe
           unfolding collapseFrom
           fold-end {to = to} i h =
               let o = i .folded in
-              let whole : collapseRuns op (Value f) all ≡ i .sofar = i .rest ∙ ap (collapseFrom op (Value f) (i .sofar)) (members-end key nk (columns (flat os es vs)) (new-many ks os es vs nk g) to h) in
+              let end = members-end key nk (columns (flat os es vs)) (new-many ks os es vs nk g) to h in
+              let whole : collapseRuns op (Value f) all ≡ i .sofar = i .rest ∙ ap (collapseFrom op (Value f) (i .sofar)) end in
               rw whole (record {
                 count = o .count;
                 front-ends = o .front-ends;
@@ -242,7 +256,8 @@ module _ (ks os : List ℕ) (es vs : List ℤ) (nk : List ℕ) (first : ℕ) whe
                 long-scratch-values = o .long-scratch-values ∙ first-long g q m p d .1;
               })
 
-      module _ {e₀ e v₀ v s₀ s t₀ t : List ℤ} {count at : ℕ} (i : Folding e₀ e v₀ v s₀ s t₀ t count at) (h : at < length nk) {pe pv : List ℤ} (p : Part ks os es vs at pe pv) where
+      module _ {e₀ e v₀ v s₀ s t₀ t : List ℤ} {count at : ℕ} (i : Folding e₀ e v₀ v s₀ s t₀ t count at) (h : at < length nk)
+          {pe pv : List ℤ} (p : Part ks os es vs at pe pv) where
         here-few : length (i .sofar) + (length (columnAt (batch ks os es vs) at) + total (map length (left (at + 1)))) ≤ most
         here-few = rw (member-at key nk (columns (flat os es vs)) (new-many ks os es vs nk g) at h (i .place .here h)) at (i .few)
 

@@ -94,7 +94,11 @@ module _ (op : ℤ → ℤ → ℤ) (es : List Entry) (ks : List ℕ) where
       all-no e = sym (s .left ∙ each-refused ask n (once ks) 0 (group-within ks (s .groups) h) (asked ∙ e))
 
       pub all-next : {r : ℕ} → a ≡ none → NextGroup ks (first + 1) r → AskingAll (n + 1) r
-      all-next e t = record { groups = grouping-next ks (s .groups) h t; left = s .left ∙ each-next ask n (once ks) 0 (group-within ks (s .groups) h) (asked ∙ e) }
+      all-next e t = record {
+        groups = grouping-next ks (s .groups) h t;
+        left = s .left
+            ∙ each-next ask n (once ks) 0 (group-within ks (s .groups) h) (asked ∙ e);
+      }
 
     pub all-end : length ks ≤ first → none ≡ filledGroups op Missing es (once ks)
     all-end h = sym (s .left ∙ each-end ask n (once ks) 0 (group-all ks (s .groups) h))

@@ -9,3 +9,4 @@ pub mod Groups
 pub mod Collapsing
 pub mod Folding
 pub mod Restoring
+pub mod Examples

@@ -66,7 +66,8 @@ module _ (key : ℕ) (ks : List ℕ) (cs : List Runs) (l : length ks ≡ length 
   members-end at h = rw (drop-of-length-le ks h)
 
   -- the first member
-  pub members-first : (first : ℕ) {r : ℕ} → first < length ks → doubled ks first ≡ false → getD ks first 0 ≡ key → NextPosition (getD ks first 0) ks (first + 1) r
+  pub members-first : (first : ℕ) {r : ℕ} → first < length ks → doubled ks first ≡ false → getD ks first 0 ≡ key
+      → NextPosition (getD ks first 0) ks (first + 1) r
       → members (entriesFrom ks cs) key ≡ getD cs first [] ∷ membersAt key ks cs r
   members-first first h t e s =
       let z : 0 + first ≡ first = omega arith in
@@ -125,7 +126,8 @@ pub record Summing (key : ℕ) (ks : List ℕ) (cs : List Runs) (runs at : ℕ) 
   pub sum : runs + total (map length (membersAt key ks cs at)) ≡ memberRuns (entriesFrom ks cs) key
 
 module _ (ks : List ℕ) (cs : List Runs) (l : length ks ≡ length cs) where
-  pub summing-start : (first : ℕ) {runs r : ℕ} → first < length ks → doubled ks first ≡ false → NextPosition (getD ks first 0) ks (first + 1) r → runs ≡ length (getD cs first [])
+  pub summing-start : (first : ℕ) {runs r : ℕ} → first < length ks → doubled ks first ≡ false → NextPosition (getD ks first 0) ks (first + 1) r
+      → runs ≡ length (getD cs first [])
       → Summing (getD ks first 0) ks cs runs r
   summing-start first h t s e = record {
     member = at-next (getD ks first 0) ks cs l first s refl;
@@ -135,7 +137,13 @@ module _ (ks : List ℕ) (cs : List Runs) (l : length ks ≡ length cs) where
   module _ (key at : ℕ) {runs : ℕ} (s : Summing key ks cs runs at) where
     module _ {n : ℕ} (h : at < length ks) (e : n ≡ length (getD cs at [])) where
       pub summing-room : runs + n ≤ total (map length cs)
-      summing-room = omega (arith, s .sum, members-few ks cs key, ap (λ (ms : List Runs). total (map length ms)) (member-at key ks cs l at h (s .member .here h)))
+      summing-room = omega (
+        arith,
+        s .sum,
+        members-few ks cs key,
+        ap (λ (ms : List Runs). total (map length ms))
+            (member-at key ks cs l at h (s .member .here h)),
+      )
 
       pub summing-next : {r : ℕ} → NextPosition (getD ks at 0) ks (at + 1) r → Summing key ks cs (runs + n) r
       summing-next nx = record {

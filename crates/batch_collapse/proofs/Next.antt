@@ -24,7 +24,11 @@ module _ (P : ℕ → Type 0) where
   past-start h = record { after = omega arith; within = h; each = λ j k l. let z : ⊥ = omega arith in absurd z }
 
   pub past-next : {n limit i : ℕ} → Past P n limit i → i < limit → P i → Past P n limit (i + 1)
-  past-next {n} {i = i} s h p = record { after = omega (arith, s .after); within = omega arith; each = λ j k l. below-more (λ m. n ≤ m → P m) i (λ m y x. s .each m x y) (λ x. p) j l k }
+  past-next {n} {i = i} s h p = record {
+    after = omega (arith, s .after);
+    within = omega arith;
+    each = λ j k l. below-more (λ m. n ≤ m → P m) i (λ m y x. s .each m x y) (λ x. p) j l k;
+  }
 
 -- ---- the next group
 
@@ -38,7 +42,7 @@ module _ {ks : List ℕ} {n i : ℕ} (s : PastGroup ks n i) where
   pub group-end : length ks ≤ i → NextGroup ks n i
   group-end h = record { after = s .after; within = s .within; before = s .each; here = λ l. let z : ⊥ = omega arith in absurd z }
 
--- ---- the next member, where equal keys stand together: it stands behind the last, or there is none
+-- ---- the next member, where equal keys stand together: it stands after the last, or there is none
 
 module _ (ks : List ℕ) (last : ℕ) where
   pub member-next : last + 1 < length ks → getD ks (last + 1) 0 ≡ getD ks last 0 → NextPosition (getD ks last 0) ks (last + 1) (last + 1)

@@ -31,7 +31,7 @@ module _ (ks : List ℕ) where
   pub level-next : (n : ℕ) → Level ks n → getD ks (n - 1) 0 ≤ getD ks n 0 → Level ks (n + 1)
   level-next n s h = record { past = omega arith; level = below-more (λ i. 0 < i → getD ks (i - 1) 0 ≤ getD ks i 0) n (s .level) (λ k. h) }
 
-  -- a key is not above one behind it
+  -- a key is not above one after it
   rises : (n : ℕ) → Level ks n → (i d : ℕ) → i + d < n → getD ks i 0 ≤ getD ks (i + d) 0
   rises n s i zero h = let e : i + 0 ≡ i = omega arith in rw e (omega arith)
   rises n s i (suc d) h =
@@ -63,10 +63,12 @@ module _ (ks : List ℕ) where
       rw er (ap (ltb (lowest key (take i ks))) (sym l) ∙ lowest-any key (take i ks) ∙ ap (λ (k : ℕ). any (eqb k) (take i ks)) ek)
 
   -- where they stand together, a key that another follows does not come again
-  pub together-gone : Together ks → (last i : ℕ) → last < i → (getD ks i 0 ≡ getD ks last 0 → ⊥) → (d : ℕ) → i + d < length ks → getD ks (i + d) 0 ≡ getD ks last 0 → ⊥
+  pub together-gone : Together ks → (last i : ℕ) → last < i → (getD ks i 0 ≡ getD ks last 0 → ⊥) → (d : ℕ) → i + d < length ks
+      → getD ks (i + d) 0 ≡ getD ks last 0 → ⊥
   together-gone t last i h n zero k e = n (let z : i + 0 ≡ i = omega arith in rw z at e)
   together-gone t last i h n (suc d) k e =
       let z : i + suc d - 1 ≡ i + d = omega arith in
       let s : doubled ks (i + suc d) ≡ true = among-at (getD ks (i + suc d) 0) ks (i + suc d) last (omega arith) (omega arith) e in
-      let q : getD ks (i + suc d) 0 ≡ getD ks (i + d) 0 = rw z at (eqb-true (getD ks (i + suc d) 0) (getD ks (i + suc d - 1) 0) (sym (t (i + suc d) (omega arith) k) ∙ s)) in
+      let q : getD ks (i + suc d) 0 ≡ getD ks (i + d) 0 =
+      rw z at (eqb-true (getD ks (i + suc d) 0) (getD ks (i + suc d - 1) 0) (sym (t (i + suc d) (omega arith) k) ∙ s)) in
       together-gone t last i h n d (omega arith) (sym q ∙ e)

@@ -35,7 +35,8 @@ collapseRuns op fill (m ∷ ms) = collapseFrom op fill (encode (dense m)) ms
 -- 10, as each of these `zip_with` asks it
 unfoldable pub filledFrom : (ℤ → ℤ → ℤ) → Fill → Runs → List Runs → Question
 filledFrom op fill sofar [] = none
-filledFrom op fill sofar (m ∷ ms) = firstNo (allFilled (lengthOf sofar) (lengthOf m) (two fill fill sofar m) ∷ filledFrom op fill (combined op (two fill fill sofar m)) ms ∷ [])
+filledFrom op fill sofar (m ∷ ms) = firstNo
+    (allFilled (lengthOf sofar) (lengthOf m) (two fill fill sofar m) ∷ filledFrom op fill (combined op (two fill fill sofar m)) ms ∷ [])
 
 unfoldable pub filledGroup : (ℤ → ℤ → ℤ) → Fill → List Runs → Question
 filledGroup op fill [] = none

@@ -20,7 +20,8 @@ ghost use Rattle.ops.specs.Calls.{sides};
 ghost use Rattle.batch.specs.Batch.{batch, givenBatch};
 ghost use Rattle.batch_keys.specs.Calls.{once};
 ghost use Rattle.batch_collapse.specs.Calls.{collapseRuns, filledGroup, members, renamed, filledGroups, collapseKey};
-ghost use Rattle.batch_collapse.specs.Workers.{Together, NextGroup, Grouped, memberRuns, Foldable, FoldedMember, FoldRoom, Folded, FilledGroup, CollapseRoom, FilledGroups};
+ghost use Rattle.batch_collapse.specs.Workers.{Together, NextGroup, Grouped, memberRuns, Foldable, FoldedMember, FoldRoom, Folded, FilledGroup};
+ghost use Rattle.batch_collapse.specs.Workers.{CollapseRoom, FilledGroups};
 ghost use Rattle.column.specs.Lent.{given, after};
 
 // Whether no key is below the one before it.
@@ -79,7 +80,7 @@ fn next_group(keys: &[u32], together: bool, from: usize) -> usize
     i
 }
 
-// The next position of the key at `last`, behind that.
+// The next position of the key at `last`, after that.
 fn next_member(keys: &[u32], together: bool, last: usize) -> usize
     requires { ⌜ (together ≡ true → Together (now keys)) × (last < length (now keys)) ⌝ }
     ensures { λ r. ⌜ NextPosition (getD (given keys) last 0) (given keys) (last + 1) r ⌝ }
@@ -108,7 +109,8 @@ fn ask_group(
     code: u8,
     first: usize,
 ) -> Asked
-    requires { ⌜ Grouped (batch (now keys) (now offsets) (now ends) (now values)) (now «new_keys») together × (first < length (now «new_keys»)) × (doubled (now «new_keys») first ≡ false) ⌝ }
+    requires { ⌜ Grouped (batch (now keys) (now offsets) (now ends) (now values)) (now «new_keys») together
+        × (first < length (now «new_keys»)) × (doubled (now «new_keys») first ≡ false) ⌝ }
     ensures { λ r. ⌜ shownAsked r ≡ filledGroup (operation code)
         Missing (members (renamed (givenBatch keys offsets ends values) (given «new_keys»)) (getD (given «new_keys») first 0)) ⌝ }
 {
@@ -186,7 +188,8 @@ fn group_runs(
     together: bool,
     first: usize,
 ) -> usize
-    requires { ⌜ Grouped (batch (now keys) (now offsets) (now ends) (now values)) (now «new_keys») together × (first < length (now «new_keys»)) × (doubled (now «new_keys») first ≡ false) ⌝ }
+    requires { ⌜ Grouped (batch (now keys) (now offsets) (now ends) (now values)) (now «new_keys») together
+        × (first < length (now «new_keys»)) × (doubled (now «new_keys») first ≡ false) ⌝ }
     ensures { λ r. ⌜ r ≡ memberRuns (renamed (givenBatch keys offsets ends values) (given «new_keys»)) (getD (given «new_keys») first 0) ⌝ }
 {
     let mut runs = part_at(offsets, ends, first).len();
@@ -210,7 +213,8 @@ fn fold_member(
     scratch_ends: &mut [i64],
     scratch_values: &mut [i64],
 ) -> usize
-    requires { ⌜ Foldable (sequence (now ends) (now values)) count (now «out_ends») (now «out_values») (now «scratch_ends») (now «scratch_values») ⌝ }
+    requires { ⌜ Foldable
+        (sequence (now ends) (now values)) count (now «out_ends») (now «out_values») (now «scratch_ends») (now «scratch_values») ⌝ }
     ensures { λ r. ⌜ FoldedMember
         (combined (operation code)
         (sides (sequence (take count (given «scratch_ends»)) (take count (given «scratch_values»))) (givenSequence ends values) (Value fill)
@@ -250,7 +254,8 @@ fn fold_group(
     scratch_values: &mut [i64],
 ) -> usize
     requires { ⌜ Grouped (batch (now keys) (now offsets) (now ends) (now values)) (now «new_keys») together
-        × FoldRoom (batch (now keys) (now offsets) (now ends) (now values)) (now «new_keys») first (now «out_ends») (now «out_values») (now «scratch_ends») (now «scratch_values») ⌝ }
+        × FoldRoom (batch (now keys) (now offsets) (now ends) (now values))
+        (now «new_keys») first (now «out_ends») (now «out_values») (now «scratch_ends») (now «scratch_values») ⌝ }
     ensures { λ r. ⌜ Folded
         (collapseRuns (operation code) (Value fill)
         (members (renamed (givenBatch keys offsets ends values) (given «new_keys»)) (getD (given «new_keys») first 0)))
@@ -283,7 +288,7 @@ fn fold_group(
     count
 }
 
-// The first entries of a buffer, copied behind the first n of a scratch buffer.
+// The first entries of a buffer, copied after the first n of a scratch buffer.
 fn put_aside(entries: &[i64], runs: usize, scratch: &mut [i64], n: usize)
     requires { ⌜ (runs ≤ length (now entries)) × (n + runs ≤ length (now scratch)) ⌝ }
     ensures { λ _. ⌜ after scratch ≡ take n (given scratch) ++ over (take runs (given entries)) (drop n (given scratch)) ⌝ }
@@ -317,7 +322,8 @@ fn collapse_group(
     scratch_values: &mut [i64],
 ) -> usize
     requires { ⌜ Grouped (batch (now keys) (now offsets) (now ends) (now values)) (now «new_keys») together
-        × FoldRoom (batch (now keys) (now offsets) (now ends) (now values)) (now «new_keys») first (now «out_ends») (now «out_values») (now «scratch_ends») (now «scratch_values») ⌝ }
+        × FoldRoom (batch (now keys) (now offsets) (now ends) (now values))
+        (now «new_keys») first (now «out_ends») (now «out_values») (now «scratch_ends») (now «scratch_values») ⌝ }
     ensures { λ r. ⌜ FilledGroup
         (collapseRuns (operation code) (Value fill)
         (members (renamed (givenBatch keys offsets ends values) (given «new_keys»)) (getD (given «new_keys») first 0)))
@@ -356,7 +362,7 @@ fn collapse_group(
     count
 }
 
-// Each group, behind those before it.
+// Each group, after those before it.
 pub fn collapse(
     keys: &[u32],
     offsets: &[usize],
@@ -374,7 +380,8 @@ pub fn collapse(
     scratch_values: &mut [i64],
 ) -> RleBatch
     requires { ⌜ Grouped (batch (now keys) (now offsets) (now ends) (now values)) (now «new_keys») together
-        × CollapseRoom (batch (now keys) (now offsets) (now ends) (now values)) (now «out_keys») (now «out_offsets») (now «out_ends») (now «out_values») (now «scratch_ends») (now «scratch_values») ⌝ }
+        × CollapseRoom (batch (now keys) (now offsets) (now ends) (now values))
+        (now «out_keys») (now «out_offsets») (now «out_ends») (now «out_values») (now «scratch_ends») (now «scratch_values») ⌝ }
     ensures { λ r. ⌜ FilledGroups
         (map (collapseKey (operation code) (Value fill) (renamed (givenBatch keys offsets ends values) (given «new_keys»)))
         (once (given «new_keys»))) (2 * length (given ends)) (given «out_keys») (after «out_keys») (given «out_offsets»)

@@ -4,13 +4,13 @@ pub mod inner;
 use column::answer::Asked;
 use column::answer::Batched;
 use column::answer::Fill;
-ghost use Prim.Native.Nat.{_+_, _*_};
+ghost use Prim.Native.Nat.{_*_};
 ghost use mathlib.Core.List.{[], _∷_, _++_};
 ghost use mathlib.Core.Path.{_≡_};
 ghost use lib.ListN.{length};
 ghost use Rattle.column.specs.Asking.{shownAsked};
 ghost use Rattle.column.specs.Questions.{room, both};
-ghost use Rattle.batch.specs.Batch.{batchNeeds, givenBatch};
+ghost use Rattle.batch.specs.Batch.{givenBatch};
 ghost use Rattle.batch_collapse.specs.Calls.{WritesCollapse};
 ghost use Rattle.batch_collapse.specs.Calls as calls;
 ghost use Rattle.column.specs.Lent.{given};
@@ -25,11 +25,10 @@ fn collapse_asks(
 ) -> Asked
     ensures { λ r. ⌜ shownAsked r ≡ calls.collapseAsked (givenBatch keys offsets ends values) (given «new_keys») code ⌝ }
 {
-    let renamed = questions::ask_lengths(4, new_keys.len(), keys.len());
-    let content = batch::ask_content(keys, offsets, ends, values);
-    let behind = questions::first_no(renamed, content);
-    let lengths = questions::first_no(batch::ask_lengths(keys, offsets, ends, values), behind);
-    questions::first_no(questions::ask_code(0, 9, code), lengths)
+    questions::ask_code(0, 9, code)
+        .and(batch::ask_lengths(keys, offsets, ends, values))
+        .and(questions::ask_lengths(4, new_keys.len(), keys.len()))
+        .and(batch::ask_content(keys, offsets, ends, values))
 }
 
 // 12, of the buffers for a batch and of a scratch pair.
@@ -45,23 +44,20 @@ fn ask_room(
     scratch_ends: usize,
     scratch_values: usize,
 ) -> Asked
-    ensures { λ r. ⌜ (offsets ≡ keys + 1 → scratch ≡ 2 * runs
-        → shownAsked r ≡ room (batchNeeds keys runs ++ both (2 * runs)) («out_keys» ∷ «out_offsets» ∷ «out_ends» ∷ «out_values» ∷ «scratch_ends» ∷ «scratch_values» ∷ [])) ⌝ }
+    ensures { λ r. ⌜ shownAsked r ≡ room ((keys ∷ offsets ∷ both runs) ++ both scratch)
+        («out_keys» ∷ «out_offsets» ∷ «out_ends» ∷ «out_values» ∷ «scratch_ends» ∷ «scratch_values» ∷ []) ⌝ }
 {
-    let pair = questions::first_no(
-        questions::ask_room(4, scratch, scratch_ends),
-        questions::ask_room(5, scratch, scratch_values),
-    );
-    let outputs = batch::ask_room(
-        keys,
-        offsets,
-        runs,
-        out_keys,
-        out_offsets,
-        out_ends,
-        out_values,
-    );
-    questions::first_no(outputs, pair)
+    batch::ask_room(
+            keys,
+            offsets,
+            runs,
+            out_keys,
+            out_offsets,
+            out_ends,
+            out_values,
+        )
+        .and(questions::ask_room(4, scratch, scratch_ends))
+        .and(questions::ask_room(5, scratch, scratch_values))
 }
 
 // The sequences of a batch gathered under new keys: those of one new key are combined one after another.
@@ -89,20 +85,27 @@ pub fn collapse(
         Asked::No(r) => return Batched::Refused(r),
     }
     let together = inner::stand_together(new_keys);
-    let room = ask_room(
+    let fits = inner::ask_groups(
+        keys,
+        offsets,
+        ends,
+        values,
+        new_keys,
+        together,
+        fill,
+        code,
+    ).and(ask_room(
         keys.len(),
         keys.len() + 1,
         ends.len(),
-        ends.len() * 2,
+        2 * ends.len(),
         out_keys.len(),
         out_offsets.len(),
         out_ends.len(),
         out_values.len(),
         scratch_ends.len(),
         scratch_values.len(),
-    );
-    let groups = inner::ask_groups(keys, offsets, ends, values, new_keys, together, fill, code);
-    let fits = questions::first_no(groups, room);
+    ));
     match fits {
         Asked::Yes => {
             let counts = inner::collapse(

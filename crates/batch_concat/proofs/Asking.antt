@@ -31,7 +31,8 @@ module _ (ks os : List ℕ) (es vs : List ℤ) (v : ValidBatch (batch ks os es v
   pub found-valid : Valid (find key (entries (batch ks os es vs)))
   found-valid = rw (found ks os es vs key refl v) (runs-rise 0 _ _ (rising _ (part-valid ks os es vs v (lowest key ks))))
 
-  pub found-length : {at : ℕ} {p : List ℤ} {x : ℤ} → at ≡ lowest key ks → p ≡ getD (parts os es) at [] → x ≡ lengthOfEnds p → toNat x ≡ lengthOf (find key (entries (batch ks os es vs)))
+  pub found-length : {at : ℕ} {p : List ℤ} {x : ℤ} → at ≡ lowest key ks → p ≡ getD (parts os es) at [] → x ≡ lengthOfEnds p
+      → toNat x ≡ lengthOf (find key (entries (batch ks os es vs)))
   found-length ea ep ex =
       ap toNat (ex ∙ ap lengthOfEnds (ep ∙ ap (λ (i : ℕ). getD (parts os es) i []) ea) ∙ column-length ks os es vs v (lowest key ks))
       ∙ ap lengthOf (sym (find-is ks os es vs v key))
@@ -66,7 +67,8 @@ module _ (ka oa : List ℕ) (ea va : List ℤ) (kb ob : List ℕ) (eb vb : List 
       ask-b = follow-b-within ka kb (s .follows) h
 
       module _ (v : ValidBatch (batch ka oa ea va)) (w : ValidBatch (batch kb ob eb vb)) {p q : List ℤ} {y z : ℤ} {a : Question}
-          (ep : p ≡ getD (parts oa ea) (x .a) []) (eq : q ≡ getD (parts ob eb) (x .b) []) (ey : y ≡ lengthOfEnds p) (ez : z ≡ lengthOfEnds q) (ha : a ≡ fits (toNat y + toNat z)) where
+          (ep : p ≡ getD (parts oa ea) (x .a) []) (eq : q ≡ getD (parts ob eb) (x .b) []) (ey : y ≡ lengthOfEnds p) (ez : z ≡ lengthOfEnds q)
+          (ha : a ≡ fits (toNat y + toNat z)) where
         asked : a ≡ fitKey l r (s .n) (getD (once (ka ++ kb)) (s .n) 0)
         asked =
             ha ∙ ap₂ (λ (i j : ℕ). fits (i + j)) (found-length ka oa ea va v (getD (once (ka ++ kb)) (s .n) 0) (follow-a ka kb (s .follows) h) ep ey)

@@ -8,9 +8,8 @@ use native.Mathlib.Omega.{arith}
 use lib.Dec.{eqb}
 use lib.ListN.{length}
 use borrow.Author.Tests.{eqb-true, eq-eqb}
-use Rattle.num.proofs.Tests.{by-test}
+use Rattle.num.proofs.Tests.{by-test, both-false}
 use Rattle.column.specs.Lists.{any, total}
-use Rattle.column.proofs.Told.{both-false}
 use Rattle.batch_index.proofs.Lowest.{no-test}
 use Rattle.batch_keys.specs.Calls.{onceFrom, once}
 use Rattle.batch_keys.proofs.Once.{NoDoubles, once-no-doubles}

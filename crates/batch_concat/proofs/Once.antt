@@ -34,7 +34,8 @@ module _ (ks : List ℕ) (n : ℕ) (h : n < length ks) where
   pub lowest-at : lowest (getD ks n 0) ks ≤ n
   lowest-at =
       let k = getD ks n 0 in
-      let l : lowest k ks < suc n = ltb-true (lowest k ks) (suc n) (sym (among-lowest k ks (suc n) (omega arith)) ∙ among-at k ks (suc n) n (omega arith) h refl) in
+      let l : lowest k ks < suc n = ltb-true (lowest k ks) (suc n)
+      (sym (among-lowest k ks (suc n) (omega arith)) ∙ among-at k ks (suc n) n (omega arith) h refl) in
       omega arith
 
   single : eqb (lowest (getD ks n 0) ks) n ≡ true → doubled ks n ≡ false
@@ -53,7 +54,8 @@ module _ (ka kb : List ℕ) where
   once-short = omega (arith, once-few [] (ka ++ kb), length-append ka kb)
 
   -- no place from n on up to the next is kept
-  passed : (d n : ℕ) → n + d ≤ length ka + length kb → ((i : ℕ) → n ≤ i → i < n + d → keyAt ka kb i .kept ≡ false) → onceAt (ka ++ kb) n ≡ onceAt (ka ++ kb) (n + d)
+  passed : (d n : ℕ) → n + d ≤ length ka + length kb → ((i : ℕ) → n ≤ i → i < n + d → keyAt ka kb i .kept ≡ false)
+      → onceAt (ka ++ kb) n ≡ onceAt (ka ++ kb) (n + d)
   passed zero n h t = rw add-zero
   passed (suc d) n h t =
       let l : n + d < length (ka ++ kb) = omega (arith, length-append ka kb) in

@@ -1,4 +1,4 @@
--- The loop that writes the sequences of the keys, joined, one behind another.
+-- The loop that writes the sequences of the keys, joined, one after another.
 -- Assumes nothing.
 use Prim.Native.Nat.{ℕ, zero, suc, _+_, _-_, _≤_, _<_}
 use mathlib.Core.Option.{none}
@@ -25,11 +25,13 @@ use Rattle.batch.proofs.Getting.{found, found-count}
 use Rattle.batch.proofs.Laying.{noEntry, LayingBatch, batch-start, batch-next, batch-end}
 use Rattle.batch_keys.specs.Calls.{once}
 use Rattle.batch_concat.specs.Calls.{concatKey, fitKeys}
-use Rattle.batch_concat.specs.Workers.{keyAt, Joinable, ConcatRoom}
+use Rattle.batch_concat.specs.Workers.{keyAt, ConcatRoom}
+use Rattle.transform.specs.Workers.{JoinableTwo}
 use Rattle.batch_concat.proofs.Asking.{found-valid, fitKey}
-use Rattle.batch_concat.proofs.Joining.{joined-few}
+use Rattle.transform.proofs.JoiningTwo.{joined-few}
 use Rattle.batch_concat.proofs.Keys.{runsFor, once-runs}
-use Rattle.batch_concat.proofs.Once.{once-short, Following, follow-start, follow-within, follow-key, follow-a, follow-b, follow-b-within, follow-next, follow-end}
+use Rattle.batch_concat.proofs.Once.{once-short, Following, follow-start, follow-within, follow-key, follow-a, follow-b, follow-b-within, follow-next}
+use Rattle.batch_concat.proofs.Once.{follow-end}
 
 map-at : {A B : Type 0} (f : A → B) (xs : List A) (i : ℕ) (d : A) (c : B) → i < length xs → getD (map f xs) i c ≡ f (getD xs i d)
 map-at f [] i d c h = let z : ⊥ = omega arith in absurd z
@@ -38,7 +40,8 @@ map-at f (x ∷ xs) (suc i) d c h = map-at f xs i d c (omega arith)
 
 batch-runs : (ks os : List ℕ) (es vs : List ℤ) → ValidBatch (batch ks os es vs) → (all : List ℕ) → runsFor (entries (batch ks os es vs)) (once all) ≤ length es
 batch-runs ks os es vs v all =
-    let e : total (map length (columnsOf (entries (batch ks os es vs)))) ≡ length es = ap (λ (cs : List Runs). total (map length cs)) (entries-columns ks os es vs v) ∙ columns-total ks os es vs v in
+    let e : total (map length (columnsOf (entries (batch ks os es vs)))) ≡ length es = ap (λ (cs : List Runs). total (map length cs))
+    (entries-columns ks os es vs v) ∙ columns-total ks os es vs v in
     omega (arith, once-runs (entries (batch ks os es vs)) all)
 
 module _ (ka oa : List ℕ) (ea va : List ℤ) (kb ob : List ℕ) (eb vb : List ℤ) where
@@ -93,7 +96,7 @@ module _ (ka oa : List ℕ) (ea va : List ℤ) (kb ob : List ℕ) (eb vb : List 
         within : n < length ks
         within = follow-within ka kb (s .follows) h
 
-        -- there is room for the key and the offset behind it
+        -- there is room for the key and the offset after it
         pub write-within : (n < length k₀) × (n + 1 < length x₀)
         write-within = (omega (arith, within, once-short ka kb, p .room-keys), omega (arith, within, once-short ka kb, p .room-offsets))
 
@@ -115,7 +118,8 @@ module _ (ka oa : List ℕ) (ea va : List ℤ) (kb ob : List ℕ) (eb vb : List 
             let y = all-yes (fitKey l r n key ∷ eachFrom (fitKey l r) (suc n) (drop (suc n) ks) ∷ []) (rw (drop-cons ks n 0 within) at (s .fitting)) in
             (y .0, rw (add-one n) (y .1 .0))
 
-        module _ {pa qa pb qb : List ℤ} (epa : pa ≡ getD (parts oa ea) (j .a) []) (eqa : qa ≡ getD (parts oa va) (j .a) []) (epb : pb ≡ getD (parts ob eb) (j .b) []) (eqb : qb ≡ getD (parts ob vb) (j .b) []) where
+        module _ {pa qa pb qb : List ℤ} (epa : pa ≡ getD (parts oa ea) (j .a) []) (eqa : qa ≡ getD (parts oa va) (j .a) [])
+            (epb : pb ≡ getD (parts ob eb) (j .b) []) (eqb : qb ≡ getD (parts ob vb) (j .b) []) where
           found-a : find key l ≡ runsOf pa qa
           found-a = rw (epa, eqa) (found ka oa ea va key (follow-a ka kb (s .follows) h) (p .first))
 
@@ -135,7 +139,7 @@ module _ (ka oa : List ℕ) (ea va : List ℤ) (kb ob : List ℕ) (eb vb : List 
             omega (arith, next-room, count-a, count-b, p .room-values, s .laying .laying .long-values),
           )
 
-          pub write-joinable : Joinable pa qa pb qb (take (length e - used) (drop used e)) (take (length v - used) (drop used v))
+          pub write-joinable : JoinableTwo pa qa pb qb (take (length e - used) (drop used e)) (take (length v - used) (drop used v))
           write-joinable = record {
             valid-a = rw epa (part-valid ka oa ea va (p .first) (j .a));
             valid-b = rw epb (part-valid kb ob eb vb (p .second) (j .b));
@@ -147,19 +151,25 @@ module _ (ka oa : List ℕ) (ea va : List ℤ) (kb ob : List ℕ) (eb vb : List 
           }
 
           module _ {e₂ v₂ : List ℤ} {m : ℕ}
-              (f : Filled (encode (shown (runsOf pa qa ∷ runsOf pb qb ∷ []))) (take (length e - used) (drop used e)) e₂ (take (length v - used) (drop used v)) v₂ m) where
+              (f : Filled (encode (shown (runsOf pa qa ∷ runsOf pb qb ∷ []))) (take (length e - used) (drop used e)) e₂ (take (length v - used) (drop used v))
+              v₂ m) where
             runs-at : encode (shown (runsOf pa qa ∷ runsOf pb qb ∷ [])) ≡ getD result n noEntry .runs
             runs-at = ap₂ (λ (x y : Runs). encode (shown (x ∷ y ∷ []))) (sym found-a) (sym found-b) ∙ ap (λ (t : Entry). t .runs) (sym entry)
 
             pub write-used : m ≤ length pa + length pb
             write-used =
-                omega (arith, f .count, ap length (ap₂ (λ (x y : Runs). encode (shown (x ∷ y ∷ []))) (sym found-a) (sym found-b)), joined-few (find key l) (find key r) (found-valid ka oa ea va (p .first) key) (found-valid kb ob eb vb (p .second) key), count-a, count-b)
+                let same = ap₂ (λ (x y : Runs). encode (shown (x ∷ y ∷ []))) (sym found-a) (sym found-b) in
+                let few = joined-few (find key l) (find key r) (found-valid ka oa ea va (p .first) key) (found-valid kb ob eb vb (p .second) key) in
+                omega (arith, f .count, ap length same, few, count-a, count-b)
 
             pub write-next : {j′ : Joined} → NextKept (keyAt ka kb) (length ka + length kb) (j .at + 1) j′
-                → Writing k₀ (set k n (j .key)) (set x₀ 0 0) (set x (n + 1) (used + m)) e₀ (putMid used (length e - used) e e₂) v₀ (putMid used (length v - used) v v₂) (used + m) (n + 1) j′
+                → Writing k₀ (set k n (j .key)) (set x₀ 0 0) (set x (n + 1) (used + m)) e₀ (putMid used (length e - used) e e₂)
+                v₀ (putMid used (length v - used) v v₂) (used + m) (n + 1) j′
             write-next k = record {
-              laying = batch-next (s .laying) (rw length-map within) (follow-key ka kb (s .follows) h ∙ ap (λ (t : Entry). t .key) (sym entry)) (rw runs-at at f)
-                  (omega (arith, all-results, p .room-ends)) (omega (arith, all-results, p .room-values)) (rw (length-set x₀ 0 0) (omega (arith, many, p .room-offsets)))
+              laying = batch-next (s .laying) (rw length-map within) (follow-key ka kb (s .follows) h ∙ ap (λ (t : Entry). t .key) (sym entry))
+                  (rw runs-at at f)
+                  (omega (arith, all-results, p .room-ends)) (omega (arith, all-results, p .room-values))
+                  (rw (length-set x₀ 0 0) (omega (arith, many, p .room-offsets)))
                   (omega (arith, many, p .room-keys));
               follows = follow-next ka kb (s .follows) h k;
               room = omega (arith, next-room, write-used, count-a, count-b);

@@ -10,7 +10,7 @@ use Rattle.batch_keys.specs.Calls.{once}
 use Rattle.transform.specs.Calls.{shown}
 use Rattle.batch.specs.Batch.{Batch, Entry, entries, find, batchNeeds, bothValid}
 
--- the sequences of a key joined, "the first" batch's first; an absent key contributes nothing
+-- the sequences of a key joined, the first batch's first; an absent key contributes nothing
 abbrev pub concatKey : List Entry → List Entry → ℕ → Entry
 concatKey l r k = record { key = k; runs = encode (shown (find k l ∷ find k r ∷ [])) }
 

@@ -1,13 +1,11 @@
 -- What the workers leave and require.
-use Prim.Native.Nat.{ℕ, _+_, _≤_, _<_, _^_}
+use Prim.Native.Nat.{ℕ, _+_, _≤_}
 use mathlib.Core.Option.{none}
 use mathlib.Core.List.{List, _++_}
 use mathlib.Core.Path.{_≡_}
 use lib.IntN.{ℤ}
 use lib.ListN.{length, getD}
 use lib.Dec.{eqb}
-use Rattle.column.specs.Questions.{endsValid}
-use Rattle.column.specs.Runs.{runsOf, lengthOf}
 use Rattle.batch_index.specs.Calls.{lowest}
 use Rattle.batch_keys.specs.Calls.{once}
 use Rattle.batch.specs.declared.two.Joined.{Joined}
@@ -21,16 +19,6 @@ abbrev pub keyAt : List ℕ → List ℕ → ℕ → Joined
 keyAt ka kb n =
     let key = getD (ka ++ kb) n 0 in
     record { at = n; kept = eqb (lowest key (ka ++ kb)) n; key = key; a = lowest key ka; b = lowest key kb }
-
--- two sequences whose joined length fits, and room for them
-pub record Joinable (ea va eb vb e v : List ℤ) : Type 0 where
-  pub valid-a : endsValid ea ≡ none
-  pub valid-b : endsValid eb ≡ none
-  pub paired-a : length ea ≡ length va
-  pub paired-b : length eb ≡ length vb
-  pub fitting : lengthOf (runsOf ea va) + lengthOf (runsOf eb vb) < 2 ^ 63
-  pub room-ends : length ea + length eb ≤ length e
-  pub room-values : length ea + length eb ≤ length v
 
 -- two valid batches whose joined lengths fit, and room for them
 pub record ConcatRoom (a b : Batch) (k x : List ℕ) (e v : List ℤ) : Type 0 where

@@ -4,22 +4,19 @@ use batch::inner::part_at;
 use batch::two::Joined;
 use column::answer::Asked;
 use column::answer::RleBatch;
-use column::inner::Writer;
 use column::sequence;
 ghost use Prim.Native.Nat.{_+_, _≤_, _<_};
 ghost use mathlib.Core.Bool.{true, _&&_};
-ghost use mathlib.Core.List.{[], _∷_, _++_, map};
+ghost use mathlib.Core.List.{_++_, map};
 ghost use mathlib.Core.Path.{_≡_};
-ghost use lib.IntN.{pos};
-ghost use lib.ListN.{length, getD};
+ghost use lib.ListN.{length};
 ghost use Rattle.column.specs.Asking.{shownAsked};
-ghost use Rattle.column.specs.Runs.{runsOf, encode, Fills};
-ghost use Rattle.transform.specs.Calls.{shown};
+ghost use Rattle.batch_keys.specs.Workers.{blockSize};
 ghost use Rattle.batch.specs.Batch.{batch, entries, givenBatch};
 ghost use Rattle.batch.specs.Workers.{ValidBatch, NextKept, KnownKeys, KeptOther, FillsCounts};
 ghost use Rattle.batch_keys.specs.Calls.{once};
 ghost use Rattle.batch_concat.specs.Calls.{concatKey, fitKeys};
-ghost use Rattle.batch_concat.specs.Workers.{keyAt, Joinable, ConcatRoom};
+ghost use Rattle.batch_concat.specs.Workers.{keyAt, ConcatRoom};
 ghost use Rattle.column.specs.Lent.{given, after};
 
 fn both(first: bool, second: bool) -> bool
@@ -40,7 +37,8 @@ fn key_at(
     near: usize,
     block: &mut [u32],
 ) -> Joined
-    requires { ⌜ KnownKeys (now «a_keys») (now «b_keys») lookup × (at < length (now «a_keys») + length (now «b_keys»)) × KeptOther (now «a_keys») (now «b_keys») (lookup .indexed) (now block) at ⌝ }
+    requires { ⌜ KnownKeys (now «a_keys») (now «b_keys») lookup × (at < length (now «a_keys») + length (now «b_keys»))
+        × KeptOther (now «a_keys») (now «b_keys») (lookup .indexed) (now block) at ⌝ }
     ensures { λ r. ⌜ (r ≡ keyAt (given «a_keys») (given «b_keys») at)
         × KeptOther (given «a_keys») (given «b_keys») (lookup .indexed) (after block) (at + 1) ⌝ }
 {
@@ -79,7 +77,8 @@ fn next_key(
     near: usize,
     block: &mut [u32],
 ) -> Joined
-    requires { ⌜ KnownKeys (now «a_keys») (now «b_keys») lookup × (from ≤ length (now «a_keys») + length (now «b_keys»)) × KeptOther (now «a_keys») (now «b_keys») (lookup .indexed) (now block) from ⌝ }
+    requires { ⌜ KnownKeys (now «a_keys») (now «b_keys») lookup × (from ≤ length (now «a_keys») + length (now «b_keys»))
+        × KeptOther (now «a_keys») (now «b_keys») (lookup .indexed) (now block) from ⌝ }
     ensures { λ r. ⌜ NextKept (keyAt (given «a_keys») (given «b_keys»)) (length (given «a_keys») + length (given «b_keys»)) from r ×
         (r .at < length (given «a_keys»)
         + length (given «b_keys») → KeptOther (given «a_keys») (given «b_keys») (lookup .indexed) (after block) (r .at + 1)) ⌝ }
@@ -115,8 +114,9 @@ pub fn ask_joined(
     lookup: Lookup,
     block: &mut [u32],
 ) -> Asked
-    requires { ⌜ ValidBatch (batch (now «a_keys») (now «a_offsets») (now «a_ends») (now «a_values»)) × ValidBatch (batch (now «b_keys») (now «b_offsets») (now «b_ends») (now «b_values»))
-        × KnownKeys (now «a_keys») (now «b_keys») lookup × (lookup .indexed ≡ true → length (now block) ≡ 32768) ⌝ }
+    requires { ⌜ ValidBatch (batch (now «a_keys») (now «a_offsets») (now «a_ends») (now «a_values»))
+        × ValidBatch (batch (now «b_keys») (now «b_offsets») (now «b_ends») (now «b_values»))
+        × KnownKeys (now «a_keys») (now «b_keys») lookup × (lookup .indexed ≡ true → length (now block) ≡ blockSize) ⌝ }
     ensures { λ r. ⌜ shownAsked r ≡ fitKeys (entries (givenBatch «a_keys» «a_offsets» «a_ends» «a_values»))
         (entries (givenBatch «b_keys» «b_offsets» «b_ends» «b_values»)) (once (given «a_keys» ++ given «b_keys»)) ⌝ }
 {
@@ -137,50 +137,7 @@ pub fn ask_joined(
     Asked::Yes
 }
 
-// The first of two sequences' first value, whichever has one.
-fn first_value(a_values: &[i64], b_values: &[i64]) -> i64
-    requires { ⌜ 0 < length (now «a_values») + length (now «b_values») ⌝ }
-    ensures { λ r. ⌜ r ≡ getD (given «a_values» ++ given «b_values») 0 (pos 0) ⌝ }
-{
-    if a_values.len() == 0 {
-        return b_values[0];
-    }
-    a_values[0]
-}
-
-// One sequence behind another, merged.
-fn concat_two(
-    a_ends: &[i64],
-    a_values: &[i64],
-    b_ends: &[i64],
-    b_values: &[i64],
-    out_ends: &mut [i64],
-    out_values: &mut [i64],
-) -> usize
-    requires { ⌜ Joinable (now «a_ends») (now «a_values») (now «b_ends») (now «b_values») (now «out_ends») (now «out_values») ⌝ }
-    ensures { λ r. ⌜ Fills (encode (shown (runsOf (given «a_ends») (given «a_values») ∷ runsOf (given «b_ends») (given «b_values») ∷ [])))
-        «out_ends» «out_values» r ⌝ }
-{
-    if a_ends.len() + b_ends.len() == 0 {
-        return 0;
-    }
-    let first = first_value(a_values, b_values);
-    let start = Writer { at: 0, last: first };
-    let behind = column::inner::append_merged(start, a_ends, a_values, 0, 0, out_ends, out_values);
-    let length = sequence::to_nat(sequence::length(a_ends));
-    let end = column::inner::append_merged(
-        behind,
-        b_ends,
-        b_values,
-        0,
-        length,
-        out_ends,
-        out_values,
-    );
-    end.at + 1
-}
-
-// Each key's sequences joined, behind those of the keys before it.
+// Each key's sequences joined, after those of the keys before it.
 pub fn concat_keys(
     a_keys: &[u32],
     a_offsets: &[usize],
@@ -197,8 +154,10 @@ pub fn concat_keys(
     out_ends: &mut [i64],
     out_values: &mut [i64],
 ) -> RleBatch
-    requires { ⌜ ConcatRoom (batch (now «a_keys») (now «a_offsets») (now «a_ends») (now «a_values»)) (batch (now «b_keys») (now «b_offsets») (now «b_ends») (now «b_values»))
-        (now «out_keys») (now «out_offsets») (now «out_ends») (now «out_values») × KnownKeys (now «a_keys») (now «b_keys») lookup × (lookup .indexed ≡ true → length (now block) ≡ 32768) ⌝ }
+    requires { ⌜ ConcatRoom (batch (now «a_keys») (now «a_offsets») (now «a_ends») (now «a_values»))
+        (batch (now «b_keys») (now «b_offsets») (now «b_ends») (now «b_values»))
+        (now «out_keys») (now «out_offsets») (now «out_ends») (now «out_values»)
+        × KnownKeys (now «a_keys») (now «b_keys») lookup × (lookup .indexed ≡ true → length (now block) ≡ blockSize) ⌝ }
     ensures { λ r. ⌜ FillsCounts
         (map (concatKey (entries (givenBatch «a_keys» «a_offsets» «a_ends» «a_values»))
         (entries (givenBatch «b_keys» «b_offsets» «b_ends» «b_values»))) (once (given «a_keys» ++ given «b_keys»)))
@@ -215,7 +174,7 @@ pub fn concat_keys(
         let a = joined.a;
         let b = joined.b;
         out_keys[n] = key;
-        used += concat_two(
+        used += transform::inner::concat_two(
             part_at(a_offsets, a_ends, a),
             part_at(a_offsets, a_values, a),
             part_at(b_offsets, b_ends, b),

@@ -8,6 +8,7 @@ ghost use mathlib.Core.Bool.{true};
 ghost use mathlib.Core.Option.{none};
 ghost use mathlib.Core.Path.{_≡_};
 ghost use lib.ListN.{length};
+ghost use Rattle.batch_keys.specs.Workers.{blockSize};
 ghost use Rattle.batch.specs.Batch.{batch, WritesBatch, bothValid, givenBatch};
 ghost use Rattle.batch.specs.Workers.{KnownKeys};
 ghost use Rattle.batch_concat.specs.Calls as calls;
@@ -29,14 +30,26 @@ fn concat_by(
     out_ends: &mut [i64],
     out_values: &mut [i64],
 ) -> Batched
-    requires { ⌜ (bothValid (batch (now «a_keys») (now «a_offsets») (now «a_ends») (now «a_values»)) (batch (now «b_keys») (now «b_offsets») (now «b_ends») (now «b_values»)) ≡ none)
-        × KnownKeys (now «a_keys») (now «b_keys») lookup × (lookup .indexed ≡ true → length (now block) ≡ 32768) ⌝ }
+    requires { ⌜ (bothValid (batch (now «a_keys») (now «a_offsets») (now «a_ends») (now «a_values»))
+        (batch (now «b_keys») (now «b_offsets») (now «b_ends») (now «b_values»)) ≡ none)
+        × KnownKeys (now «a_keys») (now «b_keys») lookup × (lookup .indexed ≡ true → length (now block) ≡ blockSize) ⌝ }
     ensures { λ r. ⌜ WritesBatch
         (calls.concat (givenBatch «a_keys» «a_offsets» «a_ends» «a_values») (givenBatch «b_keys» «b_offsets» «b_ends» «b_values»))
         «out_keys» «out_offsets» «out_ends» «out_values» r ⌝ }
 {
     let keys = a_keys.len() + b_keys.len();
-    let room = batch::ask_room(
+    let fits = inner::ask_joined(
+        a_keys,
+        a_offsets,
+        a_ends,
+        a_values,
+        b_keys,
+        b_offsets,
+        b_ends,
+        b_values,
+        lookup,
+        &mut *block,
+    ).and(batch::ask_room(
         keys,
         keys + 1,
         a_ends.len() + b_ends.len(),
@@ -44,22 +57,7 @@ fn concat_by(
         out_offsets.len(),
         out_ends.len(),
         out_values.len(),
-    );
-    let fits = questions::first_no(
-        inner::ask_joined(
-            a_keys,
-            a_offsets,
-            a_ends,
-            a_values,
-            b_keys,
-            b_offsets,
-            b_ends,
-            b_values,
-            lookup,
-            &mut *block,
-        ),
-        room,
-    );
+    ));
     match fits {
         Asked::Yes => {
             let joined = inner::concat_keys(
@@ -119,7 +117,7 @@ pub fn concat(
     }
     let lookup = batch::inner::lookup::lookup_of(a_keys, b_keys);
     if lookup.indexed {
-        let mut block = [0u32; 32768];
+        let mut block = [0u32; batch_keys::inner::BLOCK];
         return concat_by(
             a_keys,
             a_offsets,

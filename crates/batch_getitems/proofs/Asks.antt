@@ -1,4 +1,4 @@
--- The questions of the call, as the code joins them, and what they tell.
+-- What the questions of the call tell.
 -- Assumes nothing.
 use Prim.Native.Nat.{ℕ, _+_, _<_, _^_}
 use mathlib.Core.List.{List, [], _∷_, map}
@@ -12,7 +12,7 @@ use Rattle.column.specs.Lists.{total}
 use Rattle.column.specs.Paper.{PaperRefusal}
 use Rattle.column.specs.Questions.{agree, intervals, roomAt, room, both}
 use Rattle.column.specs.Runs.{Runs}
-use Rattle.column.proofs.FirstNo.{alone, all-yes, asked-next, asked-last}
+use Rattle.column.proofs.FirstNo.{alone, all-yes}
 use Rattle.column.proofs.Told.{agree-told, room-told}
 use Rattle.column.proofs.YesNo.{room-each, flat-room-saturated}
 use Rattle.batch.specs.Batch.{batch, entries, batchValid}
@@ -25,17 +25,6 @@ use Rattle.batch_getitems.specs.Workers.{Gettable}
 module _ (ks os : List ℕ) (es vs : List ℤ) (gs : List ℕ) (ss ts : List ℤ) where
   abbrev pub items : List Runs
   items = itemRuns gs ss ts (entries (batch ks os es vs))
-
-  pub items-asked : {r a b c d f g : Question} → r ≡ firstNo (a ∷ b ∷ []) → a ≡ batchValid (batch ks os es vs)
-      → b ≡ firstNo (c ∷ d ∷ []) → c ≡ agree 8 (length ss) (length ts)
-      → d ≡ firstNo (f ∷ g ∷ []) → f ≡ intervals ss ts
-      → g ≡ agree 7 (length gs) (length ss)
-      → r ≡ getitemsAsked (batch ks os es vs) gs ss ts
-  unfolding getitemsAsked
-  items-asked hr ha hb hc hd hf hg =
-      asked-next (batchValid (batch ks os es vs)) (agree 8 (length ss) (length ts) ∷ intervals ss ts ∷ agree 7 (length gs) (length ss) ∷ []) hr ha
-      (λ y. asked-next (agree 8 (length ss) (length ts)) (intervals ss ts ∷ agree 7 (length gs) (length ss) ∷ []) hb hc
-      (λ z. asked-last (intervals ss ts) hd hf (λ u. hg)))
 
   pub items-told : getitemsAsked (batch ks os es vs) gs ss ts ≡ none → Intervals (batch ks os es vs) gs ss ts
   unfolding getitemsAsked
@@ -51,7 +40,8 @@ module _ (ks os : List ℕ) (es vs : List ℤ) (gs : List ℕ) (ss ts : List ℤ
   abbrev pub roomAsked : ℕ → ℕ → ℕ → Question
   roomAsked x e v = room ((length ss + 1) ∷ both (total (map length items))) (x ∷ e ∷ v ∷ [])
 
-  pub room-asked : {n : ℕ} (x e v : ℕ) {r : Question} → e < 2 ^ 63 → v < 2 ^ 63 → n ≡ saturated (total (map length items)) → r ≡ room ((length ss + 1) ∷ both n) (x ∷ e ∷ v ∷ [])
+  pub room-asked : {n : ℕ} (x e v : ℕ) {r : Question} → e < 2 ^ 63 → v < 2 ^ 63 → n ≡ saturated (total (map length items))
+      → r ≡ room ((length ss + 1) ∷ both n) (x ∷ e ∷ v ∷ [])
       → r ≡ roomAsked x e v
   room-asked x e v le lv en hr =
       hr

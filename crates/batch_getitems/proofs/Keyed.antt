@@ -16,7 +16,7 @@ use Rattle.column.specs.Questions.{endsValid}
 use Rattle.column.specs.Runs.{Runs, runsOf, Filled}
 use Rattle.column.proofs.Rest.{rest-length}
 use Rattle.batch_index.specs.Calls.{lowest}
-use Rattle.slice.specs.declared.search.TouchedRuns.{TouchedRuns}
+use Rattle.slice.specs.declared.inner.search.TouchedRuns.{TouchedRuns}
 use Rattle.slice.specs.Workers.{touchedBy, cutRuns, Touches}
 use Rattle.column.specs.Workers.{FilledFlat}
 use Rattle.slice.proofs.Asks.{slice-filled}
@@ -52,7 +52,8 @@ module _ {ks os : List ℕ} {es vs : List ℤ} {gs : List ℕ} {ss ts : List ℤ
             → Touches t pe pv (take (length e - used) (drop used e)) (take (length v - used) (drop used v))
         item-touches e v used he hv =
             let n : touchedBy x y pe .count ≡ length (getD items i []) = ap (λ (r : TouchedRuns). r .count) (sym (et ends-valid)) ∙ item-count in
-            rw (et ends-valid) (touches x y pe pv _ _ ends-valid (item-asked q h ex ey ek ea ee ev .1) (rw rest-length (omega arith)) (rw rest-length (omega arith)))
+            rw (et ends-valid)
+            (touches x y pe pv _ _ ends-valid (item-asked q h ex ey ek ea ee ev .1) (rw rest-length (omega arith)) (rw rest-length (omega arith)))
 
         pub item-filled : {e e′ v v′ : List ℤ} {n : ℕ} → Filled (cutRuns t (runsOf pe pv)) e e′ v v′ n → Filled (getD items i []) e e′ v v′ n
         item-filled f = rw (item-is q h ex ey ek ea ee ev) at (slice-filled x y pe pv et ends-valid (item-asked q h ex ey ek ea ee ev .1) f)
@@ -79,27 +80,29 @@ module _ {cs : List Runs} {n i : ℕ} (c : Counting cs n i) where
 
 -- ---- the slices laid flat: the first i of them are written
 
-module _ {ks os : List ℕ} {es vs : List ℤ} {gs : List ℕ} {ss ts : List ℤ} {x : List ℕ} {e₀ v₀ : List ℤ} (q : Gettable (batch ks os es vs) gs ss ts x e₀ v₀) where
-  abbrev Laid : List ℕ → List ℤ → List ℤ → ℕ → ℕ → Type 0
-  Laid y e v used i = Laying (itemRuns gs ss ts (entries (batch ks os es vs))) (set x 0 0) y e₀ e v₀ v used i
+module _ {ks os : List ℕ} {es vs : List ℤ} {gs : List ℕ} {ss ts : List ℤ} {x : List ℕ} {e₀ v₀ : List ℤ} (q : Gettable (batch ks os es vs) gs ss ts x e₀ v₀)
+  where
+    abbrev Laid : List ℕ → List ℤ → List ℤ → ℕ → ℕ → Type 0
+    Laid y e v used i = Laying (itemRuns gs ss ts (entries (batch ks os es vs))) (set x 0 0) y e₀ e v₀ v used i
 
-  pub laid-start : Laid (set x 0 0) e₀ v₀ 0 0
-  laid-start = laying-start x (omega (arith, q .room-offsets)) (itemRuns gs ss ts (entries (batch ks os es vs))) e₀ v₀
+    pub laid-start : Laid (set x 0 0) e₀ v₀ 0 0
+    laid-start = laying-start x (omega (arith, q .room-offsets)) (itemRuns gs ss ts (entries (batch ks os es vs))) e₀ v₀
 
-  module _ {y : List ℕ} {e v : List ℤ} {used i : ℕ} (s : Laid y e v used i) where
-    module _ (h : i < length ss) where
-      in-items : i < length (itemRuns gs ss ts (entries (batch ks os es vs)))
-      in-items = rw (items-many (q .intervals)) h
+    module _ {y : List ℕ} {e v : List ℤ} {used i : ℕ} (s : Laid y e v used i) where
+      module _ (h : i < length ss) where
+        in-items : i < length (itemRuns gs ss ts (entries (batch ks os es vs)))
+        in-items = rw (items-many (q .intervals)) h
 
-      -- there is room for the next
-      pub laid-room : (used + length (getD (itemRuns gs ss ts (entries (batch ks os es vs))) i []) ≤ length e)
-          × (used + length (getD (itemRuns gs ss ts (entries (batch ks os es vs))) i []) ≤ length v)
-      laid-room = let r = laying-room s in-items in (rw (s .long-ends) (r (length e₀) (q .room-ends)), rw (s .long-values) (r (length v₀) (q .room-values)))
+        -- there is room for the next
+        pub laid-room : (used + length (getD (itemRuns gs ss ts (entries (batch ks os es vs))) i []) ≤ length e)
+            × (used + length (getD (itemRuns gs ss ts (entries (batch ks os es vs))) i []) ≤ length v)
+        laid-room = let r = laying-room s in-items in (rw (s .long-ends) (r (length e₀) (q .room-ends)), rw (s .long-values) (r (length v₀) (q .room-values)))
 
-      pub laid-next : {e₂ v₂ : List ℤ} {n : ℕ}
-          → Filled (getD (itemRuns gs ss ts (entries (batch ks os es vs))) i []) (take (length e - used) (drop used e)) e₂ (take (length v - used) (drop used v)) v₂ n
-          → Laid (set y (i + 1) (used + n)) (putMid used (length e - used) e e₂) (putMid used (length v - used) v v₂) (used + n) (i + 1)
-      laid-next f = laying-next s in-items f (q .room-ends) (q .room-values) (rw (items-many (q .intervals), length-set) (omega (arith, q .room-offsets)))
+        pub laid-next : {e₂ v₂ : List ℤ} {n : ℕ}
+            → Filled (getD (itemRuns gs ss ts (entries (batch ks os es vs))) i []) (take (length e - used) (drop used e))
+            e₂ (take (length v - used) (drop used v)) v₂ n
+            → Laid (set y (i + 1) (used + n)) (putMid used (length e - used) e e₂) (putMid used (length v - used) v v₂) (used + n) (i + 1)
+        laid-next f = laying-next s in-items f (q .room-ends) (q .room-values) (rw (items-many (q .intervals), length-set) (omega (arith, q .room-offsets)))
 
-    pub laid-end : length ss ≤ i → FilledFlat (itemRuns gs ss ts (entries (batch ks os es vs))) x y e₀ e v₀ v used
-    laid-end h = laying-end x (omega (arith, q .room-offsets)) s (rw (items-many (q .intervals)) h)
+      pub laid-end : length ss ≤ i → FilledFlat (itemRuns gs ss ts (entries (batch ks os es vs))) x y e₀ e v₀ v used
+      laid-end h = laying-end x (omega (arith, q .room-offsets)) s (rw (items-many (q .intervals)) h)

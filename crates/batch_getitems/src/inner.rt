@@ -1,7 +1,7 @@
 // Workers that assume what the calls have asked.
 use batch::inner::part_at;
 use batch_keys::Order;
-use slice::search;
+use slice::inner::search;
 ghost use mathlib.Core.Bool.{true};
 ghost use mathlib.Core.List.{map};
 ghost use mathlib.Core.Path.{_≡_};
@@ -16,7 +16,7 @@ ghost use Rattle.batch_intervals.specs.Workers.{Intervals};
 ghost use Rattle.batch_getitems.specs.Workers.{Gettable};
 ghost use Rattle.column.specs.Lent.{given};
 
-// How many runs the slices of all intervals have; at most usize::MAX is told.
+// How many runs the slices of all intervals have, saturating at usize::MAX.
 fn count_items_by(
     keys: &[u32],
     offsets: &[usize],
@@ -29,7 +29,8 @@ fn count_items_by(
     indexed: bool,
     block: &mut [u32],
 ) -> usize
-    requires { ⌜ Intervals (batch (now keys) (now offsets) (now ends) (now values)) (now «get_keys») (now starts) (now stops) × Known order (now keys) × (indexed ≡ true → Blocks (now keys) (now block)) ⌝ }
+    requires { ⌜ Intervals (batch (now keys) (now offsets) (now ends) (now values)) (now «get_keys») (now starts) (now stops)
+        × Known order (now keys) × (indexed ≡ true → Blocks (now keys) (now block)) ⌝ }
     ensures { λ r. ⌜ r ≡ saturated
         (total (map length (itemRuns (given «get_keys») (given starts) (given stops) (entries (givenBatch keys offsets ends values))))) ⌝ }
 {
@@ -58,12 +59,13 @@ pub fn count_items(
     starts: &[i64],
     stops: &[i64],
 ) -> usize
-    requires { ⌜ Intervals (batch (now keys) (now offsets) (now ends) (now values)) (now «get_keys») (now starts) (now stops) × Known order (now keys) ⌝ }
+    requires { ⌜ Intervals (batch (now keys) (now offsets) (now ends) (now values)) (now «get_keys») (now starts) (now stops)
+        × Known order (now keys) ⌝ }
     ensures { λ r. ⌜ r ≡ saturated
         (total (map length (itemRuns (given «get_keys») (given starts) (given stops) (entries (givenBatch keys offsets ends values))))) ⌝ }
 {
     if batch_keys::inner::index_pays(order, keys.len(), get_keys.len()) {
-        let mut block = [0u32; 32768];
+        let mut block = [0u32; batch_keys::inner::BLOCK];
         return count_items_by(
             keys,
             offsets,
@@ -92,7 +94,7 @@ pub fn count_items(
     )
 }
 
-// The slice of each interval, behind those of the intervals before it.
+// The slice of each interval, after those of the intervals before it.
 fn getitems_by(
     keys: &[u32],
     offsets: &[usize],
@@ -108,7 +110,9 @@ fn getitems_by(
     out_ends: &mut [i64],
     out_values: &mut [i64],
 ) -> usize
-    requires { ⌜ Gettable (batch (now keys) (now offsets) (now ends) (now values)) (now «get_keys») (now starts) (now stops) (now «out_offsets») (now «out_ends») (now «out_values») × Known order (now keys) × (indexed ≡ true → Blocks (now keys) (now block)) ⌝ }
+    requires { ⌜ Gettable (batch (now keys) (now offsets) (now ends) (now values)) (now «get_keys») (now starts) (now stops)
+        (now «out_offsets») (now «out_ends») (now «out_values»)
+        × Known order (now keys) × (indexed ≡ true → Blocks (now keys) (now block)) ⌝ }
     ensures { λ r. ⌜ FillsFlat (itemRuns (given «get_keys») (given starts) (given stops) (entries (givenBatch keys offsets ends values)))
         «out_offsets» «out_ends» «out_values» r ⌝ }
 {
@@ -149,12 +153,13 @@ pub fn getitems(
     out_ends: &mut [i64],
     out_values: &mut [i64],
 ) -> usize
-    requires { ⌜ Gettable (batch (now keys) (now offsets) (now ends) (now values)) (now «get_keys») (now starts) (now stops) (now «out_offsets») (now «out_ends») (now «out_values») × Known order (now keys) ⌝ }
+    requires { ⌜ Gettable (batch (now keys) (now offsets) (now ends) (now values)) (now «get_keys») (now starts) (now stops)
+        (now «out_offsets») (now «out_ends») (now «out_values») × Known order (now keys) ⌝ }
     ensures { λ r. ⌜ FillsFlat (itemRuns (given «get_keys») (given starts) (given stops) (entries (givenBatch keys offsets ends values)))
         «out_offsets» «out_ends» «out_values» r ⌝ }
 {
     if batch_keys::inner::index_pays(order, keys.len(), get_keys.len()) {
-        let mut block = [0u32; 32768];
+        let mut block = [0u32; batch_keys::inner::BLOCK];
         return getitems_by(
             keys,
             offsets,

@@ -24,11 +24,10 @@ fn getitems_asks(
     ensures { λ r.
         ⌜ shownAsked r ≡ calls.getitemsAsked (givenBatch keys offsets ends values) (given «get_keys») (given starts) (given stops) ⌝ }
 {
-    let inside = questions::ask_intervals(starts, stops);
-    let keyed = questions::ask_lengths(7, get_keys.len(), starts.len());
-    let last = questions::first_no(inside, keyed);
-    let paired = questions::first_no(questions::ask_lengths(8, starts.len(), stops.len()), last);
-    questions::first_no(batch::ask_batch(keys, offsets, ends, values), paired)
+    batch::ask_batch(keys, offsets, ends, values)
+        .and(questions::ask_lengths(8, starts.len(), stops.len()))
+        .and(questions::ask_intervals(starts, stops))
+        .and(questions::ask_lengths(7, get_keys.len(), starts.len()))
 }
 
 // The slices of intervals, each of a key's sequence, laid flat.
@@ -52,7 +51,7 @@ pub fn getitems(
         Asked::Yes => {}
         Asked::No(r) => return Batched::Refused(r),
     }
-    let order = batch_keys::quick_order(keys);
+    let order = batch_keys::inner::quick_order(keys);
     let needed = inner::count_items(keys, offsets, ends, values, order, get_keys, starts, stops);
     let room = questions::ask_flat_room(
         starts.len() + 1,

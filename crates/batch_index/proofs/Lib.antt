@@ -1,4 +1,4 @@
 pub mod Lowest
 pub mod Doubles
 pub mod Indexing
-pub mod Shares
+pub mod Partitions

@@ -18,7 +18,8 @@ pub no-test : {P : Type 0} {t : Bool} → t ≡ true → t ≡ false → P
 no-test e f = let z : _≡_ {A = ℕ} 0 1 = cc in let y : ⊥ = omega arith in absurd y
 
 -- a position is the lowest if the key stands at none below it, and there, or the keys end there
-pub lowest-is : (key : ℕ) (ks : List ℕ) (i : ℕ) → i ≤ length ks → ((j : ℕ) → j < i → getD ks j 0 ≡ key → ⊥) → (i < length ks → getD ks i 0 ≡ key) → i ≡ lowest key ks
+pub lowest-is : (key : ℕ) (ks : List ℕ) (i : ℕ) → i ≤ length ks → ((j : ℕ) → j < i → getD ks j 0 ≡ key → ⊥) → (i < length ks → getD ks i 0 ≡ key)
+    → i ≡ lowest key ks
 unfolding lowest
 lowest-is key [] i h b t = omega arith
 lowest-is key (k ∷ ks) zero h b t = rw (eq-eqb key k (sym (t (omega arith))))
@@ -29,7 +30,7 @@ lowest-step : (t : Bool) (n m : ℕ) → n ≤ m → cond t 0 (suc n) ≤ suc m
 lowest-step true n m h = omega arith
 lowest-step false n m h = omega arith
 
--- and no position is behind the last key's by more than one
+-- and no position is after the last key's by more than one
 pub lowest-within : (key : ℕ) (ks : List ℕ) → lowest key ks ≤ length ks
 unfolding lowest
 lowest-within key [] = omega arith
@@ -90,13 +91,19 @@ module _ (key : ℕ) (ks : List ℕ) where
   counted-more {n} {count = count} {i} {r} c h er =
       by-test (eqb (getD ks i 0) key)
       (λ t. let e : r ≡ count = er ∙ rw t in
-      record { begun = omega (arith, c .begun); within = omega arith; few = omega (arith, c .begun, c .few); all = λ a. let z : ⊥ = omega (arith, c .begun, c .few) in absurd z })
+      record {
+        begun = omega (arith, c .begun);
+        within = omega arith;
+        few = omega (arith, c .begun, c .few);
+        all = λ a. let z : ⊥ = omega (arith, c .begun, c .few) in absurd z;
+      })
       (λ f. let e : r ≡ count + 1 = er ∙ rw f in
       record {
         begun = omega (arith, c .begun);
         within = omega arith;
         few = omega (arith, c .begun, c .few);
-        all = λ a. others-more n i (i + 1) (c .all (omega (arith, c .begun, c .few))) (others-one i (ne-eqb key (getD ks i 0) (λ u. eqb-false (getD ks i 0) key f (sym u))));
+        all = λ a. others-more n i (i + 1) (c .all (omega (arith, c .begun, c .few)))
+            (others-one i (ne-eqb key (getD ks i 0) (λ u. eqb-false (getD ks i 0) key f (sym u))));
       })
 
 pub next-lowest : (key : ℕ) (ks : List ℕ) {r : ℕ} → NextPosition key ks 0 r → r ≡ lowest key ks

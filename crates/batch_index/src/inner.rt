@@ -5,7 +5,8 @@ ghost use mathlib.Core.Path.{_≡_};
 ghost use lib.Dec.{eqb};
 ghost use lib.ListN.{length, getD};
 ghost use Rattle.batch_index.specs.Calls.{lowest};
-ghost use Rattle.batch_index.specs.Workers.{Others, Skipped, NextPosition, mixed, shareIn, homeIn, Slots, Sought, Indexed, Entered, NextOfShare, FoundBefore, FoundAll};
+ghost use Rattle.batch_index.specs.Workers.{Others, Skipped, NextPosition, mixed, partitionIn, bucketIn, Slots, Sought, Indexed, Entered};
+ghost use Rattle.batch_index.specs.Workers.{NextOfPartition, FoundBefore, FoundAll};
 ghost use Rattle.column.specs.Lent.{given, after};
 
 // As many keys are compared at once.
@@ -70,21 +71,21 @@ pub fn scan(keys: &[u32], key: u32) -> usize
     scan_from(keys, 0, key)
 }
 
-// The positions of many keys at once. The keys are dealt out into shares by their bits, and a share at a time is put into a table on the stack,
-// in which each key that is looked for and of that share is found. A slot holds 0, or one more than a position.
+// The positions of many keys at once. The keys are split into partitions by their bits. One partition at a time is put into a table on the
+// stack, and each wanted key of that partition is looked up in it. A slot holds 0, or one more than a position.
 
-// A key stands at its home or at most so many slots behind it.
-const REACH: usize = 256;
+// So many slots are probed, from a key's bucket on.
+const PROBES: usize = 256;
 
-// How many keys of a share there are if they are dealt out evenly: half as many as the table has slots.
-const SHARE: usize = 16_384;
+// How many keys a partition has on average: half as many as the table has slots.
+const PARTITION: usize = 16_384;
 
-// How many shares there are of so many keys.
-pub fn shares_for(keys: usize) -> usize
+// How many partitions there are of so many keys.
+pub fn partitions_for(keys: usize) -> usize
     requires { ⌜ keys < 2 ^ 32 ⌝ }
     ensures { λ r. ⌜ (0 < r) × (r < 2 ^ 32) ⌝ }
 {
-    keys / SHARE + 1
+    keys / PARTITION + 1
 }
 
 // A prime near 2^32 divided by the golden ratio.
@@ -96,26 +97,26 @@ fn mixed(key: u32) -> u64
     (key as u64) * FACTOR % 0x1_0000_0000
 }
 
-// A key's share and its home are the two halves of this number.
-fn spread(shares: usize, key: u32) -> usize
-    requires { ⌜ shares < 2 ^ 32 ⌝ }
-    ensures { λ r. ⌜ r ≡ mixed key * shares ⌝ }
+// A key's partition and its bucket are the two halves of this number.
+fn spread(partitions: usize, key: u32) -> usize
+    requires { ⌜ partitions < 2 ^ 32 ⌝ }
+    ensures { λ r. ⌜ r ≡ mixed key * partitions ⌝ }
 {
-    (mixed(key) as usize) * shares
+    (mixed(key) as usize) * partitions
 }
 
-fn share(shares: usize, key: u32) -> usize
-    requires { ⌜ shares < 2 ^ 32 ⌝ }
-    ensures { λ r. ⌜ r ≡ shareIn shares key ⌝ }
+fn partition(partitions: usize, key: u32) -> usize
+    requires { ⌜ partitions < 2 ^ 32 ⌝ }
+    ensures { λ r. ⌜ r ≡ partitionIn partitions key ⌝ }
 {
-    spread(shares, key) / 0x1_0000_0000
+    spread(partitions, key) / 0x1_0000_0000
 }
 
-fn home(shares: usize, key: u32) -> usize
-    requires { ⌜ shares < 2 ^ 32 ⌝ }
-    ensures { λ r. ⌜ r ≡ homeIn shares key ⌝ }
+fn bucket(partitions: usize, key: u32) -> usize
+    requires { ⌜ partitions < 2 ^ 32 ⌝ }
+    ensures { λ r. ⌜ r ≡ bucketIn partitions key ⌝ }
 {
-    spread(shares, key) % 0x1_0000_0000 / 0x2_0000
+    spread(partitions, key) % 0x1_0000_0000 / 0x2_0000
 }
 
 pub fn widened(held: u32) -> usize
@@ -124,14 +125,14 @@ pub fn widened(held: u32) -> usize
     held as usize
 }
 
-// How far behind `home` the key's position stands, or else the next empty slot; `REACH` if neither is in reach.
-fn seek(table: &[u32], keys: &[u32], home: usize, key: u32) -> usize
-    requires { ⌜ Slots (now keys) (now table) × (home < 32768) ⌝ }
-    ensures { λ r. ⌜ Sought (given keys) (given table) home key r ⌝ }
+// How far after `bucket` the key's position is, or else the next empty slot; `PROBES` if neither is found.
+fn seek(table: &[u32], keys: &[u32], bucket: usize, key: u32) -> usize
+    requires { ⌜ Slots (now keys) (now table) × (bucket < 32768) ⌝ }
+    ensures { λ r. ⌜ Sought (given keys) (given table) bucket key r ⌝ }
 {
     let mut d: usize = 0;
-    while d < REACH {
-        let held = widened(table[home + d]);
+    while d < PROBES {
+        let held = widened(table[bucket + d]);
         if held == 0 {
             return d;
         }
@@ -145,14 +146,15 @@ fn seek(table: &[u32], keys: &[u32], home: usize, key: u32) -> usize
 
 // Puts the position of the key at i into the table, unless the key stands there; its lowest position, or how many keys there are if there is
 // no room.
-pub fn enter(table: &mut [u32], keys: &[u32], shares: usize, i: usize) -> usize
-    requires { ⌜ (shares < 2 ^ 32) × (length (now keys) < 2 ^ 32) × (i < length (now keys)) × Indexed (now keys) shares (shareIn shares (getD (now keys) i 0)) (now table) i ⌝ }
-    ensures { λ r. ⌜ Entered (given keys) shares i (after table) r ⌝ }
+pub fn enter(table: &mut [u32], keys: &[u32], partitions: usize, i: usize) -> usize
+    requires { ⌜ (partitions < 2 ^ 32) × (length (now keys) < 2 ^ 32)
+        × (i < length (now keys)) × Indexed (now keys) partitions (partitionIn partitions (getD (now keys) i 0)) (now table) i ⌝ }
+    ensures { λ r. ⌜ Entered (given keys) partitions i (after table) r ⌝ }
 {
     let key = keys[i];
-    let from = home(shares, key);
+    let from = bucket(partitions, key);
     let d = seek(&*table, keys, from, key);
-    if d == REACH {
+    if d == PROBES {
         return keys.len();
     }
     let held = widened(table[from + d]);
@@ -163,14 +165,14 @@ pub fn enter(table: &mut [u32], keys: &[u32], shares: usize, i: usize) -> usize
     i
 }
 
-// The lowest position of a key of the share, or how many keys there are.
-fn look_up(table: &[u32], keys: &[u32], shares: usize, key: u32) -> usize
-    requires { ⌜ (shares < 2 ^ 32) × Indexed (now keys) shares (shareIn shares key) (now table) (length (now keys)) ⌝ }
+// The lowest position of a key of the partition, or how many keys there are.
+fn look_up(table: &[u32], keys: &[u32], partitions: usize, key: u32) -> usize
+    requires { ⌜ (partitions < 2 ^ 32) × Indexed (now keys) partitions (partitionIn partitions key) (now table) (length (now keys)) ⌝ }
     ensures { λ r. ⌜ r ≡ lowest key (given keys) ⌝ }
 {
-    let from = home(shares, key);
+    let from = bucket(partitions, key);
     let d = seek(table, keys, from, key);
-    if d == REACH {
+    if d == PROBES {
         return keys.len();
     }
     let held = widened(table[from + d]);
@@ -180,14 +182,14 @@ fn look_up(table: &[u32], keys: &[u32], shares: usize, key: u32) -> usize
     held - 1
 }
 
-// The lowest position from `from` on of a key of the share, or how many keys there are.
-pub fn next_in_share(keys: &[u32], shares: usize, part: usize, from: usize) -> usize
-    requires { ⌜ (shares < 2 ^ 32) × (from ≤ length (now keys)) ⌝ }
-    ensures { λ r. ⌜ NextOfShare (given keys) shares part from r ⌝ }
+// The lowest position from `from` on of a key of the partition, or how many keys there are.
+pub fn next_in_partition(keys: &[u32], partitions: usize, part: usize, from: usize) -> usize
+    requires { ⌜ (partitions < 2 ^ 32) × (from ≤ length (now keys)) ⌝ }
+    ensures { λ r. ⌜ NextOfPartition (given keys) partitions part from r ⌝ }
 {
     let mut i = from;
     while i < keys.len() {
-        if share(shares, keys[i]) == part {
+        if partition(partitions, keys[i]) == part {
             return i;
         }
         i += 1;
@@ -195,64 +197,66 @@ pub fn next_in_share(keys: &[u32], shares: usize, part: usize, from: usize) -> u
     i
 }
 
-// Puts the keys of a share into an empty table. Whether there was room.
-fn fill(table: &mut [u32], keys: &[u32], shares: usize, part: usize) -> bool
-    requires { ⌜ (shares < 2 ^ 32) × (length (now keys) < 2 ^ 32) × Indexed (now keys) shares part (now table) 0 ⌝ }
-    ensures { λ r. ⌜ (r ≡ true → Indexed (given keys) shares part (after table) (length (given keys))) ⌝ }
+// Puts the keys of a partition into an empty table. Whether there was room.
+fn fill(table: &mut [u32], keys: &[u32], partitions: usize, part: usize) -> bool
+    requires { ⌜ (partitions < 2 ^ 32) × (length (now keys) < 2 ^ 32) × Indexed (now keys) partitions part (now table) 0 ⌝ }
+    ensures { λ r. ⌜ (r ≡ true → Indexed (given keys) partitions part (after table) (length (given keys))) ⌝ }
 {
-    let mut i = next_in_share(keys, shares, part, 0);
+    let mut i = next_in_partition(keys, partitions, part, 0);
     while i < keys.len() {
-        if enter(&mut *table, keys, shares, i) == keys.len() {
+        if enter(&mut *table, keys, partitions, i) == keys.len() {
             return false;
         }
-        i = next_in_share(keys, shares, part, i + 1);
+        i = next_in_partition(keys, partitions, part, i + 1);
     }
     true
 }
 
-// By the table if it holds the share, or else one key after another.
-fn find(table: &[u32], indexed: bool, keys: &[u32], shares: usize, key: u32) -> usize
-    requires { ⌜ (shares < 2 ^ 32) × (indexed ≡ true → Indexed (now keys) shares (shareIn shares key) (now table) (length (now keys))) ⌝ }
+// By the table if it holds the partition, or else one key after another.
+fn find(table: &[u32], indexed: bool, keys: &[u32], partitions: usize, key: u32) -> usize
+    requires { ⌜ (partitions < 2 ^ 32)
+        × (indexed ≡ true → Indexed (now keys) partitions (partitionIn partitions key) (now table) (length (now keys))) ⌝ }
     ensures { λ r. ⌜ r ≡ lowest key (given keys) ⌝ }
 {
     if indexed {
-        return look_up(table, keys, shares, key);
+        return look_up(table, keys, partitions, key);
     }
     scan(keys, key)
 }
 
-// Finds each wanted key of a share.
+// Finds each wanted key of a partition.
 fn find_each(
     table: &[u32],
     indexed: bool,
     keys: &[u32],
-    shares: usize,
+    partitions: usize,
     part: usize,
     wanted: &[u32],
     found: &mut [u32],
 )
-    requires { ⌜ (shares < 2 ^ 32) × (length (now keys) < 2 ^ 32) × (indexed ≡ true → Indexed (now keys) shares part (now table) (length (now keys)))
-        × FoundBefore (now keys) (now wanted) shares part (now found) ⌝ }
-    ensures { λ _. ⌜ FoundBefore (given keys) (given wanted) shares (part + 1) (after found) ⌝ }
+    requires { ⌜ (partitions < 2 ^ 32) × (length (now keys) < 2 ^ 32)
+        × (indexed ≡ true → Indexed (now keys) partitions part (now table) (length (now keys)))
+        × FoundBefore (now keys) (now wanted) partitions part (now found) ⌝ }
+    ensures { λ _. ⌜ FoundBefore (given keys) (given wanted) partitions (part + 1) (after found) ⌝ }
 {
-    let mut i = next_in_share(wanted, shares, part, 0);
+    let mut i = next_in_partition(wanted, partitions, part, 0);
     while i < wanted.len() {
         let key = wanted[i];
-        let at = find(table, indexed, keys, shares, key);
+        let at = find(table, indexed, keys, partitions, key);
         found[i] = at as u32;
-        i = next_in_share(wanted, shares, part, i + 1);
+        i = next_in_partition(wanted, partitions, part, i + 1);
     }
 }
 
-// Puts a share into a table and finds the wanted keys of it. It is called at two places, so that it is not compiled into the look-up of
+// Puts a partition into a table and finds the wanted keys of it. It is called at two places, so that it is not compiled into the look-up of
 // each interval, which would then touch the pages of the table at every call.
-fn find_share(keys: &[u32], shares: usize, part: usize, wanted: &[u32], found: &mut [u32])
-    requires { ⌜ (shares < 2 ^ 32) × (length (now keys) < 2 ^ 32) × FoundBefore (now keys) (now wanted) shares part (now found) ⌝ }
-    ensures { λ _. ⌜ FoundBefore (given keys) (given wanted) shares (part + 1) (after found) ⌝ }
+fn find_partition(keys: &[u32], partitions: usize, part: usize, wanted: &[u32], found: &mut [u32])
+    requires { ⌜ (partitions < 2 ^ 32) × (length (now keys) < 2 ^ 32) × FoundBefore (now keys) (now wanted) partitions part (now found) ⌝ }
+    ensures { λ _. ⌜ FoundBefore (given keys) (given wanted) partitions (part + 1) (after found) ⌝ }
 {
     let mut table = [0u32; 33024];
-    let indexed = fill(&mut table, keys, shares, part);
-    find_each(&table, indexed, keys, shares, part, wanted, found);
+    let indexed = fill(&mut table, keys, partitions, part);
+    find_each(&table, indexed, keys, partitions, part, wanted, found);
 }
 
 // Finds each wanted key.
@@ -260,11 +264,11 @@ pub fn find_all(keys: &[u32], wanted: &[u32], found: &mut [u32])
     requires { ⌜ (length (now keys) < 2 ^ 32) × (length (now wanted) ≤ length (now found)) ⌝ }
     ensures { λ _. ⌜ FoundAll (given keys) (given wanted) (after found) ⌝ }
 {
-    let shares = shares_for(keys.len());
-    find_share(keys, shares, 0, wanted, &mut *found);
+    let partitions = partitions_for(keys.len());
+    find_partition(keys, partitions, 0, wanted, &mut *found);
     let mut part: usize = 1;
-    while part < shares {
-        find_share(keys, shares, part, wanted, &mut *found);
+    while part < partitions {
+        find_partition(keys, partitions, part, wanted, &mut *found);
         part += 1;
     }
 }

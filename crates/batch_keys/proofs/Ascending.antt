@@ -9,8 +9,7 @@ use lib.Dec.{eqb, ltb}
 use lib.ListN.{length, getD, drop, length-drop}
 use lib.Seq.{drop-cons}
 use borrow.Author.Tests.{ltb-true, ltb-false, lt-ltb, le-ltb}
-use Rattle.num.proofs.Tests.{by-test}
-use Rattle.column.proofs.Told.{both-true}
+use Rattle.num.proofs.Tests.{by-test, both-true}
 use Rattle.batch_index.specs.Calls.{lowest}
 use Rattle.batch_index.proofs.Lowest.{lowest-is}
 use Rattle.batch_keys.specs.Workers.{ascends, ascendsFrom}
@@ -19,7 +18,8 @@ use Rattle.batch_keys.proofs.Standing.{stands, stands-not, Apart}
 above-first : (k : ℕ) (ks : List ℕ) (j : ℕ) → ascendsFrom k ks ≡ true → j < length ks → k < getD ks j 0
 above-first k [] j t h = let z : ⊥ = omega arith in absurd z
 above-first k (l ∷ ks) zero t h = ltb-true k l (both-true (ltb k l) (ascendsFrom l ks) t .0)
-above-first k (l ∷ ks) (suc j) t h = let b = both-true (ltb k l) (ascendsFrom l ks) t in omega (arith, ltb-true k l (b .0), above-first l ks j (b .1) (omega arith))
+above-first k (l ∷ ks) (suc j) t h = let b = both-true (ltb k l) (ascendsFrom l ks) t in
+    omega (arith, ltb-true k l (b .0), above-first l ks j (b .1) (omega arith))
 
 rest-ascends : (k : ℕ) (ks : List ℕ) → ascendsFrom k ks ≡ true → ascends ks ≡ true
 rest-ascends k [] t = refl
@@ -57,7 +57,10 @@ module _ (ks : List ℕ) where
   risen-next (suc i) s h k =
       let d : suc i - 1 ≡ i = omega arith in
       let e : suc i + 1 - 1 ≡ suc i = omega arith in
-      record { past = omega arith; rest = s .rest ∙ rw (d, e) (two ks i h ∙ rw (lt-ltb (getD ks i 0) (getD ks (suc i) 0) (rw d at k), drop-cons ks (suc i) 0 h)) }
+      record {
+        past = omega arith;
+        rest = s .rest ∙ rw (d, e) (two ks i h ∙ rw (lt-ltb (getD ks i 0) (getD ks (suc i) 0) (rw d at k), drop-cons ks (suc i) 0 h));
+      }
 
   pub risen-not : (i : ℕ) → Risen ks i → i < length ks → getD ks i 0 ≤ getD ks (i - 1) 0 → false ≡ ascends ks
   risen-not zero s h k = let z : ⊥ = omega (arith, s .past) in absurd z
@@ -77,7 +80,8 @@ pub record Halved (key : ℕ) (ks : List ℕ) (low size : ℕ) : Type 0 where
 
 module _ (key : ℕ) (ks : List ℕ) (t : ascends ks ≡ true) where
   ascends-le : (i j : ℕ) → i ≤ j → j < length ks → getD ks i 0 ≤ getD ks j 0
-  ascends-le i j h k = by-test (ltb i j) (λ s. omega (arith, ascends-at ks i j t (ltb-true i j s) k)) (λ s. let e : i ≡ j = omega (arith, ltb-false i j s) in rw e (omega arith))
+  ascends-le i j h k = by-test (ltb i j) (λ s. omega (arith, ascends-at ks i j t (ltb-true i j s) k))
+      (λ s. let e : i ≡ j = omega (arith, ltb-false i j s) in rw e (omega arith))
 
   pub halved-start : Halved key ks 0 (length ks)
   halved-start = record { inside = omega arith; below = λ j h. let z : ⊥ = omega arith in absurd z; above = λ j h k. let z : ⊥ = omega arith in absurd z }
@@ -86,7 +90,8 @@ module _ (key : ℕ) (ks : List ℕ) (t : ascends ks ≡ true) where
     pub halved-inside : 0 < size → low + (size - size / 2) - 1 < length ks
     halved-inside h = omega (arith, s .inside)
 
-    pub halved-next : {next : ℕ} → 0 < size → next ≡ cond (ltb (getD ks (low + (size - size / 2) - 1) 0) key) (low + (size - size / 2)) low → Halved key ks next (size / 2)
+    pub halved-next : {next : ℕ} → 0 < size → next ≡ cond (ltb (getD ks (low + (size - size / 2) - 1) 0) key) (low + (size - size / 2)) low
+        → Halved key ks next (size / 2)
     halved-next h e =
         let i = halved-inside h in
         let m = low + (size - size / 2) - 1 in

@@ -44,7 +44,8 @@ module _ (ks : List ℕ) where
       ∙ rw add-one at (each-next (distinctAt ks) i ks 0 (omega arith) (distinct-yes ks i (getD ks i 0) (s i (omega arith))))
 
   -- what "yes" tells, from i on
-  asked-next : (i : ℕ) → i < length ks → eachFrom (distinctAt ks) i (drop i ks) ≡ none → (doubled ks i ≡ false) × (eachFrom (distinctAt ks) (suc i) (drop (suc i) ks) ≡ none)
+  asked-next : (i : ℕ) → i < length ks → eachFrom (distinctAt ks) i (drop i ks) ≡ none → (doubled ks i ≡ false)
+      × (eachFrom (distinctAt ks) (suc i) (drop (suc i) ks) ≡ none)
   unfolding eachFrom
   asked-next i h e =
       let y = all-yes (distinctAt ks i (getD ks i 0) ∷ eachFrom (distinctAt ks) (suc i) (drop (suc i) ks) ∷ []) (rw (drop-cons ks i 0 h) at e) in

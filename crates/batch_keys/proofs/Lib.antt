@@ -3,3 +3,4 @@ pub mod Ascending
 pub mod Doubles
 pub mod Once
 pub mod Blocks
+pub mod Examples

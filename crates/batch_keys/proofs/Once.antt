@@ -68,7 +68,7 @@ unfolding onceFrom
 once-few before [] = omega arith
 once-few before (k ∷ ks) = by-test (any (eqb k) before) (λ t. rw t (omega (arith, once-few before ks))) (λ t. rw t (omega (arith, once-few (k ∷ before) ks)))
 
--- no key stands among those behind it
+-- no key stands among those after it
 abbrev pub NoDoubles : List ℕ → Type 0
 NoDoubles [] = Unit {0}
 NoDoubles (k ∷ ks) = (any (eqb k) ks ≡ false) × NoDoubles ks

@@ -9,8 +9,8 @@ use native.Mathlib.Omega.{arith}
 use lib.Dec.{eqb, ltb}
 use lib.ListN.{length, getD}
 use borrow.Author.Tests.{eqb-true, eq-eqb, ltb-true, lt-ltb, le-ltb}
+use Rattle.num.proofs.Tests.{both-true}
 use Rattle.column.specs.Paper.{answers}
-use Rattle.column.proofs.Told.{both-true}
 use Rattle.batch_index.specs.Calls.{lowest}
 use Rattle.batch_index.proofs.Lowest.{no-test, lowest-is}
 use Rattle.batch_keys.specs.Calls.{position}

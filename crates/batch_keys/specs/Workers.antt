@@ -28,25 +28,30 @@ Known Unknown ks = Unit {0}
 
 -- ---- wanted keys in blocks, each found at once
 
+-- how many wanted keys a block has
+abbrev pub blockSize : ℕ
+blockSize = 32768
+
 -- the block at i of so many wanted keys ends at r
 pub record BlockEnd (i wanted r : ℕ) : Type 0 where
   pub after : i < r
   pub within : r ≤ wanted
-  pub short : r ≤ i + 32768
-  pub whole : (r ≡ wanted → ⊥) → r ≡ i + 32768
+  pub short : r ≤ i + blockSize
+  pub whole : (r ≡ wanted → ⊥) → r ≡ i + blockSize
 
 -- those of the block at i are found, the first of them at r
 pub record BlockFound (ks ws : List ℕ) (i : ℕ) (bs : List ℕ) (r : ℕ) : Type 0 where
   pub first : r ≡ lowest (getD ws i 0) ks
-  pub found : (d : ℕ) → d < 32768 → i + d < length ws → getD bs d 0 ≡ lowest (getD ws (i + d) 0) ks
+  pub found : (d : ℕ) → d < blockSize → i + d < length ws → getD bs d 0 ≡ lowest (getD ws (i + d) 0) ks
 
 -- before the wanted key at i is looked for: those of its block are found, unless it is the first of the block
 pub record Kept (ks ws : List ℕ) (indexed : Bool) (bs : List ℕ) (i : ℕ) : Type 0 where
-  pub room : indexed ≡ true → length bs ≡ 32768
+  pub room : indexed ≡ true → length bs ≡ blockSize
   pub few : indexed ≡ true → length ks < 2 ^ 32
-  pub kept : indexed ≡ true → (i % 32768 ≡ 0 → ⊥) → (d : ℕ) → d < 32768 → i / 32768 * 32768 + d < length ws → getD bs d 0 ≡ lowest (getD ws (i / 32768 * 32768 + d) 0) ks
+  pub kept : indexed ≡ true → (i % blockSize ≡ 0 → ⊥) → (d : ℕ) → d < blockSize → i / blockSize * blockSize + d < length ws
+      → getD bs d 0 ≡ lowest (getD ws (i / blockSize * blockSize + d) 0) ks
 
 -- what an index asks: few enough keys, and room for the positions of a block
 pub record Blocks (ks bs : List ℕ) : Type 0 where
   pub few : length ks < 2 ^ 32
-  pub room : length bs ≡ 32768
+  pub room : length bs ≡ blockSize

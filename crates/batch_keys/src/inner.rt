@@ -7,7 +7,7 @@ ghost use mathlib.Core.Path.{_≡_};
 ghost use lib.Dec.{eqb, ltb};
 ghost use lib.ListN.{length, getD};
 ghost use Rattle.batch_index.specs.Calls.{lowest};
-ghost use Rattle.batch_keys.specs.Workers.{ascends, Known, BlockEnd, BlockFound, Kept};
+ghost use Rattle.batch_keys.specs.Workers.{ascends, Known, blockSize, BlockEnd, BlockFound, Kept};
 ghost use Rattle.column.specs.Lent.{given, after};
 
 // Whether the key stands at a position.
@@ -49,6 +49,30 @@ fn halve(keys: &[u32], key: u32) -> usize
     }
 }
 
+// What is known of keys by looking at each and the one before it.
+pub fn quick_order(keys: &[u32]) -> Order
+    ensures { λ r. ⌜ Known r (given keys) ⌝ }
+{
+    if crate::ascends(keys) {
+        Order::Ascending
+    } else {
+        Order::Unknown
+    }
+}
+
+// What is known of keys by looking at all of them.
+pub fn order_of(keys: &[u32]) -> Order
+    ensures { λ r. ⌜ Known r (given keys) ⌝ }
+{
+    if crate::ascends(keys) {
+        return Order::Ascending;
+    }
+    if batch_index::table::first_duplicate(keys) == keys.len() {
+        return Order::Distinct;
+    }
+    Order::Unknown
+}
+
 // As what is known of the keys allows. Where none is given twice, the key is looked for at `near` first.
 pub fn find(keys: &[u32], order: Order, near: usize, key: u32) -> usize
     requires { ⌜ Known order (now keys) ⌝ }
@@ -72,7 +96,7 @@ pub fn find(keys: &[u32], order: Order, near: usize, key: u32) -> usize
 }
 
 // How many wanted keys are looked for at once.
-const BLOCK: usize = 32_768;
+pub const BLOCK: usize = 32_768;
 
 // Whether a table of the keys is taken to be quicker than a search for each wanted one. The bounds are reckoned.
 pub fn index_pays(order: Order, keys: usize, wanted: usize) -> bool
@@ -109,7 +133,7 @@ fn block_end(i: usize, wanted: usize) -> usize
 
 // Finds the wanted keys of the block at i; the lowest position of the first.
 fn find_block(keys: &[u32], wanted: &[u32], i: usize, block: &mut [u32]) -> usize
-    requires { ⌜ (length (now keys) < 2 ^ 32) × (i < length (now wanted)) × (length (now block) ≡ 32768) ⌝ }
+    requires { ⌜ (length (now keys) < 2 ^ 32) × (i < length (now wanted)) × (length (now block) ≡ blockSize) ⌝ }
     ensures { λ r. ⌜ BlockFound (given keys) (given wanted) i (after block) r ⌝ }
 {
     let end = block_end(i, wanted.len());

@@ -13,7 +13,7 @@ ghost use Rattle.column.specs.Paper.{shownFound};
 ghost use Rattle.column.specs.Questions.{distinctKeys};
 ghost use Rattle.batch_index.specs.Workers.{FirstDouble, every};
 ghost use Rattle.batch_keys.specs.Calls as calls;
-ghost use Rattle.batch_keys.specs.Workers.{ascends, Known};
+ghost use Rattle.batch_keys.specs.Workers.{ascends};
 ghost use Rattle.column.specs.Lent.{given};
 
 // What is known of keys: each is above the one before it; or none is given twice.
@@ -62,30 +62,6 @@ pub fn ask_keys(keys: &[u32]) -> Asked
     } else {
         Asked::Yes
     }
-}
-
-// What is known of keys by looking at each and the one before it.
-pub fn quick_order(keys: &[u32]) -> Order
-    ensures { λ r. ⌜ Known r (given keys) ⌝ }
-{
-    if ascends(keys) {
-        Order::Ascending
-    } else {
-        Order::Unknown
-    }
-}
-
-// What is known of keys by looking at all of them.
-pub fn order_of(keys: &[u32]) -> Order
-    ensures { λ r. ⌜ Known r (given keys) ⌝ }
-{
-    if ascends(keys) {
-        return Order::Ascending;
-    }
-    if batch_index::table::first_duplicate(keys) == keys.len() {
-        return Order::Distinct;
-    }
-    Order::Unknown
 }
 
 // The lowest position of a key.

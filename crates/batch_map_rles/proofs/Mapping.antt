@@ -1,4 +1,4 @@
--- What is done to the sequence of each key: how many runs that leaves, and the new sequences laid flat one behind another.
+-- What is done to the sequence of each key: how many runs that leaves, and the new sequences laid flat one after another.
 -- Assumes nothing.
 use Prim.Native.Nat.{ℕ, zero, suc, _+_, _-_, _*_, _≤_, _<_}
 use mathlib.Core.List.{List, [], _∷_, map}
@@ -21,7 +21,7 @@ use Rattle.column.proofs.FirstNo.{all-yes}
 use Rattle.column.proofs.Rest.{rest-length}
 use Rattle.column.proofs.Rising.{Valid}
 use Rattle.column.proofs.Sequences.{runs-flat, length-ends, length-values}
-use Rattle.slice.specs.declared.search.TouchedRuns.{TouchedRuns}
+use Rattle.slice.specs.declared.inner.search.TouchedRuns.{TouchedRuns}
 use Rattle.slice.specs.Workers.{touchedBy, Touches}
 use Rattle.slice.specs.Calls.{sliceRuns}
 use Rattle.column.proofs.Laying.{length-all}
@@ -32,7 +32,8 @@ use Rattle.transform.proofs.Reversing.{reverse-count}
 use Rattle.batch.specs.Batch.{Batch, batch, Entry, entries, keysOf, columnsOf, WrittenBatch, batchValid, batchNeeds}
 use Rattle.batch.specs.Workers.{ValidBatch, FilledBatch}
 use Rattle.batch.proofs.Asks.{valid-told, Room, batch-room}
-use Rattle.batch.proofs.Entries.{columns-are, columns-many, columns-total, column-is, column-count, part-valid, parts-paired, entries-keys, entries-columns, entries-many}
+use Rattle.batch.proofs.Entries.{columns-are, columns-many, columns-total, column-is, column-count, part-valid, parts-paired, entries-keys, entries-columns}
+use Rattle.batch.proofs.Entries.{entries-many}
 use Rattle.batch.proofs.Laying.{noEntry, LayingBatch, batch-start, batch-next-room, batch-next, batch-end, batch-written}
 use Rattle.batch_map_rles.specs.declared.inner.Mapping.{Mapping}
 use Rattle.batch_map_rles.specs.declared.inner.Mapping.the-variants.{Shift, Reversed, Slice}
@@ -113,7 +114,8 @@ module _ (m : Mapping) (ks os : List ℕ) (es vs : List ℤ) (w : ValidBatch (ba
       ∙ List·getD-map (λ (e : Entry). e .runs) made k noEntry
 
   made-total : total (map length (columnsOf made)) ≤ length es + more m * length ks
-  made-total = rw made-columns (rw (columns-total ks os es vs w, columns-many ks os es vs w) at (all-room m (columns (flat os es vs)) (columns-are ks os es vs w)))
+  made-total = rw made-columns
+      (rw (columns-total ks os es vs w, columns-many ks os es vs w) at (all-room m (columns (flat os es vs)) (columns-are ks os es vs w)))
 
 -- ---- the loop: the new sequences of the first n keys are written
 
@@ -160,7 +162,8 @@ module _ {m : Mapping} {ks os : List ℕ} {es vs : List ℤ} {k₀ x : List ℕ}
 
       module _ {pe pv e₂ v₂ : List ℤ} {r : ℕ} (ee : pe ≡ getD (parts os es) n []) (ev : pv ≡ getD (parts os vs) n [])
           (f : Filled (mapped m (runsOf pe pv)) (take (length e - used) (drop used e)) e₂ (take (length v - used) (drop used v)) v₂ r) where
-        wrote : Filled (getD (results m (batch ks os es vs)) n noEntry .runs) (take (length e - used) (drop used e)) e₂ (take (length v - used) (drop used v)) v₂ r
+        wrote : Filled (getD (results m (batch ks os es vs)) n noEntry .runs) (take (length e - used) (drop used e)) e₂ (take (length v - used) (drop used v))
+            v₂ r
         wrote = rw (ee, ev, made-runs m ks os es vs (q .batch) n h) at f
 
         pub map-used : used + r ≤ length e

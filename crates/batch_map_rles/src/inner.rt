@@ -36,13 +36,13 @@ fn map_runs(
         }
         Mapping::Reversed => transform::inner::reversed(ends, values, out_ends, out_values),
         Mapping::Slice { start, end } => {
-            let touched = slice::search::touched(ends, start, end);
+            let touched = slice::inner::search::touched(ends, start, end);
             slice::inner::slice(ends, values, touched, out_ends, out_values)
         }
     }
 }
 
-// The same keys, each with its new sequence behind those of the keys before it.
+// The same keys, each with its new sequence after those of the keys before it.
 pub fn map_rles(
     keys: &[u32],
     offsets: &[usize],
@@ -54,7 +54,8 @@ pub fn map_rles(
     out_ends: &mut [i64],
     out_values: &mut [i64],
 ) -> usize
-    requires { ⌜ Mappable mapping (batch (now keys) (now offsets) (now ends) (now values)) (now «out_keys») (now «out_offsets») (now «out_ends») (now «out_values») ⌝ }
+    requires { ⌜ Mappable mapping (batch (now keys) (now offsets) (now ends) (now values))
+        (now «out_keys») (now «out_offsets») (now «out_ends») (now «out_values») ⌝ }
     ensures { λ r. ⌜ FillsBatch
         (onEach (mapped mapping) (entries (givenBatch keys offsets ends values))) «out_keys» «out_offsets» «out_ends» «out_values» r ⌝ }
 {

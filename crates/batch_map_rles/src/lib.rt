@@ -30,18 +30,15 @@ fn each_asks(
     ensures { λ r. ⌜ shownAsked
         r ≡ calls.eachAsked (givenBatch keys offsets ends values) runs («out_keys» ∷ «out_offsets» ∷ «out_ends» ∷ «out_values» ∷ []) ⌝ }
 {
-    questions::first_no(
-        batch::ask_batch(keys, offsets, ends, values),
-        batch::ask_room(
-            keys.len(),
-            keys.len() + 1,
-            runs,
-            out_keys,
-            out_offsets,
-            out_ends,
-            out_values,
-        ),
-    )
+    batch::ask_batch(keys, offsets, ends, values).and(batch::ask_room(
+        keys.len(),
+        keys.len() + 1,
+        runs,
+        out_keys,
+        out_offsets,
+        out_ends,
+        out_values,
+    ))
 }
 
 // So many runs are left at most.

@@ -24,7 +24,8 @@ module _ {ks os : List ℕ} {es vs : List ℤ} {gs : List ℕ} {ss ts : List ℤ
 
   module _ {i : ℕ} (h : i < length ss) {x y : ℤ} (ex : x ≡ getD ss i (pos 0)) (ey : y ≡ getD ts i (pos 0))
       {key at : ℕ} (ek : key ≡ getD gs i 0) (ea : at ≡ lowest key ks) {pe : List ℤ} (ee : pe ≡ getD (parts os es) at []) where
-    pub item-reduced : {pv : List ℤ} → pv ≡ getD (parts os vs) at [] → (code : ℕ) (ddof : ℤ) {r : Reduction} → r ≡ reduction code ddof (sliceRuns x y (runsOf pe pv))
+    pub item-reduced : {pv : List ℤ} → pv ≡ getD (parts os vs) at [] → (code : ℕ) (ddof : ℤ) {r : Reduction}
+        → r ≡ reduction code ddof (sliceRuns x y (runsOf pe pv))
         → r ≡ getD (map (reduction code ddof) items) i (reduction code ddof [])
     item-reduced ev code ddof er = er ∙ ap (reduction code ddof) (item-is q h ex ey ek ea ee ev) ∙ sym (List·getD-map (reduction code ddof) items i [])
 

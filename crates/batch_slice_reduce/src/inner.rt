@@ -29,7 +29,8 @@ fn slice_reduce_by(
     out_kinds: &mut [u8],
     out_bits: &mut [u64],
 ) -> usize
-    requires { ⌜ Reducible (batch (now keys) (now offsets) (now ends) (now values)) (now «get_keys») (now starts) (now stops) (now «out_kinds») (now «out_bits») × Known order (now keys) × (indexed ≡ true → Blocks (now keys) (now block)) ⌝ }
+    requires { ⌜ Reducible (batch (now keys) (now offsets) (now ends) (now values)) (now «get_keys») (now starts) (now stops)
+        (now «out_kinds») (now «out_bits») × Known order (now keys) × (indexed ≡ true → Blocks (now keys) (now block)) ⌝ }
     ensures { λ r. ⌜ FilledReductions
         (map (reduction code ddof)
         (itemRuns (given «get_keys») (given starts) (given stops) (entries (givenBatch keys offsets ends values))))
@@ -71,14 +72,15 @@ pub fn slice_reduce(
     out_kinds: &mut [u8],
     out_bits: &mut [u64],
 ) -> usize
-    requires { ⌜ Reducible (batch (now keys) (now offsets) (now ends) (now values)) (now «get_keys») (now starts) (now stops) (now «out_kinds») (now «out_bits») × Known order (now keys) ⌝ }
+    requires { ⌜ Reducible (batch (now keys) (now offsets) (now ends) (now values)) (now «get_keys») (now starts) (now stops)
+        (now «out_kinds») (now «out_bits») × Known order (now keys) ⌝ }
     ensures { λ r. ⌜ FilledReductions
         (map (reduction code ddof)
         (itemRuns (given «get_keys») (given starts) (given stops) (entries (givenBatch keys offsets ends values))))
         (given «out_kinds») (after «out_kinds») (given «out_bits») (after «out_bits») r ⌝ }
 {
     if batch_keys::inner::index_pays(order, keys.len(), get_keys.len()) {
-        let mut block = [0u32; 32768];
+        let mut block = [0u32; batch_keys::inner::BLOCK];
         return slice_reduce_by(
             keys,
             offsets,

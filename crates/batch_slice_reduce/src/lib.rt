@@ -26,21 +26,13 @@ fn slice_reduce_asks(
     ensures { λ r. ⌜ shownAsked r ≡ calls.sliceReduceAsked
         (givenBatch keys offsets ends values) (given «get_keys») (given starts) (given stops) code («out_kinds» ∷ «out_bits» ∷ []) ⌝ }
 {
-    let inside = questions::first_no(
-        questions::ask_intervals(starts, stops),
-        questions::ask_both(starts.len(), out_kinds, out_bits),
-    );
-    let content = questions::first_no(batch::ask_content(keys, offsets, ends, values), inside);
-    let paired = questions::first_no(
-        questions::ask_lengths(8, starts.len(), stops.len()),
-        content,
-    );
-    let keyed = questions::first_no(
-        questions::ask_lengths(7, get_keys.len(), starts.len()),
-        paired,
-    );
-    let lengths = questions::first_no(batch::ask_lengths(keys, offsets, ends, values), keyed);
-    questions::first_no(questions::ask_code(0, 2, code), lengths)
+    questions::ask_code(0, 2, code)
+        .and(batch::ask_lengths(keys, offsets, ends, values))
+        .and(questions::ask_lengths(7, get_keys.len(), starts.len()))
+        .and(questions::ask_lengths(8, starts.len(), stops.len()))
+        .and(batch::ask_content(keys, offsets, ends, values))
+        .and(questions::ask_intervals(starts, stops))
+        .and(questions::ask_both(starts.len(), out_kinds, out_bits))
 }
 
 // The reductions of the slices of intervals, each of a key's sequence.
@@ -75,7 +67,7 @@ pub fn slice_reduce(
     );
     match asked {
         Asked::Yes => {
-            let order = batch_keys::quick_order(keys);
+            let order = batch_keys::inner::quick_order(keys);
             let n = inner::slice_reduce(
                 keys,
                 offsets,

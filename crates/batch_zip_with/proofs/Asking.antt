@@ -22,12 +22,14 @@ use Rattle.batch.specs.Workers.{ValidBatch, NextKept}
 use Rattle.batch.proofs.Entries.{column-count, column-length}
 use Rattle.batch_zip_with.specs.Calls.{Pair, filledPair, filledPairs, pairRuns}
 use Rattle.batch_zip_with.specs.Workers.{AsksPairs}
-use Rattle.batch_zip_with.proofs.Pairs.{pairOf, allPairs, placesIn, placeIn, Stands, pairs-rest, standing-start, standing-pair, standing-next, standing-end}
+use Rattle.batch_zip_with.proofs.Pairs.{pairOf, allPairs, placesIn, placeIn, Stands, pairs-rest, standing-start, standing-pair, standing-next}
+use Rattle.batch_zip_with.proofs.Pairs.{standing-end}
 
 -- one more question, before those that are left
 asked-more : {r b : Question} (a p c : Question) → r ≡ firstNo (a ∷ b ∷ []) → b ≡ p → firstNo (r ∷ c ∷ []) ≡ firstNo (a ∷ firstNo (p ∷ c ∷ []) ∷ [])
 asked-more a p c e h =
-    ap (λ (q : Question). firstNo (q ∷ c ∷ [])) (e ∙ ap (λ (q : Question). firstNo (a ∷ q ∷ [])) h) ∙ sym (first-several (a ∷ p ∷ []) (c ∷ [])) ∙ sym (first-rest a (p ∷ c ∷ []))
+    ap (λ (q : Question). firstNo (q ∷ c ∷ [])) (e ∙ ap (λ (q : Question). firstNo (a ∷ q ∷ [])) h) ∙ sym (first-several (a ∷ p ∷ []) (c ∷ []))
+    ∙ sym (first-rest a (p ∷ c ∷ []))
 
 module _ (how : ℕ) (a b : Batch) (fa fb : Fill) where
   abbrev question : ℕ → Pair → Question
@@ -59,11 +61,13 @@ module _ (how : ℕ) (a b : Batch) (fa fb : Fill) where
           record { filled = sym (first-rest (shownAsked asked) [] ∙ alone (shownAsked asked)) ∙ r; runs = omega (arith, s .shown) }
 
       -- the sequences of the next pair, as the code reads them
-      module _ (h : j .at < placesIn how a b) {left right : List ℤ} (el : left ≡ getD (parts (a .flat .offsets) (a .flat .ends)) (j .a) []) (er : right ≡ getD (parts (b .flat .offsets) (b .flat .ends)) (j .b) []) where
+      module _ (h : j .at < placesIn how a b) {left right : List ℤ} (el : left ≡ getD (parts (a .flat .offsets) (a .flat .ends)) (j .a) [])
+          (er : right ≡ getD (parts (b .flat .offsets) (b .flat .ends)) (j .b) []) where
         next : drop n (allPairs how a b) ≡ pairOf a b j ∷ drop (n + 1) (allPairs how a b)
         next = standing-pair (placeIn how a b) (pairOf a b) (placesIn how a b) (allPairs how a b) (s .stands) h
 
-        filled-asked : {x y : ℤ} {q : Question} → q ≡ filled x y (side x fa ∷ side y fb ∷ []) → x ≡ lengthOfEnds left → y ≡ lengthOfEnds right → q ≡ filledPair fa fb (pairOf a b j)
+        filled-asked : {x y : ℤ} {q : Question} → q ≡ filled x y (side x fa ∷ side y fb ∷ []) → x ≡ lengthOfEnds left → y ≡ lengthOfEnds right
+            → q ≡ filledPair fa fb (pairOf a b j)
         unfolding allFilled
         filled-asked e ex ey =
             e
@@ -71,7 +75,8 @@ module _ (how : ℕ) (a b : Batch) (fa fb : Fill) where
             (ex ∙ ap lengthOfEnds el ∙ column-length (a .keys) (a .flat .offsets) (a .flat .ends) (a .flat .values) va (j .a))
             (ey ∙ ap lengthOfEnds er ∙ column-length (b .keys) (b .flat .offsets) (b .flat .ends) (b .flat .values) vb (j .b))
 
-        pub asking-next : {x y : ℤ} {q p : Question} {asked′ : Asked} {runs′ k : ℕ} {j′ : Joined} → q ≡ filled x y (side x fa ∷ side y fb ∷ []) → x ≡ lengthOfEnds left → y ≡ lengthOfEnds right
+        pub asking-next : {x y : ℤ} {q p : Question} {asked′ : Asked} {runs′ k : ℕ} {j′ : Joined} → q ≡ filled x y (side x fa ∷ side y fb ∷ [])
+            → x ≡ lengthOfEnds left → y ≡ lengthOfEnds right
             → p ≡ inKey n q → shownAsked asked′ ≡ firstNo (shownAsked asked ∷ p ∷ []) → runs′ ≡ saturated (runs + (length left + length right))
             → k ≡ j .at + 1 → NextKept (placeIn how a b) (placesIn how a b) k j′ → Asking asked′ runs′ (n + 1) j′
         unfolding eachFrom
@@ -80,11 +85,13 @@ module _ (how : ℕ) (a b : Batch) (fa fb : Fill) where
           stands = standing-next (placeIn how a b) (pairOf a b) (placesIn how a b) (allPairs how a b) (s .stands) h ek t;
           answer =
               let p = question n (pairOf a b j) in
-              let r : firstNo (shownAsked asked ∷ firstNo (p ∷ eachFrom question (suc n) (drop (n + 1) (allPairs how a b)) ∷ []) ∷ []) ≡ filledPairs fa fb (allPairs how a b) = rw next at (s .answer) in
+              let later = eachFrom question (suc n) (drop (n + 1) (allPairs how a b)) in
+              let r : firstNo (shownAsked asked ∷ firstNo (p ∷ later ∷ []) ∷ []) ≡ filledPairs fa fb (allPairs how a b) = rw next at (s .answer) in
               asked-more (shownAsked asked) p (eachFrom question (n + 1) (drop (n + 1) (allPairs how a b))) ea (ep ∙ ap (inKey n) (filled-asked eq ex ey))
               ∙ ap (λ (i : ℕ). firstNo (shownAsked asked ∷ firstNo (p ∷ eachFrom question i (drop (n + 1) (allPairs how a b)) ∷ []) ∷ [])) (add-one n)
               ∙ r;
           count =
-              let d : total (map pairRuns (drop n (allPairs how a b))) ≡ pairRuns (pairOf a b j) + total (map pairRuns (drop (n + 1) (allPairs how a b))) = ap (λ (ps : List Pair). total (map pairRuns ps)) next in
-              omega (arith, s .count, d, ap length el, ap length er, column-count (a .keys) (a .flat .offsets) (a .flat .ends) (a .flat .values) va (j .a), column-count (b .keys) (b .flat .offsets) (b .flat .ends) (b .flat .values) vb (j .b));
+              let ca = column-count (a .keys) (a .flat .offsets) (a .flat .ends) (a .flat .values) va (j .a) in
+              let cb = column-count (b .keys) (b .flat .offsets) (b .flat .ends) (b .flat .values) vb (j .b) in
+              omega (arith, s .count, ap (λ (ps : List Pair). total (map pairRuns ps)) next, ap length el, ap length er, ca, cb);
         }

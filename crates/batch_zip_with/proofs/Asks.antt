@@ -16,7 +16,7 @@ use Rattle.column.specs.Combine.{valueOf, combined, table, greatestLength, rowA
 use Rattle.column.specs.Lists.{total}
 use Rattle.column.specs.Paper.{PaperRefusal}
 use Rattle.column.specs.Questions.{listed, room}
-use Rattle.column.proofs.FirstNo.{all-yes, asked-next, asked-last}
+use Rattle.column.proofs.FirstNo.{all-yes, asked-last}
 use Rattle.batch.specs.Batch.{Batch, batchNeeds, WrittenBatch, bothValid}
 use Rattle.batch.specs.Workers.{ValidBatch, FilledCounts}
 use Rattle.batch.proofs.Asks.{both-told, batch-room, saturated-room}
@@ -26,10 +26,6 @@ use Rattle.batch_zip_with.specs.Workers.{ZipRoom}
 use Rattle.batch_zip_with.proofs.Pairs.{allPairs}
 
 module _ (a b : Batch) (how code : ℕ) where
-  pub zip-asked : {r s t u w : Question} → r ≡ firstNo (s ∷ t ∷ []) → s ≡ listed 0 3 how → t ≡ firstNo (u ∷ w ∷ []) → u ≡ listed 0 9 code → w ≡ bothValid a b → r ≡ zipAsked a b how code
-  unfolding zipAsked
-  zip-asked hr hs ht hu hw = asked-next (listed 0 3 how) (listed 0 9 code ∷ bothValid a b ∷ []) hr hs (λ y. asked-last (listed 0 9 code) ht hu (λ z. hw))
-
   -- both batches are valid
   pub zip-valid : zipAsked a b how code ≡ none → ValidBatch a × ValidBatch b
   unfolding zipAsked
@@ -47,7 +43,8 @@ module _ (a b : Batch) (how code : ℕ) where
     refused-first buffers h = rw h
 
     module _ (yes : zipAsked a b how code ≡ none) (k x e v : ℕ) where
-      pub all-asked : {r p q : Question} {n : ℕ} → e < 2 ^ 63 → v < 2 ^ 63 → r ≡ firstNo (p ∷ q ∷ []) → p ≡ filledPairs fa fb (allPairs how a b) → n ≡ saturated (total (map pairRuns (allPairs how a b)))
+      pub all-asked : {r p q : Question} {n : ℕ} → e < 2 ^ 63 → v < 2 ^ 63 → r ≡ firstNo (p ∷ q ∷ [])
+          → p ≡ filledPairs fa fb (allPairs how a b) → n ≡ saturated (total (map pairRuns (allPairs how a b)))
           → q ≡ room (batchNeeds (length (a .keys) + length (b .keys)) n) (k ∷ x ∷ e ∷ v ∷ []) → r ≡ allAsked (k ∷ x ∷ e ∷ v ∷ [])
       all-asked he hv hr hp en hq =
           rw yes (asked-last (filledPairs fa fb (allPairs how a b)) hr hp
@@ -56,13 +53,16 @@ module _ (a b : Batch) (how code : ℕ) where
 
     pub zip-room : (k x : List ℕ) (e v : List ℤ) → allAsked (length k ∷ length x ∷ length e ∷ length v ∷ []) ≡ none → ZipRoom a b (allPairs how a b) k x e v
     zip-room k x e v h =
-        let y = all-yes (zipAsked a b how code ∷ filledPairs fa fb (allPairs how a b) ∷ room (zipNeeds a b (allPairs how a b)) (length k ∷ length x ∷ length e ∷ length v ∷ []) ∷ []) h in
+        let y = all-yes (zipAsked a b how code ∷ filledPairs fa fb (allPairs how a b) ∷ room (zipNeeds a b (allPairs how a b))
+        (length k ∷ length x ∷ length e ∷ length v ∷ []) ∷ []) h in
         let w = zip-valid (y .0) in
-        let r = batch-room (length (a .keys) + length (b .keys)) (total (map pairRuns (allPairs how a b))) (length k) (length x) (length e) (length v) (y .1 .1 .0) in
+        let r = batch-room (length (a .keys) + length (b .keys)) (total (map pairRuns (allPairs how a b))) (length k) (length x) (length e) (length v)
+        (y .1 .1 .0) in
         record { first = w .0; second = w .1; room-keys = r .for-keys; room-offsets = r .for-offsets; room-ends = r .for-ends; room-values = r .for-values }
 
     -- a fill that is missing shows nowhere: the result is that of its value
-    pub zip-written : {x y : ℤ} → x ≡ valueOf fa → y ≡ valueOf fb → {k k′ o o′ : List ℕ} {e e′ v v′ : List ℤ} {r : RleBatch} → allAsked (length k ∷ length o ∷ length e ∷ length v ∷ []) ≡ none
+    pub zip-written : {x y : ℤ} → x ≡ valueOf fa → y ≡ valueOf fb → {k k′ o o′ : List ℕ} {e e′ v v′ : List ℤ} {r : RleBatch}
+        → allAsked (length k ∷ length o ∷ length e ∷ length v ∷ []) ≡ none
         → FilledCounts (map (zipPair (operation code) (Value x) (Value y)) (allPairs how a b)) k k′ o o′ e e′ v v′ r
         → WrittenBatch (zipWith a b how fa fb code (length k ∷ length o ∷ length e ∷ length v ∷ [])) (Batched.Batch r) k k′ o o′ e e′ v v′
     unfolding zipWith combined table greatestLength rowAt valueAt

@@ -3,3 +3,4 @@ pub mod Pairs
 pub mod Asks
 pub mod Asking
 pub mod Zipping
+pub mod Examples

@@ -61,7 +61,8 @@ module _ (f : ℕ → Joined) (g : Joined → Pair) where
   from-both (suc c) d n =
       let s : suc c + d ≡ suc (c + d) = omega arith in
       let m : suc n + c ≡ n + suc c = omega arith in
-      let r : pairsFrom (c + d) (suc n) ≡ pairsFrom c (suc n) ++ pairsFrom d (n + suc c) = from-both c d (suc n) ∙ ap (λ (i : ℕ). pairsFrom c (suc n) ++ pairsFrom d i) m in
+      let r : pairsFrom (c + d) (suc n) ≡ pairsFrom c (suc n) ++ pairsFrom d (n + suc c) = from-both c d (suc n)
+      ∙ ap (λ (i : ℕ). pairsFrom c (suc n) ++ pairsFrom d i) m in
       ap (λ (i : ℕ). pairsFrom i n) s
       ∙ by-test (f n .kept)
       (λ t. from-kept (c + d) n t ∙ ap {B = List Pair} (λ l. g (f n) ∷ l) r ∙ ap (λ (l : List Pair). l ++ pairsFrom d (n + suc c)) (sym (from-kept c n t)))
@@ -98,7 +99,8 @@ module _ (f : ℕ → Joined) (g : Joined → Pair) where
 
     rest-next : (d n m : ℕ) → n + d ≡ m → m ≤ places → ((i : ℕ) → n ≤ i → i < m → f i .kept ≡ false) → rest n ≡ rest m
     rest-next zero n m e h b = ap rest (let z : n ≡ m = omega arith in z)
-    rest-next (suc d) n m e h b = rest-passed n (omega arith) (b n (omega arith) (omega arith)) ∙ rest-next d (suc n) m (omega arith) h (λ i k l. b i (omega arith) l)
+    rest-next (suc d) n m e h b = rest-passed n (omega arith) (b n (omega arith) (omega arith))
+        ∙ rest-next d (suc n) m (omega arith) h (λ i k l. b i (omega arith) l)
 
     -- ---- a loop: n pairs are taken, and j is the place of the next
 
@@ -141,7 +143,8 @@ module _ (f : ℕ → Joined) (g : Joined → Pair) where
 
 -- ---- the pairs of two batches
 
-same-pair : {k l : ℕ} {r r′ s s′ : Runs} → k ≡ l → r ≡ r′ → s ≡ s′ → _≡_ {A = Pair} (record { key = k; first = r; second = s }) (record { key = l; first = r′; second = s′ })
+same-pair : {k l : ℕ} {r r′ s s′ : Runs} → k ≡ l → r ≡ r′ → s ≡ s′
+    → _≡_ {A = Pair} (record { key = k; first = r; second = s }) (record { key = l; first = r′; second = s′ })
 same-pair ek er es = rw (ek, er, es)
 
 keep-none : (t : Entry → Bool) → ((e : Entry) → t e ≡ false) → (es : List Entry) → keep t es ≡ []
@@ -151,8 +154,10 @@ keep-none t h (e ∷ es) = rw (h e) (keep-none t h es)
 module _ (b : Batch) (v : ValidBatch b) where
   entry-at : (i : ℕ) → (getD (entries b) i noEntry .key ≡ getD (b .keys) i 0) × (getD (entries b) i noEntry .runs ≡ columnAt b i)
   entry-at i = (
-    sym (List·getD-map (λ (e : Entry). e .key) (entries b) i noEntry) ∙ ap (λ (l : List ℕ). getD l i 0) (entries-keys (b .keys) (b .flat .offsets) (b .flat .ends) (b .flat .values) v),
-    sym (List·getD-map (λ (e : Entry). e .runs) (entries b) i noEntry) ∙ ap (λ (l : List Runs). getD l i []) (entries-columns (b .keys) (b .flat .offsets) (b .flat .ends) (b .flat .values) v),
+    sym (List·getD-map (λ (e : Entry). e .key) (entries b) i noEntry) ∙ ap (λ (l : List ℕ). getD l i 0)
+        (entries-keys (b .keys) (b .flat .offsets) (b .flat .ends) (b .flat .values) v),
+    sym (List·getD-map (λ (e : Entry). e .runs) (entries b) i noEntry) ∙ ap (λ (l : List Runs). getD l i [])
+        (entries-columns (b .keys) (b .flat .offsets) (b .flat .ends) (b .flat .values) v),
   )
 
   many-in : length (entries b) ≡ length (b .keys)
@@ -189,7 +194,8 @@ module _ (how : ℕ) (a b : Batch) where
 
   module _ (va : ValidBatch a) (vb : ValidBatch b) where
     left-place : (i : ℕ) → i < length (a .keys)
-        → (placeIn i .kept ≡ keepsLeft how || has (getD (entries a) i noEntry .key) (entries b)) × (placeIn i .kept ≡ true → pairOf a b (placeIn i) ≡ withRight (entries b) (getD (entries a) i noEntry))
+        → (placeIn i .kept ≡ keepsLeft how || has (getD (entries a) i noEntry .key) (entries b))
+        × (placeIn i .kept ≡ true → pairOf a b (placeIn i) ≡ withRight (entries b) (getD (entries a) i noEntry))
     left-place i h =
         let e = entry-at a va i in
         rw (lt-ltb i (length (a .keys)) h, ← e .0) (
@@ -217,14 +223,17 @@ module _ (how : ℕ) (a b : Batch) where
         ∙ from-entries placeIn (pairOf a b) (λ (e : Entry). keepsRight how && not (has (e .key) (entries a))) rightOnly (entries b) (length (a .keys))
         (λ i l. right-place u i (omega (arith, many-in b vb)))
         ∙ rw u))
-        (λ u. rw u (from-none placeIn (pairOf a b) (length (a .keys)) ∙ sym (ap (map rightOnly) (keep-none (λ (e : Entry). false && not (has (e .key) (entries a))) (λ e. refl) (entries b)))))
+        (λ u. rw u
+        (from-none placeIn (pairOf a b) (length (a .keys))
+        ∙ sym (ap (map rightOnly) (keep-none (λ (e : Entry). false && not (has (e .key) (entries a))) (λ e. refl) (entries b)))))
 
     pub pairs-rest : allPairs ≡ rest placeIn (pairOf a b) placesIn 0
     unfolding pairs
     pairs-rest =
         let z : placesIn - 0 ≡ placesIn = omega arith in
         let y : 0 + length (a .keys) ≡ length (a .keys) = omega arith in
-        let l : pairsFrom placeIn (pairOf a b) (length (a .keys)) 0 ≡ map (withRight (entries b)) (keep (λ (e : Entry). keepsLeft how || has (e .key) (entries b)) (entries a)) =
+        let l : pairsFrom placeIn (pairOf a b) (length (a .keys)) 0 ≡ map (withRight (entries b))
+        (keep (λ (e : Entry). keepsLeft how || has (e .key) (entries b)) (entries a)) =
         ap (λ (c : ℕ). pairsFrom placeIn (pairOf a b) c 0) (sym (many-in a va))
         ∙ from-entries placeIn (pairOf a b) (λ (e : Entry). keepsLeft how || has (e .key) (entries b)) (withRight (entries b)) (entries a) 0
         (λ i h. let x : 0 + i ≡ i = omega arith in rw x (left-place i (omega (arith, many-in a va)))) in

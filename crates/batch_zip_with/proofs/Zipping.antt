@@ -23,7 +23,8 @@ use Rattle.batch.proofs.Entries.{columnAt, column-is, column-count, part-valid,
 use Rattle.batch.proofs.Laying.{noEntry, LayingBatch, batch-start, batch-next, batch-end}
 use Rattle.batch_zip_with.specs.Calls.{Pair, pairRuns, zipPair}
 use Rattle.batch_zip_with.specs.Workers.{ZipRoom}
-use Rattle.batch_zip_with.proofs.Pairs.{pairOf, allPairs, placesIn, placeIn, Stands, pairs-rest, pairs-few, from-total, standing-start, standing-pair, standing-few, standing-next, standing-end}
+use Rattle.batch_zip_with.proofs.Pairs.{pairOf, allPairs, placesIn, placeIn, Stands, pairs-rest, pairs-few, from-total, standing-start, standing-pair}
+use Rattle.batch_zip_with.proofs.Pairs.{standing-few, standing-next, standing-end}
 
 drop-map : {A B : Type 0} (f : A → B) (n : ℕ) (xs : List A) → drop n (map f xs) ≡ map f (drop n xs)
 drop-map f zero xs = refl
@@ -44,14 +45,16 @@ module _ (how : ℕ) (a b : Batch) (op : ℤ → ℤ → ℤ) (fa fb : ℤ) wher
 
   module _ {k₀ y : List ℕ} {e₀ v₀ : List ℤ} (z : ZipRoom a b (allPairs how a b) k₀ y e₀ v₀) where
     few : (j : Joined) → length (zip (pairOf a b j) .runs) ≤ pairRuns (pairOf a b j)
-    few j = two-few op (Value fa) (Value fb) (columnAt a (j .a)) (columnAt b (j .b)) (column-valid (a .keys) (a .flat .offsets) (a .flat .ends) (a .flat .values) (z .first) (j .a))
+    few j = two-few op (Value fa) (Value fb) (columnAt a (j .a)) (columnAt b (j .b))
+        (column-valid (a .keys) (a .flat .offsets) (a .flat .ends) (a .flat .values) (z .first) (j .a))
         (column-valid (b .keys) (b .flat .offsets) (b .flat .ends) (b .flat .values) (z .second) (j .b))
 
     -- the results have no more runs than the pairs
     all-few : total (map length (columnsOf zipped)) ≤ total (map pairRuns (allPairs how a b))
     all-few =
         let e : map length (columnsOf zipped) ≡ map (λ (p : Pair). length (zip p .runs)) (allPairs how a b) = simp map-map in
-        rw (e, pairs-rest how a b (z .first) (z .second)) (from-total (placeIn how a b) (pairOf a b) (λ (p : Pair). length (zip p .runs)) pairRuns few (placesIn how a b - 0) 0)
+        rw (e, pairs-rest how a b (z .first) (z .second))
+        (from-total (placeIn how a b) (pairOf a b) (λ (p : Pair). length (zip p .runs)) pairRuns few (placesIn how a b - 0) 0)
 
     pub zipping-start : {j : Joined} → NextKept (placeIn how a b) (placesIn how a b) 0 j → Zipping k₀ k₀ (set y 0 0) (set y 0 0) e₀ e₀ v₀ v₀ 0 0 j
     zipping-start s = record {
@@ -104,10 +107,14 @@ module _ (how : ℕ) (a b : Batch) (op : ℤ → ℤ → ℤ) (fa fb : ℤ) wher
         )
 
         -- the sequences of the next pair, as the code reads them
-        module _ {ae av be bv : List ℤ} (ea : ae ≡ getD (parts (a .flat .offsets) (a .flat .ends)) (j .a) []) (ew : av ≡ getD (parts (a .flat .offsets) (a .flat .values)) (j .a) [])
+        module _ {ae av be bv : List ℤ} (ea : ae ≡ getD (parts (a .flat .offsets) (a .flat .ends)) (j .a) [])
+            (ew : av ≡ getD (parts (a .flat .offsets) (a .flat .values)) (j .a) [])
             (eb : be ≡ getD (parts (b .flat .offsets) (b .flat .ends)) (j .b) []) (eu : bv ≡ getD (parts (b .flat .offsets) (b .flat .values)) (j .b) []) where
           long : length ae + length be ≡ pairRuns (pairOf a b j)
-          long = omega (arith, ap length ea, ap length eb, column-count (a .keys) (a .flat .offsets) (a .flat .ends) (a .flat .values) (z .first) (j .a), column-count (b .keys) (b .flat .offsets) (b .flat .ends) (b .flat .values) (z .second) (j .b))
+          long =
+              let ca = column-count (a .keys) (a .flat .offsets) (a .flat .ends) (a .flat .values) (z .first) (j .a) in
+              let cb = column-count (b .keys) (b .flat .offsets) (b .flat .ends) (b .flat .values) (z .second) (j .b) in
+              omega (arith, ap length ea, ap length eb, ca, cb)
 
           pub zipping-fits : Zippable (sequence ae av) (sequence be bv) (take (length e - used) (drop used e)) (take (length v - used) (drop used v))
           zipping-fits = record {
@@ -119,18 +126,25 @@ module _ (how : ℕ) (a b : Batch) (op : ℤ → ℤ → ℤ) (fa fb : ℤ) wher
             room-values = rw rest-length (omega (arith, long, zipping-room .1));
           }
 
-          module _ {m : ℕ} {e₂ v₂ : List ℤ} (f : Filled (combined op (sides (sequence ae av) (sequence be bv) (Value fa) (Value fb))) (take (length e - used) (drop used e)) e₂ (take (length v - used) (drop used v)) v₂ m) where
+          module _ {m : ℕ} {e₂ v₂ : List ℤ}
+              (f : Filled (combined op (sides (sequence ae av) (sequence be bv) (Value fa) (Value fb))) (take (length e - used) (drop used e))
+              e₂ (take (length v - used) (drop used v)) v₂ m) where
             filled : Filled (getD zipped n noEntry .runs) (take (length e - used) (drop used e)) e₂ (take (length v - used) (drop used v)) v₂ m
-            filled = rw (entry, column-is (a .keys) (a .flat .offsets) (a .flat .ends) (a .flat .values) (z .first) (j .a), column-is (b .keys) (b .flat .offsets) (b .flat .ends) (b .flat .values) (z .second) (j .b)) (rw (ea, ew, eb, eu) at f)
+            filled =
+                let ca = column-is (a .keys) (a .flat .offsets) (a .flat .ends) (a .flat .values) (z .first) (j .a) in
+                let cb = column-is (b .keys) (b .flat .offsets) (b .flat .ends) (b .flat .values) (z .second) (j .b) in
+                rw (entry, ca, cb) (rw (ea, ew, eb, eu) at f)
 
             pub zipping-used : used + m ≤ length e
             zipping-used = omega (arith, zipping-room .0, few j, filled .count, ap (λ (i : Entry). length (i .runs)) entry)
 
             pub zipping-next : {key i : ℕ} {j′ : Joined} → key ≡ j .key → i ≡ j .at + 1 → NextKept (placeIn how a b) (placesIn how a b) i j′
-                → Zipping k₀ (set k n key) (set y 0 0) (set x (n + 1) (used + m)) e₀ (putMid used (length e - used) e e₂) v₀ (putMid used (length v - used) v v₂) (used + m) (n + 1) j′
+                → Zipping k₀ (set k n key) (set y 0 0) (set x (n + 1) (used + m)) e₀ (putMid used (length e - used) e e₂)
+                v₀ (putMid used (length v - used) v v₂) (used + m) (n + 1) j′
             zipping-next ek ei t = record {
               stands = standing-next (placeIn how a b) (pairOf a b) (placesIn how a b) (allPairs how a b) (s .stands) h ei t;
-              laying = batch-next (s .laying) in-zipped (ek ∙ ap (λ (i : Entry). i .key) (sym entry)) filled (omega (arith, all-few, z .room-ends)) (omega (arith, all-few, z .room-values))
+              laying = batch-next (s .laying) in-zipped (ek ∙ ap (λ (i : Entry). i .key) (sym entry)) filled (omega (arith, all-few, z .room-ends))
+                  (omega (arith, all-few, z .room-values))
                   (omega (arith, all-in, z .room-offsets, length-set y 0 0)) (omega (arith, all-in, z .room-keys));
               left = omega (arith, left-next, few j, filled .count, ap (λ (i : Entry). length (i .runs)) entry);
             }

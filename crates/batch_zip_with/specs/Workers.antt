@@ -30,7 +30,7 @@ pairAt how ka kb n =
     (record { at = n; kept = keepsLeft how || ltb (lowest left kb) (length kb); key = left; a = n; b = lowest left kb })
     (record { at = n; kept = not (ltb (lowest right ka) (length ka)); key = right; a = lowest right ka; b = n - length ka })
 
--- 10 of all pairs, and how many runs they have; at most 2^64 − 1 is told
+-- 10 of all pairs, and how many runs they have, saturating at 2^64 − 1
 pub record AsksPairs (fa fb : Fill) (ps : List Pair) (r : PairsAsked) : Type 0 where
   pub filled : shownAsked (r .asked) ≡ filledPairs fa fb ps
   pub runs : r .runs ≡ saturated (total (map pairRuns ps))

@@ -14,6 +14,7 @@ ghost use mathlib.Core.Path.{_≡_};
 ghost use lib.ListN.{length};
 ghost use Rattle.num.specs.Numbers.{operation};
 ghost use Rattle.column.specs.declared.answer.Fill.the-variants.{Value};
+ghost use Rattle.batch_keys.specs.Workers.{blockSize};
 ghost use Rattle.batch.specs.Batch.{batch, entries, givenBatch};
 ghost use Rattle.batch.specs.Workers.{ValidBatch, NextKept, KnownKeys, KeptOther, FillsCounts};
 ghost use Rattle.batch_zip_with.specs.Calls.{keepsLeft, keepsRight, pairs, zipPair};
@@ -47,7 +48,7 @@ fn either(first: bool, second: bool) -> bool
     second
 }
 
-// How many places there are: the right's keys stand behind the left's where its own are kept.
+// How many places there are: the right's keys come after the left's where its own are kept.
 fn places(how: u8, a_keys: usize, b_keys: usize) -> usize
     requires { ⌜ «a_keys» + «b_keys» < 2 ^ 64 ⌝ }
     ensures { λ r. ⌜ r ≡ placesOf how «a_keys» «b_keys» ⌝ }
@@ -68,7 +69,8 @@ fn pair_at(
     near: usize,
     block: &mut [u32],
 ) -> Joined
-    requires { ⌜ KnownKeys (now «a_keys») (now «b_keys») lookup × (at < length (now «a_keys») + length (now «b_keys»)) × KeptOther (now «a_keys») (now «b_keys») (lookup .indexed) (now block) at ⌝ }
+    requires { ⌜ KnownKeys (now «a_keys») (now «b_keys») lookup × (at < length (now «a_keys») + length (now «b_keys»))
+        × KeptOther (now «a_keys») (now «b_keys») (lookup .indexed) (now block) at ⌝ }
     ensures { λ r. ⌜ (r ≡ pairAt how (given «a_keys») (given «b_keys») at)
         × KeptOther (given «a_keys») (given «b_keys») (lookup .indexed) (after block) (at + 1) ⌝ }
 {
@@ -96,22 +98,22 @@ fn pair_at(
     }
 }
 
-// Behind a position of the other batch, or `near` where it is past the last.
-fn behind(position: usize, keys: usize, near: usize) -> usize {
+// After a position of the other batch, or `near` where it is past the last.
+fn next_after(position: usize, keys: usize, near: usize) -> usize {
     if position < keys {
         return position + 1;
     }
     near
 }
 
-// Where the next key is looked for first: behind the last that was found.
+// Where the next key is looked for first: after the last that was found.
 fn near_after(pair: Joined, a_keys: usize, b_keys: usize, near: usize) -> usize {
     let a = pair.a;
     let b = pair.b;
     if pair.at < a_keys {
-        return behind(b, b_keys, near);
+        return next_after(b, b_keys, near);
     }
-    behind(a, a_keys, near)
+    next_after(a, a_keys, near)
 }
 
 // The next pair of the join, from a place on; at the number of places where there is none.
@@ -124,7 +126,8 @@ fn next_pair(
     first_near: usize,
     block: &mut [u32],
 ) -> Joined
-    requires { ⌜ KnownKeys (now «a_keys») (now «b_keys») lookup × (from ≤ placesOf how (length (now «a_keys»)) (length (now «b_keys»))) × KeptOther (now «a_keys») (now «b_keys») (lookup .indexed) (now block) from ⌝ }
+    requires { ⌜ KnownKeys (now «a_keys») (now «b_keys») lookup × (from ≤ placesOf how (length (now «a_keys»)) (length (now «b_keys»)))
+        × KeptOther (now «a_keys») (now «b_keys») (lookup .indexed) (now block) from ⌝ }
     ensures { λ r. ⌜ NextKept (pairAt how (given «a_keys») (given «b_keys»))
         (placesOf how (length (given «a_keys»)) (length (given «b_keys»))) from r ×
         (r .at < placesOf how (length (given «a_keys»))
@@ -150,7 +153,7 @@ fn next_pair(
     }
 }
 
-// 10 of all pairs, and how many runs they have; at most usize::MAX is told.
+// 10 of all pairs, and how many runs they have, saturating at usize::MAX.
 pub struct PairsAsked {
     pub asked: Asked,
     pub runs: usize,
@@ -171,8 +174,9 @@ pub fn ask_pairs(
     fill_b: Fill,
     block: &mut [u32],
 ) -> PairsAsked
-    requires { ⌜ ValidBatch (batch (now «a_keys») (now «a_offsets») (now «a_ends») (now «a_values»)) × ValidBatch (batch (now «b_keys») (now «b_offsets») (now «b_ends») (now «b_values»))
-        × KnownKeys (now «a_keys») (now «b_keys») lookup × (lookup .indexed ≡ true → length (now block) ≡ 32768) ⌝ }
+    requires { ⌜ ValidBatch (batch (now «a_keys») (now «a_offsets») (now «a_ends») (now «a_values»))
+        × ValidBatch (batch (now «b_keys») (now «b_offsets») (now «b_ends») (now «b_values»))
+        × KnownKeys (now «a_keys») (now «b_keys») lookup × (lookup .indexed ≡ true → length (now block) ≡ blockSize) ⌝ }
     ensures { λ r. ⌜ AsksPairs «fill_a» «fill_b»
         (pairs how (entries (givenBatch «a_keys» «a_offsets» «a_ends» «a_values»))
         (entries (givenBatch «b_keys» «b_offsets» «b_ends» «b_values»))) r ⌝ }
@@ -193,7 +197,7 @@ pub fn ask_pairs(
             fill_a,
             fill_b,
         );
-        asked = questions::first_no(asked, questions::in_key(filled, n));
+        asked = asked.and(questions::in_key(filled, n));
         runs = num::saturating_add(runs, left.len() + right.len());
         n += 1;
         near = near_after(pair, a_keys.len(), b_keys.len(), near);
@@ -202,7 +206,7 @@ pub fn ask_pairs(
     PairsAsked { asked, runs }
 }
 
-// Each pair of the join combined, behind those before it.
+// Each pair of the join combined, after those before it.
 pub fn zip_pairs(
     a_keys: &[u32],
     a_offsets: &[usize],
@@ -223,8 +227,12 @@ pub fn zip_pairs(
     out_ends: &mut [i64],
     out_values: &mut [i64],
 ) -> RleBatch
-    requires { ⌜ ZipRoom (batch (now «a_keys») (now «a_offsets») (now «a_ends») (now «a_values»)) (batch (now «b_keys») (now «b_offsets») (now «b_ends») (now «b_values»))
-        (pairs how (entries (batch (now «a_keys») (now «a_offsets») (now «a_ends») (now «a_values»))) (entries (batch (now «b_keys») (now «b_offsets») (now «b_ends») (now «b_values»)))) (now «out_keys») (now «out_offsets») (now «out_ends») (now «out_values») × KnownKeys (now «a_keys») (now «b_keys») lookup × (lookup .indexed ≡ true → length (now block) ≡ 32768) ⌝ }
+    requires { ⌜ ZipRoom (batch (now «a_keys») (now «a_offsets») (now «a_ends») (now «a_values»))
+        (batch (now «b_keys») (now «b_offsets») (now «b_ends») (now «b_values»))
+        (pairs how (entries (batch (now «a_keys») (now «a_offsets») (now «a_ends») (now «a_values»)))
+        (entries (batch (now «b_keys») (now «b_offsets») (now «b_ends») (now «b_values»))))
+        (now «out_keys») (now «out_offsets») (now «out_ends») (now «out_values»)
+        × KnownKeys (now «a_keys») (now «b_keys») lookup × (lookup .indexed ≡ true → length (now block) ≡ blockSize) ⌝ }
     ensures { λ r. ⌜ FillsCounts
         (map (zipPair (operation code) (Value «fill_a») (Value «fill_b»))
         (pairs how (entries (givenBatch «a_keys» «a_offsets» «a_ends» «a_values»))

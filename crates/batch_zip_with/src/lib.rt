@@ -11,6 +11,7 @@ ghost use mathlib.Core.Option.{none};
 ghost use mathlib.Core.Path.{_≡_};
 ghost use lib.ListN.{length};
 ghost use Rattle.column.specs.Asking.{shownAsked};
+ghost use Rattle.batch_keys.specs.Workers.{blockSize};
 ghost use Rattle.batch.specs.Batch.{batch, WritesBatch, givenBatch};
 ghost use Rattle.batch.specs.Workers.{KnownKeys};
 ghost use Rattle.batch_zip_with.specs.Calls as calls;
@@ -30,9 +31,9 @@ fn zip_asks(
     ensures { λ r. ⌜ shownAsked r ≡ calls.zipAsked
         (givenBatch «a_keys» «a_offsets» «a_ends» «a_values») (givenBatch «b_keys» «b_offsets» «b_ends» «b_values») how code ⌝ }
 {
-    let valid = questions::first_no(
-        questions::ask_code(0, 9, code),
-        batch::two::ask_batches(
+    questions::ask_code(0, 3, how)
+        .and(questions::ask_code(0, 9, code))
+        .and(batch::two::ask_batches(
             a_keys,
             a_offsets,
             a_ends,
@@ -41,9 +42,7 @@ fn zip_asks(
             b_offsets,
             b_ends,
             b_values,
-        ),
-    );
-    questions::first_no(questions::ask_code(0, 3, how), valid)
+        ))
 }
 
 // With what is known of the keys, and a block for the positions of those that are indexed.
@@ -67,8 +66,9 @@ fn zip_with_by(
     out_ends: &mut [i64],
     out_values: &mut [i64],
 ) -> Batched
-    requires { ⌜ (calls.zipAsked (batch (now «a_keys») (now «a_offsets») (now «a_ends») (now «a_values»)) (batch (now «b_keys») (now «b_offsets») (now «b_ends») (now «b_values»)) how code ≡ none)
-        × KnownKeys (now «a_keys») (now «b_keys») lookup × (lookup .indexed ≡ true → length (now block) ≡ 32768) ⌝ }
+    requires { ⌜ (calls.zipAsked (batch (now «a_keys») (now «a_offsets») (now «a_ends») (now «a_values»))
+        (batch (now «b_keys») (now «b_offsets») (now «b_ends») (now «b_values»)) how code ≡ none)
+        × KnownKeys (now «a_keys») (now «b_keys») lookup × (lookup .indexed ≡ true → length (now block) ≡ blockSize) ⌝ }
     ensures { λ r. ⌜ WritesBatch
         (calls.zipWith (givenBatch «a_keys» «a_offsets» «a_ends» «a_values») (givenBatch «b_keys» «b_offsets» «b_ends» «b_values»)
         how «fill_a» «fill_b» code) «out_keys» «out_offsets» «out_ends» «out_values» r ⌝ }
@@ -89,7 +89,8 @@ fn zip_with_by(
         &mut *block,
     );
     let keys = a_keys.len() + b_keys.len();
-    let room = batch::ask_room(
+    let filled = pairs.asked;
+    let fits = filled.and(batch::ask_room(
         keys,
         keys + 1,
         pairs.runs,
@@ -97,9 +98,7 @@ fn zip_with_by(
         out_offsets.len(),
         out_ends.len(),
         out_values.len(),
-    );
-    let filled = pairs.asked;
-    let fits = questions::first_no(filled, room);
+    ));
     match fits {
         Asked::Yes => {
             let joined = inner::zip_pairs(
@@ -169,7 +168,7 @@ pub fn zip_with(
     }
     let lookup = lookup_of(a_keys, b_keys);
     if lookup.indexed {
-        let mut block = [0u32; 32768];
+        let mut block = [0u32; batch_keys::inner::BLOCK];
         return zip_with_by(
             a_keys,
             a_offsets,

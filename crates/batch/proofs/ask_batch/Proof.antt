@@ -1,4 +1,4 @@
-use Rattle.column.proofs.FirstNo.{asked-last}
+use Rattle.column.proofs.FirstNo.{asks-first, asks-then}
 use Rattle.batch.specs.Batch.{batchValid}
 use borrow.Author.Needs.{needs}
 use Rattle.batch.proofs.ask_batch.Statement.{statement}
@@ -10,13 +10,12 @@ ask-lengths-requires c κs = search needs
 ask-content-requires : tie.Need-ask-content-requires
 ask-content-requires c κs = search needs
 
-first-no-requires : tie.Need-first-no-requires
-first-no-requires c κs = search needs
+and-requires : tie.Need-and-requires
+and-requires c κs = search needs
 
 returns : tie.Need-returns
 unfolding batchValid
-returns c = asked-last _ (c .first-no .ensures) (c .before .before .ask-lengths .ensures) (λ y. c .before .ask-content .ensures)
+returns c = asks-then (asks-first (c .before .before .ask-lengths .ensures)) (c .and .ensures) (λ y. c .before .ask-content .ensures) .told
 
 pub ask-batch-spec : {M : Type 1} → statement M
-ask-batch-spec =
-    tie.close (tie.spec ask-lengths-requires ask-content-requires first-no-requires returns)
+ask-batch-spec = tie.close (tie.spec ask-lengths-requires ask-content-requires and-requires returns)

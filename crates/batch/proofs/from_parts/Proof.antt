@@ -3,7 +3,7 @@ use mathlib.Core.Path.{_≡_, refl}
 use denote.Ref.{now}
 use Rattle.column.specs.Asking.{shownAsked, firstNo}
 use Rattle.column.specs.Questions.{distinctKeys}
-use Rattle.column.proofs.FirstNo.{asked-last}
+use Rattle.column.proofs.FirstNo.{asks-first, asks-then}
 use Rattle.column.proofs.Promised.{asked-yes, asked-no, value-answered, value-refused}
 use Rattle.batch.specs.Batch.{batch, batchValid}
 use Rattle.batch.specs.Calls.{fromParts}
@@ -12,9 +12,10 @@ use Rattle.batch.proofs.from_parts.Statement.{statement}
 use Rattle.batch.proofs.from_parts.Tie as tie
 
 -- the questions
-asked : (c : tie.After-first-no) → let a = c .before .before .before .before .before .args in
-    shownAsked (c .first-no .result) ≡ firstNo (batchValid (batch (now (a .keys)) (now (a .offsets)) (now (a .ends)) (now (a .values))) ∷ distinctKeys (now (a .keys)) ∷ [])
-asked c = asked-last _ (c .first-no .ensures) (c .before .before .ask-batch .ensures) (λ y. c .before .ask-keys .ensures)
+asked : (c : tie.After-and) → let a = c .before .before .before .before .before .args in
+    shownAsked (c .and .result) ≡ firstNo
+    (batchValid (batch (now (a .keys)) (now (a .offsets)) (now (a .ends)) (now (a .values))) ∷ distinctKeys (now (a .keys)) ∷ [])
+asked c = asks-then (asks-first (c .before .before .ask-batch .ensures)) (c .and .ensures) (λ y. c .before .ask-keys .ensures) .told
 
 ask-batch-requires : tie.Need-ask-batch-requires
 ask-batch-requires c κs = search needs
@@ -22,8 +23,8 @@ ask-batch-requires c κs = search needs
 ask-keys-requires : tie.Need-ask-keys-requires
 ask-keys-requires c κs = search needs
 
-first-no-requires : tie.Need-first-no-requires
-first-no-requires c κs = search needs
+and-requires : tie.Need-and-requires
+and-requires c κs = search needs
 
 enum-told : tie.Need-enum-told
 enum-told c = search needs
@@ -45,7 +46,7 @@ from-parts-spec =
     (tie.spec
     ask-batch-requires
     ask-keys-requires
-    first-no-requires
+    and-requires
     enum-told
     enum-known-asked
     returns

@@ -10,20 +10,22 @@ use Rattle.batch.proofs.get.Statement.{statement}
 use Rattle.batch.proofs.get.Tie as tie
 
 -- the questions
-asked : (c : tie.After-first-no) → let a = c .before .before .before .before .before .before .before .before .args in
-    shownAsked (c .first-no .result) ≡ getAsked (now (a .keys)) (now (a .offsets)) (now (a .ends)) (now (a .values)) (a .key) (length (now (a .out-ends))) (length (now (a .out-values)))
+asked : (c : tie.After-and) → let a = c .before .before .before .before .before .before .before .before .args in
+    shownAsked (c .and .result) ≡ getAsked (now (a .keys)) (now (a .offsets)) (now (a .ends)) (now (a .values)) (a .key) (length (now (a .out-ends)))
+    (length (now (a .out-values)))
 asked c = let p = c .before .before .before .before in
     let a = p .before .before .before .before .args in
-    get-asked (now (a .keys)) (now (a .offsets)) (now (a .ends)) (now (a .values)) (a .key) (p .before .scan .ensures) (length (now (a .out-ends))) (length (now (a .out-values)))
-    (ap length (p .part-at .ensures)) (c .first-no .ensures) (c .before .before .ask-batch .ensures) (c .before .ask-both .ensures)
+    get-asked _ _ _ _ _ (p .before .scan .ensures) (length (now (a .out-ends))) (length (now (a .out-values))) (ap length (p .part-at .ensures))
+    (c .and .ensures) (c .before .before .ask-batch .ensures) (c .before .ask-both .ensures)
 
 -- there is room for the runs
 fits : (c : tie.After-enum-told) → let p = c .before .before .before .before .before .before in let a = p .before .before .before .before .args in
-    (length (now (p .part-at .result)) ≤ length (now (a .out-ends))) × (length (now (c .before .before .before .before .before .part-at2 .result)) ≤ length (now (a .out-values)))
+    (length (now (p .part-at .result)) ≤ length (now (a .out-ends)))
+    × (length (now (c .before .before .before .before .before .part-at2 .result)) ≤ length (now (a .out-values)))
 fits c = let f = c .before .before in
     let p = f .before .before .before .before in
     let a = p .before .before .before .before .args in
-    let r = get-room (now (a .keys)) (now (a .offsets)) (now (a .ends)) (now (a .values)) (a .key) (p .before .scan .ensures) (now (a .out-ends)) (now (a .out-values)) (asked-yes (asked f) (c .enum-told .given .1)) in
+    let r = get-room _ _ _ _ _ (p .before .scan .ensures) (now (a .out-ends)) (now (a .out-values)) (asked-yes (asked f) (c .enum-told .given .1)) in
     (rw (p .part-at .ensures) (r .0), rw (f .before .before .before .part-at2 .ensures) (r .1))
 
 scan-requires : tie.Need-scan-requires
@@ -41,8 +43,8 @@ ask-batch-requires c κs = search needs
 ask-both-requires : tie.Need-ask-both-requires
 ask-both-requires c κs = search needs
 
-first-no-requires : tie.Need-first-no-requires
-first-no-requires c κs = search needs
+and-requires : tie.Need-and-requires
+and-requires c κs = search needs
 
 enum-told : tie.Need-enum-told
 enum-told c = search needs
@@ -52,7 +54,7 @@ returns c = let t = c .before in
     let f = t .before .before in
     let p = f .before .before .before .before in
     let a = p .before .before .before .before .args in
-    got-nothing (now (a .keys)) (now (a .offsets)) (now (a .ends)) (now (a .values)) (a .key) (p .before .scan .ensures) (now (a .out-ends)) (now (a .out-values)) (asked-yes (asked f) (t .enum-told .given .1)) (c .if1 .taken)
+    got-nothing _ _ _ _ _ (p .before .scan .ensures) (now (a .out-ends)) (now (a .out-values)) (asked-yes (asked f) (t .enum-told .given .1)) (c .if1 .taken)
 
 copy-requires : tie.Need-copy-requires
 copy-requires c κs = fits (c .before .before) .0
@@ -70,20 +72,25 @@ same-length-2 : tie.Need-same-length-2
 same-length-2 c = search needs
 
 returns-2 : tie.Need-returns-2
-returns-2 c = let k = c .before .before .before .before in
-    let l = k .before .before in
-    let t = l .before in
-    let f = t .before .before in
-    let p = f .before .before .before .before in
-    let a = p .before .before .before .before .args in
-    got-runs (now (a .keys)) (now (a .offsets)) (now (a .ends)) (now (a .values)) (a .key) (p .before .scan .ensures) (now (a .out-ends)) (now (a .out-values)) (asked-yes (asked f) (t .enum-told .given .1)) (l .if1 .left)
-    (ap length (p .part-at .ensures)) (rw (p .part-at .ensures) at (k .copy .ensures)) (rw (f .before .before .before .part-at2 .ensures) at (c .before .copy2 .ensures))
+returns-2 c = let copy2 = c .before in
+    let copy = copy2 .before .before .before in
+    let if1 = copy .before .before in
+    let told = if1 .before in
+    let place = told .before .before in
+    let part-at2 = place .before .before .before in
+    let part-at = part-at2 .before in
+    let scan = part-at .before in
+    let start = scan .before .before .before in
+    let a = start .args in
+    got-runs _ _ _ _ _ (scan .scan .ensures) (now (a .out-ends)) (now (a .out-values)) (asked-yes (asked place) (told .enum-told .given .1)) (if1 .if1 .left)
+    (ap length (part-at .part-at .ensures)) (rw (part-at .part-at .ensures) at (copy .copy .ensures))
+    (rw (part-at2 .part-at2 .ensures) at (copy2 .copy2 .ensures))
 
 returns-3 : tie.Need-returns-3
 returns-3 c = let f = c .before .before .before in
     let p = f .before .before .before .before in
     let a = p .before .before .before .before .args in
-    got-refused (now (a .keys)) (now (a .offsets)) (now (a .ends)) (now (a .values)) (a .key) (p .before .scan .ensures) (now (a .out-ends)) (now (a .out-values)) (asked-no _ (asked f) (c .before .asked .given .1))
+    got-refused _ _ _ _ _ (p .before .scan .ensures) (now (a .out-ends)) (now (a .out-values)) (asked-no _ (asked f) (c .before .asked .given .1))
 
 pub get-spec : {M : Type 1} → statement M
 get-spec =
@@ -94,7 +101,7 @@ get-spec =
     part-at-requires-2
     ask-batch-requires
     ask-both-requires
-    first-no-requires
+    and-requires
     enum-told
     returns
     copy-requires

@@ -64,8 +64,8 @@ fn index_pays(a_keys: &[u32], b_keys: &[u32], a_order: Order, b_order: Order) ->
 pub fn lookup_of(a_keys: &[u32], b_keys: &[u32]) -> Lookup
     ensures { λ r. ⌜ KnownKeys (given «a_keys») (given «b_keys») r ⌝ }
 {
-    let a = batch_keys::order_of(a_keys);
-    let b = batch_keys::order_of(b_keys);
+    let a = batch_keys::inner::order_of(a_keys);
+    let b = batch_keys::inner::order_of(b_keys);
     let indexed = index_pays(a_keys, b_keys, a, b);
     Lookup { a, b, indexed }
 }
@@ -79,7 +79,8 @@ pub fn find_other(
     near: usize,
     block: &mut [u32],
 ) -> usize
-    requires { ⌜ KnownKeys (now «a_keys») (now «b_keys») lookup × (at < length (now «a_keys») + length (now «b_keys»)) × KeptOther (now «a_keys») (now «b_keys») (lookup .indexed) (now block) at ⌝ }
+    requires { ⌜ KnownKeys (now «a_keys») (now «b_keys») lookup × (at < length (now «a_keys») + length (now «b_keys»))
+        × KeptOther (now «a_keys») (now «b_keys») (lookup .indexed) (now block) at ⌝ }
     ensures { λ r. ⌜ (r ≡ otherAt (given «a_keys») (given «b_keys») at)
         × KeptOther (given «a_keys») (given «b_keys») (lookup .indexed) (after block) (at + 1) ⌝ }
 {

@@ -1,4 +1,6 @@
-use Rattle.batch_collapse.proofs.Asks.{pair-asked}
+use mathlib.Core.Path.{_∙_}
+use Rattle.column.proofs.FirstNo.{asks-first, asks-then}
+use Rattle.batch_collapse.proofs.Asks.{rooms-together}
 use borrow.Author.Needs.{needs}
 use Rattle.batch_collapse.proofs.ask_room.Statement.{statement}
 use Rattle.batch_collapse.proofs.ask_room.Tie as tie
@@ -9,18 +11,19 @@ ask-room-requires c κs = search needs
 ask-room-requires-2 : tie.Need-ask-room-requires-2
 ask-room-requires-2 c κs = search needs
 
-first-no-requires : tie.Need-first-no-requires
-first-no-requires c κs = search needs
+and-requires : tie.Need-and-requires
+and-requires c κs = search needs
 
 ask-room-requires-3 : tie.Need-ask-room-requires-3
 ask-room-requires-3 c κs = search needs
 
-first-no-requires-2 : tie.Need-first-no-requires-2
-first-no-requires-2 c κs = search needs
+and-requires-2 : tie.Need-and-requires-2
+and-requires-2 c κs = search needs
 
 returns : tie.Need-returns
-returns c = λ eo es. let p = c .before .before in
-    pair-asked _ _ _ _ _ _ _ _ (c .first-no2 .ensures) (c .before .ask-room3 .ensures eo) (p .first-no .ensures) es (p .before .before .ask-room .ensures) (p .before .ask-room2 .ensures)
+returns c = let ends = c .before .before in
+    let asked = asks-then (asks-first (ends .before .before .ask-room .ensures)) (ends .and .ensures) (λ y. ends .before .ask-room2 .ensures) in
+    asks-then asked (c .and2 .ensures) (λ y. c .before .ask-room3 .ensures) .told ∙ rooms-together _ _ _ _ _ _ _ _ _ _
 
 pub ask-room-spec : {M : Type 1} → statement M
 ask-room-spec =
@@ -28,7 +31,7 @@ ask-room-spec =
     (tie.spec
     ask-room-requires
     ask-room-requires-2
-    first-no-requires
+    and-requires
     ask-room-requires-3
-    first-no-requires-2
+    and-requires-2
     returns)

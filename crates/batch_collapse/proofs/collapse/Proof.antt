@@ -1,6 +1,5 @@
 use mathlib.Core.Option.{none}
-use mathlib.Core.Path.{_≡_, refl, _∙_}
-use native.Mathlib.Omega.{arith}
+use mathlib.Core.Path.{_≡_, _∙_}
 use denote.Ref.{now}
 use Rattle.num.proofs.Bits.{back}
 use Rattle.column.specs.Asking.{shownAsked}
@@ -19,14 +18,14 @@ yes : (c : tie.After-enum-told) → let a = c .before .before .before .before .b
 yes c = asked-yes (c .before .before .collapse-asks .ensures) (c .enum-told .given .1)
 
 -- all of them
-asked : (c : tie.After-first-no) → let a = c .before .before .before .before .before .before .before .before .before .before .before .before .args in
-    shownAsked (c .first-no .result) ≡ allAsked (now (a .keys)) (now (a .offsets)) (now (a .ends)) (now (a .values)) (now (a .new-keys)) (a .fill) (a .code)
+asked : (c : tie.After-and) → let a = c .before .before .before .before .before .before .before .before .before .before .before .before .args in
+    shownAsked (c .and .result) ≡ allAsked (now (a .keys)) (now (a .offsets)) (now (a .ends)) (now (a .values)) (now (a .new-keys)) (a .fill) (a .code)
     (now (a .out-keys)) (now (a .out-offsets)) (now (a .out-ends)) (now (a .out-values)) (now (a .scratch-ends)) (now (a .scratch-values))
 asked c = let t = c .before .before .before .before in
     let a = t .before .before .before .before .before .before .before .before .args in
-    all-asked (now (a .keys)) (now (a .offsets)) (now (a .ends)) (now (a .values)) (now (a .new-keys)) (a .fill) (a .code)
-    (now (a .out-keys)) (now (a .out-offsets)) (now (a .out-ends)) (now (a .out-values)) (now (a .scratch-ends)) (now (a .scratch-values)) (yes t)
-    (c .first-no .ensures) (c .before .ask-groups .ensures) (c .before .before .ask-room .ensures refl (omega arith))
+    all-asked (now (a .keys)) (now (a .offsets)) (now (a .ends)) (now (a .values)) (now (a .new-keys)) (a .fill) (a .code) (now (a .out-keys))
+    (now (a .out-offsets)) (now (a .out-ends)) (now (a .out-values)) (now (a .scratch-ends)) (now (a .scratch-values)) (yes t) (c .and .ensures)
+    (c .before .before .ask-groups .ensures) (c .before .ask-room .ensures)
 
 collapse-asks-requires : tie.Need-collapse-asks-requires
 collapse-asks-requires c κs = search needs
@@ -40,12 +39,16 @@ enum-known-asked c = search needs
 returns : tie.Need-returns
 returns c = let t = c .before .before .before in
     let a = t .before .before .before .before .before .before .args in
-    collapse-refused _ _ _ _ _ _ _ _ _ _ _ _ _ (all-refused (now (a .keys)) (now (a .offsets)) (now (a .ends)) (now (a .values)) (now (a .new-keys)) (a .fill) (a .code)
-    (now (a .out-keys)) (now (a .out-offsets)) (now (a .out-ends)) (now (a .out-values)) (now (a .scratch-ends)) (now (a .scratch-values))
+    collapse-refused _ _ _ _ _ _ _ _ _ _ _ _ _
+    (all-refused (now (a .keys)) (now (a .offsets)) (now (a .ends)) (now (a .values)) (now (a .new-keys)) (a .fill) (a .code) (now (a .out-keys))
+    (now (a .out-offsets)) (now (a .out-ends)) (now (a .out-values)) (now (a .scratch-ends)) (now (a .scratch-values))
     (asked-no _ (t .collapse-asks .ensures) (c .before .asked .given .1)))
 
 stand-together-requires : tie.Need-stand-together-requires
 stand-together-requires c κs = search needs
+
+ask-groups-requires : tie.Need-ask-groups-requires
+ask-groups-requires c κs = grouped _ _ _ _ _ _ (yes (c .before)) (c .stand-together .ensures)
 
 add-ask-room : tie.Need-add-ask-room
 add-ask-room c = search needs
@@ -56,14 +59,8 @@ mul-ask-room c = search needs
 ask-room-requires : tie.Need-ask-room-requires
 ask-room-requires c κs = search needs
 
-ask-groups-requires : tie.Need-ask-groups-requires
-ask-groups-requires c κs = let t = c .before .before in
-    let a = t .before .before .before .before .before .before .before .before .args in
-    grouped (now (a .keys)) (now (a .offsets)) (now (a .ends)) (now (a .values)) (now (a .new-keys)) (a .fill) (a .code)
-    (now (a .out-keys)) (now (a .out-offsets)) (now (a .out-ends)) (now (a .out-values)) (now (a .scratch-ends)) (now (a .scratch-values)) (yes t) (c .before .stand-together .ensures)
-
-first-no-requires : tie.Need-first-no-requires
-first-no-requires c κs = search needs
+and-requires : tie.Need-and-requires
+and-requires c κs = search needs
 
 enum-told-2 : tie.Need-enum-told-2
 enum-told-2 c = search needs
@@ -74,12 +71,9 @@ value-requires c κs = search needs
 collapse-requires : tie.Need-collapse-requires
 collapse-requires c κs = let u = c .before .before .before .before .before .before .before in
     let f = u .before .before in
-    let t = f .before .before .before .before in
-    let a = t .before .before .before .before .before .before .before .before .args in (
-      grouped (now (a .keys)) (now (a .offsets)) (now (a .ends)) (now (a .values)) (now (a .new-keys)) (a .fill) (a .code)
-          (now (a .out-keys)) (now (a .out-offsets)) (now (a .out-ends)) (now (a .out-values)) (now (a .scratch-ends)) (now (a .scratch-values)) (yes t) (f .before .before .before .stand-together .ensures),
-      all-room (now (a .keys)) (now (a .offsets)) (now (a .ends)) (now (a .values)) (now (a .new-keys)) (a .fill) (a .code)
-          (now (a .out-keys)) (now (a .out-offsets)) (now (a .out-ends)) (now (a .out-values)) (now (a .scratch-ends)) (now (a .scratch-values)) (yes t) (asked-yes (asked f) (u .enum-told2 .given .1)),
+    let t = f .before .before .before .before in (
+      grouped _ _ _ _ _ _ (yes t) (f .before .before .before .stand-together .ensures),
+      all-room _ _ _ _ _ _ _ _ _ _ _ _ _ (yes t) (asked-yes (asked f) (u .enum-told2 .given .1)),
     )
 
 enum-known-fits : tie.Need-enum-known-fits
@@ -104,10 +98,12 @@ same-length-6 : tie.Need-same-length-6
 same-length-6 c = search needs
 
 returns-2 : tie.Need-returns-2
-returns-2 c = let w = c .before .before .before .before .before .before .before .before in
-    let v = w .before .before .before .before .before .before .before in
-    let u = v .before in
-    collapse-written _ _ _ _ _ _ _ _ _ _ _ _ _ (asked-yes (asked (u .before .before)) (u .enum-told2 .given .1)) (back _ (v .value .ok) ∙ v .value .ensures) (w .collapse .ensures)
+returns-2 c = let collapse = c .before .before .before .before .before .before .before .before in
+    let value = collapse .before .before .before .before .before .before .before in
+    let told2 = value .before in
+    let place = told2 .before .before in
+    collapse-written _ _ _ _ _ _ _ _ _ _ _ _ _ (asked-yes (asked place) (told2 .enum-told2 .given .1)) (back _ (value .value .ok) ∙ value .value .ensures)
+    (collapse .collapse .ensures)
 
 returns-3 : tie.Need-returns-3
 returns-3 c = collapse-refused _ _ _ _ _ _ _ _ _ _ _ _ _ (asked-no _ (asked (c .before .before .before)) (c .before .fits2 .given .1))
@@ -121,11 +117,11 @@ collapse-spec =
     enum-known-asked
     returns
     stand-together-requires
+    ask-groups-requires
     add-ask-room
     mul-ask-room
     ask-room-requires
-    ask-groups-requires
-    first-no-requires
+    and-requires
     enum-told-2
     value-requires
     collapse-requires

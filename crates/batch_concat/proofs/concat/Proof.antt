@@ -1,6 +1,7 @@
 use Prim.Native.Nat.{ℕ}
 use lib.ListN.{length-replicate}
 use Rattle.column.proofs.Promised.{asked-yes, asked-no}
+use Rattle.batch_keys.specs.Workers.{blockSize}
 use Rattle.batch_index.proofs.Lowest.{no-test}
 use Rattle.batch_concat.proofs.Promised.{invalid-refused}
 use borrow.Author.Needs.{needs}
@@ -26,8 +27,9 @@ slice-aggregate-concat-by : tie.Need-slice-aggregate-concat-by
 slice-aggregate-concat-by c = search needs
 
 concat-by-requires : tie.Need-concat-by-requires
-concat-by-requires c κs = let p = c .before .before .before .before .before .before in let t = p .before in
-    (asked-yes (t .before .before .ask-batches .ensures) (t .enum-told .given .1), p .lookup-of .ensures, λ t. length-replicate {A = ℕ} 32768 0)
+concat-by-requires c κs = let p = c .before .before .before .before .before .before in
+    let t = p .before in
+    (asked-yes (t .before .before .ask-batches .ensures) (t .enum-told .given .1), p .lookup-of .ensures, λ t. length-replicate {A = ℕ} blockSize 0)
 
 same-length : tie.Need-same-length
 same-length c = search needs
@@ -48,8 +50,10 @@ slice-aggregate-concat-by-2 : tie.Need-slice-aggregate-concat-by-2
 slice-aggregate-concat-by-2 c = search needs
 
 concat-by-requires-2 : tie.Need-concat-by-requires-2
-concat-by-requires-2 c κs = let p = c .before .before .before .before .before .before in let t = p .before in
-    (asked-yes (t .before .before .ask-batches .ensures) (t .enum-told .given .1), p .lookup-of .ensures, λ t. no-test t (c .before .before .before .before .before .if1 .left))
+concat-by-requires-2 c κs = let if1 = c .before .before .before .before .before in
+    let told = if1 .before .before in
+    let ask-batches = told .before .before in
+    (asked-yes (ask-batches .ask-batches .ensures) (told .enum-told .given .1), if1 .before .lookup-of .ensures, λ told. no-test told (if1 .if1 .left))
 
 same-length-5 : tie.Need-same-length-5
 same-length-5 c = search needs

@@ -1,4 +1,4 @@
-use mathlib.Core.Path.{refl, ap}
+use mathlib.Core.Path.{ap}
 use native.Mathlib.Omega.{arith}
 use Rattle.column.specs.Asking.{shownAsked}
 use Rattle.batch.proofs.Asks.{both-told}
@@ -10,6 +10,11 @@ use Rattle.batch_concat.proofs.concat_by.Tie as tie
 add-keys : tie.Need-add-keys
 add-keys c = search needs
 
+ask-joined-requires : tie.Need-ask-joined-requires
+ask-joined-requires c κs = let start = c .before .before .before .before .before .before .before .before in
+    let v = both-told _ _ _ _ _ _ _ _ (start .pre .0) in
+    (v .0, v .1, start .pre .1, start .pre .2)
+
 add-ask-room : tie.Need-add-ask-room
 add-ask-room c = search needs
 
@@ -19,18 +24,22 @@ add-ask-room-2 c = search needs
 ask-room-requires : tie.Need-ask-room-requires
 ask-room-requires c κs = search needs
 
-ask-joined-requires : tie.Need-ask-joined-requires
-ask-joined-requires c κs = let s = c .before .before .before .before .before .before .before .before .before in let v = both-told _ _ _ _ _ _ _ _ (s .pre .0) in (v .0, v .1, s .pre .1, s .pre .2)
-
-first-no-requires : tie.Need-first-no-requires
-first-no-requires c κs = search needs
+and-requires : tie.Need-and-requires
+and-requires c κs = search needs
 
 enum-told : tie.Need-enum-told
 enum-told c = search needs
 
 concat-keys-requires : tie.Need-concat-keys-requires
-concat-keys-requires c κs = let u = c .before .before .before .before .before in let f = u .before .before in let j = f .before .before .before in let m = j .before .before in let s = m .before .before .before .before .before .before .before .before in
-    (concat-room _ _ _ _ _ _ _ _ _ _ _ _ (s .pre .0) (f .first-no .ensures) (j .ask-joined .ensures) (m .ask-room .ensures refl) (ap shownAsked (u .enum-told .given .1)), s .pre .1, λ t. omega (arith, s .pre .2 t))
+concat-keys-requires c κs = let told = c .before .before .before .before .before in
+    let and = told .before .before in
+    let ask-joined = and .before .before .before .before in
+    let start = ask-joined .before .before .before .before .before .before .before .before .before in (
+      concat-room _ _ _ _ _ _ _ _ _ _ _ _ (start .pre .0) (and .and .ensures) (ask-joined .ask-joined .ensures) (and .before .ask-room .ensures)
+          (ap shownAsked (told .enum-told .given .1)),
+      start .pre .1,
+      λ t. omega (arith, start .pre .2 t),
+    )
 
 enum-known-fits : tie.Need-enum-known-fits
 enum-known-fits c = search needs
@@ -51,26 +60,35 @@ same-length-5 : tie.Need-same-length-5
 same-length-5 c = search needs
 
 returns : tie.Need-returns
-returns c = let q = c .before .before .before .before .before .before .before .before in let u = q .before .before .before .before .before .before in let f = u .before .before in let j = f .before .before .before in let m = j .before .before in let s = m .before .before .before .before .before .before .before .before in
-    concat-written _ _ _ _ _ _ _ _ _ _ _ _ (s .pre .0) (f .first-no .ensures) (j .ask-joined .ensures) (m .ask-room .ensures refl) (ap shownAsked (u .enum-told .given .1)) (q .concat-keys .ensures)
+returns c = let concat-keys = c .before .before .before .before .before .before .before .before in
+    let told = concat-keys .before .before .before .before .before .before in
+    let and = told .before .before in
+    let ask-joined = and .before .before .before .before in
+    let start = ask-joined .before .before .before .before .before .before .before .before .before in
+    concat-written _ _ _ _ _ _ _ _ _ _ _ _ (start .pre .0) (and .and .ensures) (ask-joined .ask-joined .ensures) (and .before .ask-room .ensures)
+    (ap shownAsked (told .enum-told .given .1)) (concat-keys .concat-keys .ensures)
 
 same-length-6 : tie.Need-same-length-6
 same-length-6 c = search needs
 
 returns-2 : tie.Need-returns-2
-returns-2 c = let u = c .before in let f = u .before .before in let j = f .before .before .before in let m = j .before .before in let s = m .before .before .before .before .before .before .before .before in
-    concat-refused _ _ _ _ _ _ _ _ _ _ _ _ (s .pre .0) (f .first-no .ensures) (j .ask-joined .ensures) (m .ask-room .ensures refl) (ap shownAsked (u .fits2 .given .1))
+returns-2 c = let fits2 = c .before in
+    let and = fits2 .before .before in
+    let ask-joined = and .before .before .before .before in
+    let start = ask-joined .before .before .before .before .before .before .before .before .before in
+    concat-refused _ _ _ _ _ _ _ _ _ _ _ _ (start .pre .0) (and .and .ensures) (ask-joined .ask-joined .ensures) (and .before .ask-room .ensures)
+    (ap shownAsked (fits2 .fits2 .given .1))
 
 pub concat-by-spec : {M : Type 1} → statement M
 concat-by-spec =
     tie.close
     (tie.spec
     add-keys
+    ask-joined-requires
     add-ask-room
     add-ask-room-2
     ask-room-requires
-    ask-joined-requires
-    first-no-requires
+    and-requires
     enum-told
     concat-keys-requires
     enum-known-fits

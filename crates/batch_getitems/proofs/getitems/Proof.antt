@@ -21,10 +21,11 @@ yes c = asked-yes (c .before .before .getitems-asks .ensures) (c .enum-told .giv
 
 -- and to the last, the buffers being as long as slices are
 fits : (c : tie.After-ask-flat-room) → let a = c .before .before .before .before .before .before .before .before .before .before .args in
-    shownAsked (c .ask-flat-room .result) ≡ roomAsked (now (a .keys)) (now (a .offsets)) (now (a .ends)) (now (a .values)) (now (a .get-keys)) (now (a .starts)) (now (a .stops)) (length (now (a .out-offsets))) (length (now (a .out-ends))) (length (now (a .out-values)))
+    shownAsked (c .ask-flat-room .result) ≡ roomAsked
+    (now (a .keys)) (now (a .offsets)) (now (a .ends)) (now (a .values)) (now (a .get-keys)) (now (a .starts)) (now (a .stops))
+    (length (now (a .out-offsets))) (length (now (a .out-ends))) (length (now (a .out-values)))
 fits c = let s = c .before .before .before .before .before .before .before .before .before .before in
-    let a = s .args in
-    room-asked (now (a .keys)) (now (a .offsets)) (now (a .ends)) (now (a .values)) (now (a .get-keys)) (now (a .starts)) (now (a .stops)) (length (now (a .out-offsets))) (length (now (a .out-ends))) (length (now (a .out-values))) (omega (arith, s .good)) (omega (arith, s .good)) (c .before .count-items .ensures) (c .ask-flat-room .ensures)
+    room-asked _ _ _ _ _ _ _ _ _ _ (omega (arith, s .good)) (omega (arith, s .good)) (c .before .count-items .ensures) (c .ask-flat-room .ensures)
 
 getitems-asks-requires : tie.Need-getitems-asks-requires
 getitems-asks-requires c κs = search needs
@@ -39,7 +40,8 @@ returns : tie.Need-returns
 unfolding getitems
 returns c = let d = c .before .before .before in
     let a = d .before .before .before .before .before .args in
-    flat-refused _ (first-refused (now (a .keys)) (now (a .offsets)) (now (a .ends)) (now (a .values)) (now (a .get-keys)) (now (a .starts)) (now (a .stops)) (now (a .out-offsets)) (now (a .out-ends)) (now (a .out-values)) (asked-no _ (d .getitems-asks .ensures) (c .before .asked .given .1)))
+    flat-refused _ (first-refused _ _ _ _ _ _ _ (now (a .out-offsets)) (now (a .out-ends)) (now (a .out-values))
+    (asked-no _ (d .getitems-asks .ensures) (c .before .asked .given .1)))
 
 quick-order-requires : tie.Need-quick-order-requires
 quick-order-requires c κs = search needs
@@ -60,8 +62,7 @@ getitems-requires : tie.Need-getitems-requires
 getitems-requires c κs = let t = c .before .before .before in
     let f = t .before .before in
     let o = f .before .before in
-    let a = o .before .before .before .before .before .before .before .before .args in
-    (gettable (now (a .keys)) (now (a .offsets)) (now (a .ends)) (now (a .values)) (now (a .get-keys)) (now (a .starts)) (now (a .stops)) (now (a .out-offsets)) (now (a .out-ends)) (now (a .out-values)) (yes (o .before)) (asked-yes (fits f) (t .enum-told2 .given .1)), o .quick-order .ensures)
+    (gettable _ _ _ _ _ _ _ _ _ _ (yes (o .before)) (asked-yes (fits f) (t .enum-told2 .given .1)), o .quick-order .ensures)
 
 enum-known-room : tie.Need-enum-known-room
 enum-known-room c = search needs
@@ -77,18 +78,22 @@ same-length-3 c = search needs
 
 returns-2 : tie.Need-returns-2
 unfolding getitems
-returns-2 c = let w = c .before .before .before .before in
-    let t = w .before .before .before .before in
-    let f = t .before .before in
-    let y = yes (f .before .before .before) in
-    let a = f .before .before .before .before .before .before .before .before .before .before .args in
-    flat-written _ (then-room (now (a .keys)) (now (a .offsets)) (now (a .ends)) (now (a .values)) (now (a .get-keys)) (now (a .starts)) (now (a .stops)) (now (a .out-offsets)) (now (a .out-ends)) (now (a .out-values)) y (asked-yes (fits f) (t .enum-told2 .given .1))) (sym (items-many (items-told (now (a .keys)) (now (a .offsets)) (now (a .ends)) (now (a .values)) (now (a .get-keys)) (now (a .starts)) (now (a .stops)) y))) (w .getitems .ensures)
+returns-2 c = let written = c .before .before .before .before in
+    let told = written .before .before .before .before in
+    let room = told .before .before in
+    let asked = room .before .before .before in
+    let a = asked .before .before .before .before .before .before .before .args in
+    let y = yes asked in
+    flat-written _ (then-room _ _ _ _ _ _ _ (now (a .out-offsets)) (now (a .out-ends)) (now (a .out-values))
+    y (asked-yes (fits room) (told .enum-told2 .given .1))) (sym (items-many (items-told _ _ _ _ _ _ _ y))) (written .getitems .ensures)
 
 returns-3 : tie.Need-returns-3
 unfolding getitems
-returns-3 c = let f = c .before .before .before in
-    let a = f .before .before .before .before .before .before .before .before .before .before .args in
-    flat-refused _ (then-room (now (a .keys)) (now (a .offsets)) (now (a .ends)) (now (a .values)) (now (a .get-keys)) (now (a .starts)) (now (a .stops)) (now (a .out-offsets)) (now (a .out-ends)) (now (a .out-values)) (yes (f .before .before .before)) (asked-no _ (fits f) (c .before .room .given .1)))
+returns-3 c = let room = c .before .before .before in
+    let asked = room .before .before .before in
+    let a = asked .before .before .before .before .before .before .before .args in
+    flat-refused _ (then-room _ _ _ _ _ _ _ (now (a .out-offsets)) (now (a .out-ends)) (now (a .out-values)) (yes asked)
+    (asked-no _ (fits room) (c .before .room .given .1)))
 
 pub getitems-spec : {M : Type 1} → statement M
 getitems-spec =

@@ -16,7 +16,8 @@ use Rattle.batch_map_rles.proofs.map_each.Tie as tie
 
 -- what is asked, of so many runs
 asks : (c : tie.After-each-asks) → let a = c .before .before .before .before .before .before .args in shownAsked (c .each-asks .result)
-    ≡ eachAsked (batch (now (a .keys)) (now (a .offsets)) (now (a .ends)) (now (a .values))) (length (now (a .ends)) + more (a .mapping) * length (now (a .keys)))
+    ≡ eachAsked (batch (now (a .keys)) (now (a .offsets)) (now (a .ends)) (now (a .values)))
+    (length (now (a .ends)) + more (a .mapping) * length (now (a .keys)))
     (length (now (a .out-keys)) ∷ length (now (a .out-offsets)) ∷ length (now (a .out-ends)) ∷ length (now (a .out-values)) ∷ [])
 asks c = rw (c .before .most-runs .ensures) at (c .each-asks .ensures)
 
@@ -32,9 +33,7 @@ enum-told c = search needs
 map-rles-requires : tie.Need-map-rles-requires
 map-rles-requires c κs = let t = c .before .before .before .before in
     let a = t .before .before in
-    let s = a .before .before .before .before .before .before in
-    each-told _ (now (s .args .keys)) (now (s .args .offsets)) (now (s .args .ends)) (now (s .args .values)) (now (s .args .out-keys)) (now (s .args .out-offsets)) (now (s .args .out-ends)) (now (s .args .out-values))
-    (asked-yes (asks a) (t .enum-told .given .1))
+    each-told _ _ _ _ _ _ _ _ _ (asked-yes (asks a) (t .enum-told .given .1))
 
 enum-known-asked : tie.Need-enum-known-asked
 enum-known-asked c = search needs
@@ -55,9 +54,7 @@ returns : tie.Need-returns
 returns c = let w = c .before .before .before .before .before .before in
     let t = w .before .before .before .before .before in
     let a = t .before .before in
-    let s = a .before .before .before .before .before .before in
-    each-written _ (now (s .args .keys)) (now (s .args .offsets)) (now (s .args .ends)) (now (s .args .values)) (now (s .args .out-keys)) (now (s .args .out-offsets)) (now (s .args .out-ends)) (now (s .args .out-values))
-    (asked-yes (asks a) (t .enum-told .given .1)) (w .map-rles .ensures)
+    each-written _ _ _ _ _ _ _ _ _ (asked-yes (asks a) (t .enum-told .given .1)) (w .map-rles .ensures)
 
 returns-2 : tie.Need-returns-2
 unfolding mapEach

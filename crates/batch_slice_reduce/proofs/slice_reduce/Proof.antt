@@ -1,4 +1,3 @@
-use denote.Ref.{now}
 use mir.Facts.{toZ-ofZ}
 use Rattle.column.proofs.Promised.{asked-yes, asked-no}
 use Rattle.reduce.proofs.Intervals.{reductions-written, reductions-refused}
@@ -21,8 +20,7 @@ slice-reduce-requires : tie.Need-slice-reduce-requires
 slice-reduce-requires c κs = let o = c .before .before in
     let t = o .before in
     let d = t .before .before in
-    let a = d .before .before .before .before .before .before .args in
-    (reduce-told (now (a .keys)) (now (a .offsets)) (now (a .ends)) (now (a .values)) (now (a .get-keys)) (now (a .starts)) (now (a .stops)) (a .code) (now (a .out-kinds)) (now (a .out-bits)) (asked-yes (d .slice-reduce-asks .ensures) (t .enum-told .given .1)), o .quick-order .ensures)
+    (reduce-told _ _ _ _ _ _ _ _ _ _ (asked-yes (d .slice-reduce-asks .ensures) (t .enum-told .given .1)), o .quick-order .ensures)
 
 enum-known-asked : tie.Need-enum-known-asked
 enum-known-asked c = search needs

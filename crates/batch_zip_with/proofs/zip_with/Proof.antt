@@ -1,10 +1,10 @@
 use Prim.Native.Nat.{ℕ}
 use mathlib.Core.Option.{none}
-use mathlib.Core.List.{[], _∷_}
 use mathlib.Core.Path.{_≡_}
 use denote.Ref.{now}
-use lib.ListN.{length, length-replicate}
+use lib.ListN.{length-replicate}
 use Rattle.column.proofs.Promised.{asked-yes, asked-no}
+use Rattle.batch_keys.specs.Workers.{blockSize}
 use Rattle.batch_index.proofs.Lowest.{no-test}
 use Rattle.batch.specs.Batch.{batch}
 use Rattle.batch.proofs.Laying.{batch-refused}
@@ -15,7 +15,9 @@ use Rattle.batch_zip_with.proofs.zip_with.Statement.{statement}
 use Rattle.batch_zip_with.proofs.zip_with.Tie as tie
 
 -- the questions but 10 and 12
-yes : (c : tie.After-enum-told) → let a = c .before .before .before .before .before .before .before .before .before .args in zipAsked (batch (now (a .a-keys)) (now (a .a-offsets)) (now (a .a-ends)) (now (a .a-values))) (batch (now (a .b-keys)) (now (a .b-offsets)) (now (a .b-ends)) (now (a .b-values))) (a .how) (a .code) ≡ none
+yes : (c : tie.After-enum-told) → let a = c .before .before .before .before .before .before .before .before .before .args in
+    zipAsked (batch (now (a .a-keys)) (now (a .a-offsets)) (now (a .a-ends)) (now (a .a-values)))
+    (batch (now (a .b-keys)) (now (a .b-offsets)) (now (a .b-ends)) (now (a .b-values))) (a .how) (a .code) ≡ none
 yes c = asked-yes (c .before .before .zip-asks .ensures) (c .enum-told .given .1)
 
 zip-asks-requires : tie.Need-zip-asks-requires
@@ -29,9 +31,7 @@ enum-known-asked c = search needs
 
 returns : tie.Need-returns
 unfolding zipWith
-returns c = let z = c .before .before .before in
-    let a = z .before .before .before .before .before .before .before .args in
-    batch-refused _ (refused-first (batch (now (a .a-keys)) (now (a .a-offsets)) (now (a .a-ends)) (now (a .a-values))) (batch (now (a .b-keys)) (now (a .b-offsets)) (now (a .b-ends)) (now (a .b-values))) (a .how) (a .code) (a .fill-a) (a .fill-b) (length (now (a .out-keys)) ∷ length (now (a .out-offsets)) ∷ length (now (a .out-ends)) ∷ length (now (a .out-values)) ∷ []) (asked-no _ (z .zip-asks .ensures) (c .before .asked .given .1)))
+returns c = let z = c .before .before .before in batch-refused _ (refused-first _ _ _ _ _ _ _ (asked-no _ (z .zip-asks .ensures) (c .before .asked .given .1)))
 
 lookup-of-requires : tie.Need-lookup-of-requires
 lookup-of-requires c κs = search needs
@@ -40,7 +40,8 @@ slice-aggregate-zip-with-by : tie.Need-slice-aggregate-zip-with-by
 slice-aggregate-zip-with-by c = search needs
 
 zip-with-by-requires : tie.Need-zip-with-by-requires
-zip-with-by-requires c κs = let l = c .before .before .before .before .before .before in (yes (l .before), l .lookup-of .ensures, λ t. length-replicate {A = ℕ} 32768 0)
+zip-with-by-requires c κs = let lookup-of = c .before .before .before .before .before .before in
+    (yes (lookup-of .before), lookup-of .lookup-of .ensures, λ t. length-replicate {A = ℕ} blockSize 0)
 
 same-length : tie.Need-same-length
 same-length c = search needs
@@ -61,7 +62,9 @@ slice-aggregate-zip-with-by-2 : tie.Need-slice-aggregate-zip-with-by-2
 slice-aggregate-zip-with-by-2 c = search needs
 
 zip-with-by-requires-2 : tie.Need-zip-with-by-requires-2
-zip-with-by-requires-2 c κs = let l = c .before .before .before .before .before .before in (yes (l .before), l .lookup-of .ensures, λ t. no-test t (c .before .before .before .before .before .if1 .left))
+zip-with-by-requires-2 c κs = let if1 = c .before .before .before .before .before in
+    let place = if1 .before .before in
+    (yes place, if1 .before .lookup-of .ensures, λ t. no-test t (if1 .if1 .left))
 
 same-length-5 : tie.Need-same-length-5
 same-length-5 c = search needs

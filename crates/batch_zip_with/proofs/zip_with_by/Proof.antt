@@ -1,5 +1,5 @@
 use mathlib.Core.List.{[], _∷_}
-use mathlib.Core.Path.{_≡_, refl, _∙_}
+use mathlib.Core.Path.{_≡_, _∙_}
 use native.Mathlib.Omega.{arith}
 use denote.Ref.{now}
 use lib.ListN.{length}
@@ -15,18 +15,18 @@ use Rattle.batch_zip_with.proofs.zip_with_by.Statement.{statement}
 use Rattle.batch_zip_with.proofs.zip_with_by.Tie as tie
 
 -- all questions
-asked : (c : tie.After-first-no) → let a = c .before .before .before .before .before .before .before .before .before .before .before .before .before .args in
-    shownAsked (c .first-no .result) ≡ allAsked (batch (now (a .a-keys)) (now (a .a-offsets)) (now (a .a-ends)) (now (a .a-values))) (batch (now (a .b-keys)) (now (a .b-offsets)) (now (a .b-ends)) (now (a .b-values))) (a .how) (a .code) (a .fill-a) (a .fill-b) (length (now (a .out-keys)) ∷ length (now (a .out-offsets)) ∷ length (now (a .out-ends)) ∷ length (now (a .out-values)) ∷ [])
+asked : (c : tie.After-and) → let a = c .before .before .before .before .before .before .before .before .before .before .before .before .before .args in
+    shownAsked (c .and .result) ≡ allAsked (batch (now (a .a-keys)) (now (a .a-offsets)) (now (a .a-ends)) (now (a .a-values)))
+    (batch (now (a .b-keys)) (now (a .b-offsets)) (now (a .b-ends)) (now (a .b-values))) (a .how) (a .code) (a .fill-a) (a .fill-b)
+    (length (now (a .out-keys)) ∷ length (now (a .out-offsets)) ∷ length (now (a .out-ends)) ∷ length (now (a .out-values)) ∷ [])
 asked c = let p = c .before .before .before .before in
     let s = p .before .before .before .before .before .before .before .before .before in
-    let a = s .args in
-    all-asked (batch (now (a .a-keys)) (now (a .a-offsets)) (now (a .a-ends)) (now (a .a-values))) (batch (now (a .b-keys)) (now (a .b-offsets)) (now (a .b-ends)) (now (a .b-values))) (a .how) (a .code) (a .fill-a) (a .fill-b) (s .pre .0) (length (now (a .out-keys))) (length (now (a .out-offsets))) (length (now (a .out-ends))) (length (now (a .out-values))) (omega (arith, s .good)) (omega (arith, s .good)) (c .first-no .ensures)
-    (p .ask-pairs .ensures .filled) (p .ask-pairs .ensures .runs) (c .before .ask-room .ensures refl)
+    all-asked _ _ _ _ _ _ (s .pre .0) _ _ _ _ (omega (arith, s .good)) (omega (arith, s .good)) (c .and .ensures) (p .ask-pairs .ensures .filled)
+    (p .ask-pairs .ensures .runs) (c .before .ask-room .ensures)
 
 ask-pairs-requires : tie.Need-ask-pairs-requires
 ask-pairs-requires c κs = let s = c .before .before .before .before .before .before .before .before in
-    let a = s .args in
-    let v = zip-valid (batch (now (a .a-keys)) (now (a .a-offsets)) (now (a .a-ends)) (now (a .a-values))) (batch (now (a .b-keys)) (now (a .b-offsets)) (now (a .b-ends)) (now (a .b-values))) (a .how) (a .code) (s .pre .0) in
+    let v = zip-valid _ _ _ _ (s .pre .0) in
     (v .0, v .1, s .pre .1, s .pre .2)
 
 add-keys : tie.Need-add-keys
@@ -38,8 +38,8 @@ add-ask-room c = search needs
 ask-room-requires : tie.Need-ask-room-requires
 ask-room-requires c κs = search needs
 
-first-no-requires : tie.Need-first-no-requires
-first-no-requires c κs = search needs
+and-requires : tie.Need-and-requires
+and-requires c κs = search needs
 
 enum-told : tie.Need-enum-told
 enum-told c = search needs
@@ -54,8 +54,7 @@ zip-pairs-requires : tie.Need-zip-pairs-requires
 zip-pairs-requires c κs = let t = c .before .before .before .before .before .before .before in
     let f = t .before .before in
     let s = f .before .before .before .before .before .before .before .before .before .before .before .before .before in
-    let a = s .args in
-    (zip-room (batch (now (a .a-keys)) (now (a .a-offsets)) (now (a .a-ends)) (now (a .a-values))) (batch (now (a .b-keys)) (now (a .b-offsets)) (now (a .b-ends)) (now (a .b-values))) (a .how) (a .code) (a .fill-a) (a .fill-b) _ _ _ _ (asked-yes (asked f) (t .enum-told .given .1)), s .pre .1, λ i. omega (arith, s .pre .2 i))
+    (zip-room _ _ _ _ _ _ _ _ _ _ (asked-yes (asked f) (t .enum-told .given .1)), s .pre .1, λ i. omega (arith, s .pre .2 i))
 
 enum-known-fits : tie.Need-enum-known-fits
 enum-known-fits c = search needs
@@ -76,12 +75,13 @@ same-length-5 : tie.Need-same-length-5
 same-length-5 c = search needs
 
 returns : tie.Need-returns
-returns c = let w = c .before .before .before .before .before .before .before .before in
-    let v = w .before .before .before .before .before .before in
-    let t = v .before .before in
-    let f = t .before .before in
-    let a = f .before .before .before .before .before .before .before .before .before .before .before .before .before .args in
-    zip-written (batch (now (a .a-keys)) (now (a .a-offsets)) (now (a .a-ends)) (now (a .a-values))) (batch (now (a .b-keys)) (now (a .b-offsets)) (now (a .b-ends)) (now (a .b-values))) (a .how) (a .code) (a .fill-a) (a .fill-b) (back _ (v .before .value .ok) ∙ v .before .value .ensures) (back _ (v .value2 .ok) ∙ v .value2 .ensures) (asked-yes (asked f) (t .enum-told .given .1)) (w .zip-pairs .ensures)
+returns c = let zip-pairs = c .before .before .before .before .before .before .before .before in
+    let value2 = zip-pairs .before .before .before .before .before .before in
+    let value = value2 .before in
+    let told = value .before in
+    let place = told .before .before in
+    zip-written _ _ _ _ _ _ (back _ (value .value .ok) ∙ value .value .ensures) (back _ (value2 .value2 .ok) ∙ value2 .value2 .ensures)
+    (asked-yes (asked place) (told .enum-told .given .1)) (zip-pairs .zip-pairs .ensures)
 
 same-length-6 : tie.Need-same-length-6
 same-length-6 c = search needs
@@ -98,7 +98,7 @@ zip-with-by-spec =
     add-keys
     add-ask-room
     ask-room-requires
-    first-no-requires
+    and-requires
     enum-told
     value-requires
     value-requires-2

@@ -10,7 +10,10 @@ slice-aggregate-result : tie.Need-slice-aggregate-result
 slice-aggregate-result c = search needs
 
 returns : tie.Need-returns
-returns c = let a = c .before .before .before .args in sym (part-none (now (a .offsets)) (now (a .entries)) (a .position) (omega (arith, c .before .if1 .taken)))
+returns c = let if1 = c .before in
+    let start = if1 .before .before in
+    let a = start .args in
+    sym (part-none (now (a .offsets)) (now (a .entries)) (a .position) (omega (arith, if1 .if1 .taken)))
 
 add-if2 : tie.Need-add-if2
 add-if2 c = search needs
@@ -40,7 +43,10 @@ part-requires : tie.Need-part-requires
 part-requires c κs = search needs
 
 returns-3 : tie.Need-returns-3
-returns-3 c = let e = c .before .before .before in let a = e .before .before .before .args in c .part .ensures ∙ sym (part-is (now (a .offsets)) (now (a .entries)) (a .position) (omega (arith, e .if2 .left)))
+returns-3 c = let if2 = c .before .before .before in
+    let start = if2 .before .before .before in
+    let a = start .args in
+    c .part .ensures ∙ sym (part-is (now (a .offsets)) (now (a .entries)) (a .position) (omega (arith, if2 .if2 .left)))
 
 pub part-at-spec : {M : Type 1} → statement M
 part-at-spec =

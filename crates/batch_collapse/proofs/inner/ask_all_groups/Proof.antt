@@ -25,7 +25,9 @@ loop-holds : tie.Need-loop-holds Inv-loop μ-loop
 loop-holds c = all-start _ _ _ (c .next-group .ensures)
 
 ask-group-requires : tie.Need-ask-group-requires Inv-loop μ-loop
-ask-group-requires c κs = let l = c .before in (l .before .before .before .before .before .pre, c .loop-test .taken, l .loop .inv .groups .single (c .loop-test .taken))
+ask-group-requires c κs = let loop = c .before in
+    let start = loop .before .before .before .before .before in
+    (start .pre, c .loop-test .taken, loop .loop .inv .groups .single (c .loop-test .taken))
 
 in-key-requires : tie.Need-in-key-requires Inv-loop μ-loop
 in-key-requires c κs = search needs
@@ -37,9 +39,11 @@ enum-known-asked : tie.Need-enum-known-asked Inv-loop μ-loop
 enum-known-asked c = search needs
 
 returns : tie.Need-returns Inv-loop μ-loop
-returns c = let k = c .before .before .before in
-    let n = k .before .before in
-    all-no _ _ _ (n .before .loop .inv) (n .loop-test .taken) (k .in-key .ensures) (k .before .ask-group .ensures) (asked-no _ refl (c .before .asked .given .1))
+returns c = let asked = c .before in
+    let in-key = asked .before .before in
+    let test = in-key .before .before in
+    all-no _ _ _ (test .before .loop .inv) (test .loop-test .taken) (in-key .in-key .ensures) (in-key .before .ask-group .ensures)
+    (asked-no _ refl (asked .asked .given .1))
 
 add-n : tie.Need-add-n Inv-loop μ-loop
 add-n c = let n = c .before .before .before .before in omega (arith, group-few _ (n .before .loop .inv .groups) (n .loop-test .taken))
@@ -51,12 +55,15 @@ next-group-requires-2 : tie.Need-next-group-requires-2 Inv-loop μ-loop
 next-group-requires-2 c κs = let n = c .before .before .before .before in (n .before .before .before .before .before .before .pre .known, search needs)
 
 loop-less : tie.Need-loop-less Inv-loop μ-loop
-loop-less c = let n = c .before .before .before .before .before in omega (arith, c .next-group2 .ensures .after, c .next-group2 .ensures .within, n .loop-test .taken)
+loop-less c = let test = c .before .before .before .before .before in
+    omega (arith, c .next-group2 .ensures .after, c .next-group2 .ensures .within, test .loop-test .taken)
 
 loop-again : tie.Need-loop-again Inv-loop μ-loop
-loop-again c = let k = c .before .before .before in
-    let n = k .before .before in
-    all-next _ _ _ (n .before .loop .inv) (n .loop-test .taken) (k .in-key .ensures) (k .before .ask-group .ensures) (asked-yes refl (c .before .enum-told .given .1)) (c .next-group2 .ensures)
+loop-again c = let told = c .before in
+    let in-key = told .before .before in
+    let test = in-key .before .before in
+    all-next _ _ _ (test .before .loop .inv) (test .loop-test .taken) (in-key .in-key .ensures) (in-key .before .ask-group .ensures)
+    (asked-yes refl (told .enum-told .given .1)) (c .next-group2 .ensures)
 
 returns-2 : tie.Need-returns-2 Inv-loop μ-loop
 returns-2 c = all-end _ _ _ (c .before .loop .inv) (c .loop-test .left)

@@ -65,7 +65,8 @@ next-member-requires-2 c κs = let n = c .before .before .before .before .before
     (n .before .before .before .before .before .before .before .before .pre .0 .known, n .loop-test .taken)
 
 loop-less : tie.Need-loop-less Inv-loop μ-loop
-loop-less c = let n = c .before .before .before .before .before .before in omega (arith, c .next-member2 .ensures .after, c .next-member2 .ensures .within, n .loop-test .taken)
+loop-less c = let test = c .before .before .before .before .before .before in
+    omega (arith, c .next-member2 .ensures .after, c .next-member2 .ensures .within, test .loop-test .taken)
 
 loop-again : tie.Need-loop-again Inv-loop μ-loop
 loop-again c = let f = c .before .before .before in
@@ -79,7 +80,9 @@ loop-again c = let f = c .before .before .before in
     (asked-yes (f .ask-fills .ensures) (c .before .enum-told .given .1)) (c .next-member2 .ensures)
 
 returns-2 : tie.Need-returns-2 Inv-loop μ-loop
-returns-2 c = asking-end _ _ _ (new-many _ _ _ _ _ (c .before .before .before .before .before .before .before .before .pre .0)) _ _ _ (c .before .loop .inv) (c .loop-test .left)
+returns-2 c = let loop = c .before in
+    let start = loop .before .before .before .before .before .before .before in
+    asking-end _ _ _ (new-many _ _ _ _ _ (start .pre .0)) _ _ _ (loop .loop .inv) (c .loop-test .left)
 
 pub ask-group-spec : {M : Type 1} → statement M
 ask-group-spec =

@@ -9,18 +9,21 @@ use mir.Syntax.{w64}
 use Rattle.num.specs.Numbers.{operation}
 use Rattle.column.specs.declared.answer.Fill.the-variants.{Value}
 use Rattle.batch_collapse.proofs.Groups.{group-few}
-use Rattle.batch_collapse.proofs.Collapsing.{Collapsing, collapsing-start, collapsing-room, collapsing-fold, collapsing-used, collapsing-next, collapsing-end}
+use Rattle.batch_collapse.proofs.Collapsing.{Collapsing, collapsing-start, collapsing-room, collapsing-fold, collapsing-used, collapsing-next}
+use Rattle.batch_collapse.proofs.Collapsing.{collapsing-end}
 use borrow.Author.Needs.{needs}
 use Rattle.batch_collapse.proofs.inner.collapse.Statement.{statement}
 use Rattle.batch_collapse.proofs.inner.collapse.Tie as tie
 
 abbrev Inv-loop : tie.InvT-loop
-Inv-loop keys offsets ends values new-keys together fill code out-keys₀ out-offsets₀ out-ends₀ out-values₀ scratch-ends₀ scratch-values₀ used₀ n₀ first₀ out-keys out-offsets out-ends out-values scratch-ends scratch-values used n first =
+Inv-loop keys offsets ends values new-keys together fill code out-keys₀ out-offsets₀ out-ends₀ out-values₀ scratch-ends₀ scratch-values₀ used₀ n₀
+    first₀ out-keys out-offsets out-ends out-values scratch-ends scratch-values used n first =
     Collapsing (operation code) (Value (toZ w64 fill)) keys offsets ends values new-keys
     out-keys₀ out-keys out-offsets₀ out-offsets out-ends₀ out-ends out-values₀ out-values scratch-ends₀ scratch-ends scratch-values₀ scratch-values used n first
 
 abbrev μ-loop : tie.MeasureT-loop
-μ-loop keys offsets ends values new-keys together fill code out-keys₀ out-offsets₀ out-ends₀ out-values₀ scratch-ends₀ scratch-values₀ used₀ n₀ first₀ out-keys out-offsets out-ends out-values scratch-ends scratch-values used n first =
+μ-loop keys offsets ends values new-keys together fill code out-keys₀ out-offsets₀ out-ends₀ out-values₀ scratch-ends₀ scratch-values₀ used₀ n₀ first₀
+    out-keys out-offsets out-ends out-values scratch-ends scratch-values used n first =
     length new-keys - first
 
 -- there is room for the next group
@@ -30,7 +33,9 @@ room c = let l = c .before in
     let r = collapsing-room _ _ _ _ _ _ _ (s .pre .0) _ _ _ _ _ _ (s .pre .1) (l .loop .inv) (c .loop-test .taken) in
     (omega (arith, r .0), omega (arith, r .1))
 
-few : (c : tie.In-loop Inv-loop μ-loop) → let l = c .before in let s = l .before .before .before .before .before .before .before in l .loop .n < length (now (s .args .keys))
+few : (c : tie.In-loop Inv-loop μ-loop) → let l = c .before in
+    let s = l .before .before .before .before .before .before .before in
+    l .loop .n < length (now (s .args .keys))
 few c = let l = c .before in
     let s = l .before .before .before .before .before .before .before in
     omega (arith, group-few _ (l .loop .inv .groups) (c .loop-test .taken), s .pre .0 .renamed)
@@ -56,7 +61,8 @@ mul-out-keys c = let s = c .before .before .before .before .before .before .befo
 
 slice-write-out-keys : tie.Need-slice-write-out-keys Inv-loop μ-loop
 slice-write-out-keys c = let l = c .before .before in
-    let s = l .before .before .before .before .before .before .before in omega (arith, few (c .before), s .pre .1 .room-keys, l .loop .inv .laying .keys .long)
+    let s = l .before .before .before .before .before .before .before in
+    omega (arith, few (c .before), s .pre .1 .room-keys, l .loop .inv .laying .keys .long)
 
 mul-collapse-group : tie.Need-mul-collapse-group Inv-loop μ-loop
 mul-collapse-group c = omega (arith, room (c .before) .0, room (c .before) .1)
@@ -115,14 +121,16 @@ next-group-requires-2 c κs = let n = c .before .before .before .before .before 
     (n .before .before .before .before .before .before .before .before .pre .0 .known, search needs)
 
 loop-less : tie.Need-loop-less Inv-loop μ-loop
-loop-less c = let n = c .before .before .before .before .before .before .before .before .before .before .before in omega (arith, c .next-group2 .ensures .after, c .next-group2 .ensures .within, n .loop-test .taken)
+loop-less c = let test = c .before .before .before .before .before .before .before .before .before .before .before in
+    omega (arith, c .next-group2 .ensures .after, c .next-group2 .ensures .within, test .loop-test .taken)
 
 loop-again : tie.Need-loop-again Inv-loop μ-loop
-loop-again c = let w = c .before .before .before .before .before in
-    let n = w .before .before .before .before .before .before in
-    let l = n .before in
-    let s = l .before .before .before .before .before .before .before in
-    collapsing-next _ _ _ _ _ _ _ (s .pre .0) _ _ _ _ _ _ (s .pre .1) (l .loop .inv) (n .loop-test .taken) (w .collapse-group .ensures) refl (c .next-group2 .ensures)
+loop-again c = let collapse-group = c .before .before .before .before .before in
+    let test = collapse-group .before .before .before .before .before .before in
+    let loop = test .before in
+    let start = loop .before .before .before .before .before .before .before in
+    collapsing-next _ _ _ _ _ _ _ (start .pre .0) _ _ _ _ _ _ (start .pre .1) (loop .loop .inv) (test .loop-test .taken)
+    (collapse-group .collapse-group .ensures) refl (c .next-group2 .ensures)
 
 same-length : tie.Need-same-length Inv-loop μ-loop
 same-length c = c .before .loop .inv .laying .keys .long

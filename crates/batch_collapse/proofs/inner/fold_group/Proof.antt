@@ -13,21 +13,30 @@ use Rattle.batch_collapse.proofs.inner.fold_group.Statement.{statement}
 use Rattle.batch_collapse.proofs.inner.fold_group.Tie as tie
 
 abbrev Inv-loop : tie.InvT-loop
-Inv-loop keys offsets ends values new-keys together first fill code out-ends₀ out-values₀ scratch-ends₀ scratch-values₀ at₀ count₀ out-ends out-values scratch-ends scratch-values at count =
-    Folding keys offsets ends values new-keys first (operation code) (toZ w64 fill) out-ends₀ out-ends out-values₀ out-values scratch-ends₀ scratch-ends scratch-values₀ scratch-values count at
+Inv-loop keys offsets ends values new-keys together first fill code out-ends₀ out-values₀ scratch-ends₀ scratch-values₀ at₀ count₀ out-ends out-values
+    scratch-ends scratch-values at count =
+    Folding keys offsets ends values new-keys first (operation code) (toZ w64 fill) out-ends₀ out-ends out-values₀ out-values
+    scratch-ends₀ scratch-ends scratch-values₀ scratch-values count at
 
 abbrev μ-loop : tie.MeasureT-loop
-μ-loop keys offsets ends values new-keys together first fill code out-ends₀ out-values₀ scratch-ends₀ scratch-values₀ at₀ count₀ out-ends out-values scratch-ends scratch-values at count =
+μ-loop keys offsets ends values new-keys together first fill code out-ends₀ out-values₀ scratch-ends₀ scratch-values₀ at₀ count₀ out-ends out-values
+    scratch-ends scratch-values at count =
     length new-keys - at
 
 -- the first member, and one more
 first : (c : tie.After-part-at2 Inv-loop μ-loop) → let a = c .before .before .before .before .before .before .args in
     Part (now (a .keys)) (now (a .offsets)) (now (a .ends)) (now (a .values)) (a .first) (now (c .before .part-at .result)) (now (c .part-at2 .result))
-first c = let s = c .before .before .before .before .before .before in part-read _ _ _ _ _ (s .pre .0) (s .args .first) (c .before .part-at .ensures) (c .part-at2 .ensures)
+first c = let part-at = c .before in
+    let start = part-at .before .before .before .before .before in
+    part-read _ _ _ _ _ (start .pre .0) (start .args .first) (part-at .part-at .ensures) (c .part-at2 .ensures)
 
-more : (c : tie.After-part-at4 Inv-loop μ-loop) → let l = c .before .before .before in let a = l .before .before .before .before .before .before .before .before .before .before .before .before .args in
+more : (c : tie.After-part-at4 Inv-loop μ-loop) → let l = c .before .before .before in
+    let a = l .before .before .before .before .before .before .before .before .before .before .before .before .args in
     Part (now (a .keys)) (now (a .offsets)) (now (a .ends)) (now (a .values)) (l .loop .at) (now (c .before .part-at3 .result)) (now (c .part-at4 .result))
-more c = let l = c .before .before .before in let s = l .before .before .before .before .before .before .before .before .before .before .before .before in part-read _ _ _ _ _ (s .pre .0) (l .loop .at) (c .before .part-at3 .ensures) (c .part-at4 .ensures)
+more c = let part-at3 = c .before in
+    let loop = part-at3 .before .before in
+    let start = loop .before .before .before .before .before .before .before .before .before .before .before .before in
+    part-read _ _ _ _ _ (start .pre .0) (loop .loop .at) (part-at3 .part-at3 .ensures) (c .part-at4 .ensures)
 
 part-at-requires : tie.Need-part-at-requires Inv-loop μ-loop
 part-at-requires c κs = search needs
@@ -36,13 +45,20 @@ part-at-requires-2 : tie.Need-part-at-requires-2 Inv-loop μ-loop
 part-at-requires-2 c κs = search needs
 
 merged-requires : tie.Need-merged-requires Inv-loop μ-loop
-merged-requires c κs = let s = c .before .before .before .before .before .before .before .before in first-scratch _ _ _ _ _ _ (s .pre .0) (s .pre .1) (c .before .before .before .before .next-member .ensures) (first (c .before .before))
+merged-requires c κs = let place = c .before .before in
+    let next-member = place .before .before in
+    let start = next-member .before .before .before .before in
+    first-scratch _ _ _ _ _ _ (start .pre .0) (start .pre .1) (next-member .next-member .ensures) (first place)
 
 next-member-requires : tie.Need-next-member-requires Inv-loop μ-loop
 next-member-requires c κs = let s = c .before .before .before in (s .pre .0 .known, s .pre .1 .within)
 
 loop-holds : tie.Need-loop-holds Inv-loop μ-loop
-loop-holds c = let m = c .before .before in let p = m .before .before .before in let n = p .before .before in let s = n .before .before .before .before in fold-start _ _ _ _ _ _ _ _ (s .pre .0) (s .pre .1) (n .next-member .ensures) (first p) (m .merged .ensures)
+loop-holds c = let merged = c .before .before in
+    let place = merged .before .before .before in
+    let next-member = place .before .before in
+    let start = next-member .before .before .before .before in
+    fold-start _ _ _ _ _ _ _ _ (start .pre .0) (start .pre .1) (next-member .next-member .ensures) (first place) (merged .merged .ensures)
 
 part-at-requires-3 : tie.Need-part-at-requires-3 Inv-loop μ-loop
 part-at-requires-3 c κs = search needs
@@ -51,16 +67,29 @@ part-at-requires-4 : tie.Need-part-at-requires-4 Inv-loop μ-loop
 part-at-requires-4 c κs = search needs
 
 fold-member-requires : tie.Need-fold-member-requires Inv-loop μ-loop
-fold-member-requires c κs = let p = c .before .before .before .before in let l = p .before .before .before in fold-able _ _ _ _ _ _ _ _ (l .before .before .before .before .before .before .before .before .before .before .before .before .pre .0) (l .loop .inv) (p .before .before .loop-test .taken) (more p)
+fold-member-requires c κs = let place = c .before .before .before .before in
+    let test = place .before .before in
+    let loop = test .before in
+    let start = loop .before .before .before .before .before .before .before .before .before .before .before .before in
+    fold-able _ _ _ _ _ _ _ _ (start .pre .0) (loop .loop .inv) (test .loop-test .taken) (more place)
 
 next-member-requires-2 : tie.Need-next-member-requires-2 Inv-loop μ-loop
-next-member-requires-2 c κs = let n = c .before .before .before .before .before .before .before .before .before .before .before in (n .before .before .before .before .before .before .before .before .before .before .before .before .before .pre .0 .known, n .loop-test .taken)
+next-member-requires-2 c κs = let test = c .before .before .before .before .before .before .before .before .before .before .before in
+    let start = test .before .before .before .before .before .before .before .before .before .before .before .before .before in
+    (start .pre .0 .known, test .loop-test .taken)
 
 loop-less : tie.Need-loop-less Inv-loop μ-loop
-loop-less c = let n = c .before .before .before .before .before .before .before .before .before .before .before .before in omega (arith, c .next-member2 .ensures .after, n .loop-test .taken)
+loop-less c = let test = c .before .before .before .before .before .before .before .before .before .before .before .before in
+    omega (arith, c .next-member2 .ensures .after, test .loop-test .taken)
 
 loop-again : tie.Need-loop-again Inv-loop μ-loop
-loop-again c = let m = c .before .before .before .before .before in let p = m .before .before .before .before .before in let l = p .before .before .before in fold-more _ _ _ _ _ _ _ _ (l .before .before .before .before .before .before .before .before .before .before .before .before .pre .0) (l .loop .inv) (p .before .before .loop-test .taken) (more p) (m .fold-member .ensures) (c .next-member2 .ensures)
+loop-again c = let fold-member = c .before .before .before .before .before in
+    let place = fold-member .before .before .before .before .before in
+    let test = place .before .before in
+    let loop = test .before in
+    let start = loop .before .before .before .before .before .before .before .before .before .before .before .before in
+    fold-more _ _ _ _ _ _ _ _ (start .pre .0) (loop .loop .inv) (test .loop-test .taken) (more place) (fold-member .fold-member .ensures)
+    (c .next-member2 .ensures)
 
 same-length : tie.Need-same-length Inv-loop μ-loop
 same-length c = c .before .loop .inv .folded .long-ends
@@ -69,13 +98,32 @@ same-length-2 : tie.Need-same-length-2 Inv-loop μ-loop
 same-length-2 c = c .before .loop .inv .folded .long-values
 
 same-length-3 : tie.Need-same-length-3 Inv-loop μ-loop
-same-length-3 c = let l = c .before in let m = l .before .before .before in let p = m .before .before .before in let n = p .before .before in let s = n .before .before .before .before in l .loop .inv .folded .long-scratch-ends ∙ first-long _ _ _ _ _ _ (s .pre .0) (s .pre .1) (n .next-member .ensures) (first p) (m .merged .ensures) .0
+same-length-3 c = let loop = c .before in
+    let merged = loop .before .before .before in
+    let place = merged .before .before .before in
+    let next-member = place .before .before in
+    let start = next-member .before .before .before .before in
+    loop .loop .inv .folded .long-scratch-ends ∙ first-long _ _ _ _ _ _ (start .pre .0) (start .pre .1) (next-member .next-member .ensures) (first place)
+    (merged .merged .ensures) .0
 
 same-length-4 : tie.Need-same-length-4 Inv-loop μ-loop
-same-length-4 c = let l = c .before in let m = l .before .before .before in let p = m .before .before .before in let n = p .before .before in let s = n .before .before .before .before in l .loop .inv .folded .long-scratch-values ∙ first-long _ _ _ _ _ _ (s .pre .0) (s .pre .1) (n .next-member .ensures) (first p) (m .merged .ensures) .1
+same-length-4 c = let loop = c .before in
+    let merged = loop .before .before .before in
+    let place = merged .before .before .before in
+    let next-member = place .before .before in
+    let start = next-member .before .before .before .before in
+    loop .loop .inv .folded .long-scratch-values ∙ first-long _ _ _ _ _ _ (start .pre .0) (start .pre .1) (next-member .next-member .ensures) (first place)
+    (merged .merged .ensures) .1
 
 returns : tie.Need-returns Inv-loop μ-loop
-returns c = let l = c .before in let m = l .before .before .before in let p = m .before .before .before in let n = p .before .before in let s = n .before .before .before .before in rw (toZ-ofZ (s .fits .fill)) at (fold-end _ _ _ _ _ _ _ _ (s .pre .0) (s .pre .1) (n .next-member .ensures) (first p) (m .merged .ensures) (l .loop .inv) (c .loop-test .left))
+returns c = let loop = c .before in
+    let merged = loop .before .before .before in
+    let place = merged .before .before .before in
+    let next-member = place .before .before in
+    let start = next-member .before .before .before .before in
+    rw (toZ-ofZ (start .fits .fill))
+    at (fold-end _ _ _ _ _ _ _ _ (start .pre .0) (start .pre .1) (next-member .next-member .ensures) (first place) (merged .merged .ensures)
+    (loop .loop .inv) (c .loop-test .left))
 
 pub fold-group-spec : {M : Type 1} → statement M
 fold-group-spec =

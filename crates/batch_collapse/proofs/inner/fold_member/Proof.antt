@@ -11,8 +11,12 @@ use Rattle.batch_collapse.proofs.inner.fold_member.Statement.{statement
 use Rattle.batch_collapse.proofs.inner.fold_member.Tie as tie
 
 -- the runs are in the other two buffers, and fit the scratch buffers
-room : (c : tie.After-zip-with) → let a = c .before .before .before .before .before .args in let n = c .zip-with .result in let e = c .zip-with .last .1 .1 .1 .1 .1 .1 .1 .0 in let v = c .zip-with .last .1 .1 .1 .1 .1 .1 .1 .1 .0 in
-    (n ≡ length (take n e)) × (n ≡ length (take n v)) × (n ≤ length e) × (n ≤ length v) × (length (take n e) ≤ length (now (a .scratch-ends))) × (length (take n v) ≤ length (now (a .scratch-values)))
+room : (c : tie.After-zip-with) → let a = c .before .before .before .before .before .args in
+    let n = c .zip-with .result in
+    let e = c .zip-with .last .1 .1 .1 .1 .1 .1 .1 .0 in
+    let v = c .zip-with .last .1 .1 .1 .1 .1 .1 .1 .1 .0 in
+    (n ≡ length (take n e)) × (n ≡ length (take n v)) × (n ≤ length e) × (n ≤ length v)
+    × (length (take n e) ≤ length (now (a .scratch-ends))) × (length (take n v) ≤ length (now (a .scratch-values)))
 room c = let s = c .before .before .before .before .before in member-room _ _ (s .pre) (c .zip-with .ensures)
 
 slice-reshare-prefix-zip-with : tie.Need-slice-reshare-prefix-zip-with
@@ -61,7 +65,11 @@ same-length-4 : tie.Need-same-length-4
 same-length-4 c = search needs
 
 returns : tie.Need-returns
-returns c = let z = c .before .before .before .before .before .before .before .before .before .before in let s = z .before .before .before .before .before in rw (toZ-ofZ (s .fits .fill)) at (member-folded _ _ (s .pre) (z .zip-with .ensures) (c .before .before .before .before .before .copy .ensures) (c .before .copy2 .ensures))
+returns c = let copy2 = c .before in
+    let copy = copy2 .before .before .before .before in
+    let zip-with = copy .before .before .before .before .before in
+    let start = zip-with .before .before .before .before .before in
+    rw (toZ-ofZ (start .fits .fill)) at (member-folded _ _ (start .pre) (zip-with .zip-with .ensures) (copy .copy .ensures) (copy2 .copy2 .ensures))
 
 pub fold-member-spec : {M : Type 1} → statement M
 fold-member-spec =

@@ -29,7 +29,8 @@ loop-less : tie.Need-loop-less Inv-loop μ-loop
 loop-less c = search needs
 
 loop-again : tie.Need-loop-again Inv-loop μ-loop
-loop-again c = past-next _ (c .before .before .before .loop .inv) (c .before .before .loop-test .taken) (sym (c .before .stands-before .ensures) ∙ not-false _ (c .if1 .left))
+loop-again c = let test = c .before .before in
+    past-next _ (test .before .loop .inv) (test .loop-test .taken) (sym (c .before .stands-before .ensures) ∙ not-false _ (c .if1 .left))
 
 returns-2 : tie.Need-returns-2 Inv-loop μ-loop
 returns-2 c = group-end (c .before .loop .inv) (c .loop-test .left)

@@ -29,7 +29,10 @@ returns-2 : tie.Need-returns-2
 returns-2 c = member-next _ _ (c .before .before .if2 .taken) (c .if3 .taken)
 
 returns-3 : tie.Need-returns-3
-returns-3 c = let t = c .before .before in member-gone _ _ (t .before .before .before .before .pre .0 (not-false _ (t .before .if1 .left))) (t .if2 .taken) (c .if3 .left)
+returns-3 c = let if2 = c .before .before in
+    let if1 = if2 .before in
+    let start = if1 .before .before .before in
+    member-gone _ _ (start .pre .0 (not-false _ (if1 .if1 .left))) (if2 .if2 .taken) (c .if3 .left)
 
 returns-4 : tie.Need-returns-4
 returns-4 c = member-last _ _ (c .before .before .before .before .pre .1) (c .if2 .left)

@@ -26,13 +26,16 @@ part-copy-end : tie.Need-part-copy-end
 part-copy-end c = search needs
 
 copy-requires : tie.Need-copy-requires
-copy-requires c κs = let s = c .before .before in omega (arith, length-take-le (s .args .runs) (now (s .args .entries)) (s .pre .0), rest-length (s .args .n) (now (s .args .scratch)), s .pre .1)
+copy-requires c κs = let s = c .before .before in
+    omega (arith, length-take-le (s .args .runs) (now (s .args .entries)) (s .pre .0), rest-length (s .args .n) (now (s .args .scratch)), s .pre .1)
 
 same-length : tie.Need-same-length
 same-length c = search needs
 
 returns : tie.Need-returns
-returns c = let s = c .before .before .before .before in put-aside _ _ _ _ (let h : s .args .n ≤ length (now (s .args .scratch)) = omega (arith, s .pre .1) in h) (c .before .copy .ensures)
+returns c = let copy = c .before in
+    let start = copy .before .before .before in
+    put-aside _ _ _ _ (let h : start .args .n ≤ length (now (start .args .scratch)) = omega (arith, start .pre .1) in h) (copy .copy .ensures)
 
 pub put-aside-spec : {M : Type 1} → statement M
 put-aside-spec =

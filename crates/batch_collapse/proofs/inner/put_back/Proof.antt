@@ -1,6 +1,5 @@
 use mathlib.Core.Path.{sym}
 use native.Mathlib.Omega.{arith}
-use denote.Ref.{now}
 use lib.Seq.{length-take-le}
 use Rattle.batch_collapse.proofs.Restoring.{put-room, put-back}
 use borrow.Author.Needs.{needs}
@@ -29,13 +28,18 @@ slice-aggregate-copy : tie.Need-slice-aggregate-copy
 slice-aggregate-copy c = let s = c .before .before .before .before .before in sym (length-take-le _ _ (omega (arith, s .pre .0, s .pre .2)))
 
 copy-requires-2 : tie.Need-copy-requires-2
-copy-requires-2 c κs = let s = c .before .before .before .before .before .before in put-room (s .args .n) (s .args .runs) _ (now (s .args .scratch)) (now (s .args .out)) (s .pre .0) (s .pre .1) (s .pre .2) (c .before .before .before .copy .ensures)
+copy-requires-2 c κs = let copy = c .before .before .before in
+    let start = copy .before .before .before in
+    put-room (start .args .n) _ _ _ _ (start .pre .0) (start .pre .1) (start .pre .2) (copy .copy .ensures)
 
 same-length : tie.Need-same-length
 same-length c = search needs
 
 returns : tie.Need-returns
-returns c = let s = c .before .before .before .before .before .before .before .before in put-back (s .args .n) (s .args .runs) _ (now (s .args .scratch)) (now (s .args .out)) (s .pre .0) (s .pre .1) (s .pre .2) (c .before .before .before .before .before .copy .ensures) (c .before .copy2 .ensures)
+returns c = let copy2 = c .before in
+    let copy = copy2 .before .before .before .before in
+    let start = copy .before .before .before in
+    put-back (start .args .n) _ _ _ _ (start .pre .0) (start .pre .1) (start .pre .2) (copy .copy .ensures) (copy2 .copy2 .ensures)
 
 pub put-back-spec : {M : Type 1} → statement M
 put-back-spec =

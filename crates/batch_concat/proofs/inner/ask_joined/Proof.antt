@@ -54,22 +54,59 @@ same-length : tie.Need-same-length Inv-loop μ-loop
 same-length c = search needs
 
 returns : tie.Need-returns Inv-loop μ-loop
-returns c = let q = c .before .before .before in let l2 = q .before in let l1 = l2 .before in let p2 = l1 .before in let p1 = p2 .before in let t = p1 .before in let l = t .before .before in let s = l .before .before .before .before .before .before .before .before .before .before in ask-refused _ _ _ _ _ _ _ _ (l .loop .inv .0) (t .if1 .taken) (s .pre .0) (s .pre .1) (p1 .part-at .ensures) (p2 .part-at2 .ensures) (back _ (l1 .length .ok) ∙ l1 .length .ensures) (back _ (l2 .length2 .ok) ∙ l2 .length2 .ensures) (q .ask-sum .ensures) (ap shownAsked (c .before .asked .given .1))
+returns c = let asked = c .before in
+    let ask-sum = asked .before .before in
+    let length2 = ask-sum .before in
+    let length1 = length2 .before in
+    let part-at = length1 .before .before in
+    let if1 = part-at .before in
+    let loop = if1 .before .before in
+    let start = loop .before .before .before .before .before .before .before .before .before .before in
+    ask-refused _ _ _ _ _ _ _ _ (loop .loop .inv .0) (if1 .if1 .taken) (start .pre .0) (start .pre .1) (part-at .part-at .ensures)
+    (length1 .before .part-at2 .ensures) (back _ (length1 .length .ok) ∙ length1 .length .ensures)
+    (back _ (length2 .length2 .ok) ∙ length2 .length2 .ensures) (ask-sum .ask-sum .ensures) (ap shownAsked (asked .asked .given .1))
 
 add-next-key : tie.Need-add-next-key Inv-loop μ-loop
-add-next-key c = let t = c .before .before .before .before .before .before .before in omega (arith, t .if1 .taken, t .before .before .before .before .before .before .before .before .before .before .before .before .good)
+add-next-key c = let if1 = c .before .before .before .before .before .before .before in
+    let start = if1 .before .before .before .before .before .before .before .before .before .before .before .before in
+    omega (arith, if1 .if1 .taken, start .good)
 
 add-next-key-2 : tie.Need-add-next-key-2 Inv-loop μ-loop
-add-next-key-2 c = let q = c .before .before in let l2 = q .before in let l1 = l2 .before in let p2 = l1 .before in let p1 = p2 .before in let t = p1 .before in let l = t .before .before in let s = l .before .before .before .before .before .before .before .before .before .before in omega (arith, ask-b _ _ _ _ _ _ _ _ (l .loop .inv .0) (t .if1 .taken), s .good)
+add-next-key-2 c = let if1 = c .before .before .before .before .before .before .before in
+    let loop = if1 .before .before in
+    let start = loop .before .before .before .before .before .before .before .before .before .before in
+    omega (arith, ask-b _ _ _ _ _ _ _ _ (loop .loop .inv .0) (if1 .if1 .taken), start .good)
 
 next-key-requires-2 : tie.Need-next-key-requires-2 Inv-loop μ-loop
-next-key-requires-2 c κs = let t = c .before .before .before .before .before .before .before .before in let l = t .before .before in (l .before .before .before .before .before .before .before .before .before .before .pre .2, omega (arith, t .if1 .taken), l .loop .inv .1 (t .if1 .taken))
+next-key-requires-2 c κs = let if1 = c .before .before .before .before .before .before .before .before in
+    let loop = if1 .before .before in
+    let start = loop .before .before .before .before .before .before .before .before .before .before in
+    (start .pre .2, omega (arith, if1 .if1 .taken), loop .loop .inv .1 (if1 .if1 .taken))
 
 loop-less : tie.Need-loop-less Inv-loop μ-loop
-loop-less c = let q = c .before .before .before .before .before .before in let l2 = q .before in let l1 = l2 .before in let p2 = l1 .before in let p1 = p2 .before in let t = p1 .before in let l = t .before .before in let s = l .before .before .before .before .before .before .before .before .before .before in omega (arith, c .before .before .next-key2 .ensures .0 .after, t .if1 .taken)
+loop-less c = let next-key2 = c .before .before in
+    let if1 = next-key2 .before .before .before .before .before .before .before .before .before in
+    omega (arith, next-key2 .next-key2 .ensures .0 .after, if1 .if1 .taken)
 
 loop-again : tie.Need-loop-again Inv-loop μ-loop
-loop-again c = let k = c .before .before .next-key2 .ensures in let q = c .before .before .before .before .before .before in let l2 = q .before in let l1 = l2 .before in let p2 = l1 .before in let p1 = p2 .before in let t = p1 .before in let l = t .before .before in let s = l .before .before .before .before .before .before .before .before .before .before in (ask-next _ _ _ _ _ _ _ _ (l .loop .inv .0) (t .if1 .taken) (s .pre .0) (s .pre .1) (p1 .part-at .ensures) (p2 .part-at2 .ensures) (back _ (l1 .length .ok) ∙ l1 .length .ensures) (back _ (l2 .length2 .ok) ∙ l2 .length2 .ensures) (q .ask-sum .ensures) (ap shownAsked (c .before .before .before .before .enum-told .given .1)) (k .0), k .1, search needs)
+loop-again c = let next-key2 = c .before .before in
+    let told = next-key2 .before .before in
+    let place = told .before .before in
+    let q = place in
+    let l2 = q .before in
+    let l1 = l2 .before in
+    let p2 = l1 .before in
+    let p1 = p2 .before in
+    let t = p1 .before in
+    let l = t .before .before in
+    let s = l .before .before .before .before .before .before .before .before .before .before in
+    let k = next-key2 .next-key2 .ensures in (
+      ask-next _ _ _ _ _ _ _ _ (l .loop .inv .0) (t .if1 .taken) (s .pre .0) (s .pre .1) (p1 .part-at .ensures) (p2 .part-at2 .ensures)
+          (back _ (l1 .length .ok) ∙ l1 .length .ensures) (back _ (l2 .length2 .ok) ∙ l2 .length2 .ensures) (q .ask-sum .ensures)
+          (ap shownAsked (told .enum-told .given .1)) (k .0),
+      k .1,
+      search needs,
+    )
 
 same-length-2 : tie.Need-same-length-2 Inv-loop μ-loop
 same-length-2 c = search needs

@@ -20,8 +20,13 @@ same-length : tie.Need-same-length
 same-length c = search needs
 
 returns : tie.Need-returns
-returns c = let o = c .before .before .before .before .before in let s = o .before .before .before .before .before in
-    (at-first (now (s .args .a-keys)) (now (s .args .b-keys)) (s .args .at) (c .before .before .if1 .taken) (c .find .ensures) (o .find-other .ensures .0), o .find-other .ensures .1)
+returns c = let if1 = c .before .before in
+    let find-other = if1 .before .before .before in
+    let start = find-other .before .before .before .before .before in (
+      at-first (now (start .args .a-keys)) (now (start .args .b-keys)) (start .args .at) (if1 .if1 .taken) (c .find .ensures)
+          (find-other .find-other .ensures .0),
+      find-other .find-other .ensures .1,
+    )
 
 sub-position : tie.Need-sub-position
 sub-position c = search needs
@@ -42,8 +47,14 @@ same-length-2 : tie.Need-same-length-2
 same-length-2 c = search needs
 
 returns-2 : tie.Need-returns-2
-returns-2 c = let o = c .before .before .before .before .before .before in let s = o .before .before .before .before .before in
-    (at-second (now (s .args .a-keys)) (now (s .args .b-keys)) (s .args .at) (c .before .before .before .if1 .left) (o .find-other .ensures .0) (c .before .find2 .ensures) (c .both .ensures), o .find-other .ensures .1)
+returns-2 c = let find2 = c .before in
+    let if1 = find2 .before .before in
+    let find-other = if1 .before .before .before in
+    let start = find-other .before .before .before .before .before in (
+      at-second (now (start .args .a-keys)) (now (start .args .b-keys)) (start .args .at) (if1 .if1 .left) (find-other .find-other .ensures .0)
+          (find2 .find2 .ensures) (c .both .ensures),
+      find-other .find-other .ensures .1,
+    )
 
 pub key-at-spec : {M : Type 1} → statement M
 key-at-spec =

@@ -30,8 +30,11 @@ same-length : tie.Need-same-length Inv-loop μ-loop
 same-length c = search needs
 
 returns : tie.Need-returns Inv-loop μ-loop
-returns c = let k = c .before .before .before in let t = k .before .before in
-    (passing-found _ _ _ (t .before .loop .inv .0) (t .loop-test .taken) (k .key-at .ensures .0) refl (c .if1 .taken), λ h. rw (k .key-at .ensures .0) (k .key-at .ensures .1))
+returns c = let key-at = c .before .before .before in
+    let test = key-at .before .before in (
+      passing-found _ _ _ (test .before .loop .inv .0) (test .loop-test .taken) (key-at .key-at .ensures .0) refl (c .if1 .taken),
+      λ h. rw (key-at .key-at .ensures .0) (key-at .key-at .ensures .1),
+    )
 
 add-at : tie.Need-add-at Inv-loop μ-loop
 add-at c = search needs
@@ -40,8 +43,12 @@ loop-less : tie.Need-loop-less Inv-loop μ-loop
 loop-less c = search needs
 
 loop-again : tie.Need-loop-again Inv-loop μ-loop
-loop-again c = let k = c .before .before .before in let t = k .before .before in
-    (passing-next _ _ _ (t .before .loop .inv .0) (t .loop-test .taken) (ap (λ (j : Joined). j .kept) (sym (k .key-at .ensures .0)) ∙ c .if1 .left), k .key-at .ensures .1, search needs)
+loop-again c = let key-at = c .before .before .before in
+    let test = key-at .before .before in (
+      passing-next _ _ _ (test .before .loop .inv .0) (test .loop-test .taken) (ap (λ (j : Joined). j .kept) (sym (key-at .key-at .ensures .0)) ∙ c .if1 .left),
+      key-at .key-at .ensures .1,
+      search needs,
+    )
 
 same-length-2 : tie.Need-same-length-2 Inv-loop μ-loop
 same-length-2 c = c .before .loop .inv .2

@@ -1,6 +1,7 @@
 use Prim.Native.Nat.{ℕ}
 use mathlib.Core.Path.{refl}
 use lib.ListN.{length-replicate}
+use Rattle.batch_keys.specs.Workers.{blockSize}
 use Rattle.batch_index.proofs.Lowest.{no-test}
 use borrow.Author.Needs.{needs}
 use Rattle.batch_getitems.proofs.inner.count_items.Statement.{statement}
@@ -13,7 +14,12 @@ slice-aggregate-count-items-by : tie.Need-slice-aggregate-count-items-by
 slice-aggregate-count-items-by c = search needs
 
 count-items-by-requires : tie.Need-count-items-by-requires
-count-items-by-requires c κs = (c .before .before .before .before .before .before .pre .0, c .before .before .before .before .before .before .pre .1, λ t. record { few = c .before .before .index-pays .ensures (c .before .if1 .taken); room = length-replicate {A = ℕ} 32768 0 })
+count-items-by-requires c κs = let index-pays = c .before .before in
+    let start = index-pays .before .before .before .before in (
+      start .pre .0,
+      start .pre .1,
+      λ t. record { few = index-pays .index-pays .ensures (c .before .if1 .taken); room = length-replicate {A = ℕ} blockSize 0 },
+    )
 
 returns : tie.Need-returns
 returns c = search needs
@@ -22,7 +28,7 @@ slice-aggregate-count-items-by-2 : tie.Need-slice-aggregate-count-items-by-2
 slice-aggregate-count-items-by-2 c = search needs
 
 count-items-by-requires-2 : tie.Need-count-items-by-requires-2
-count-items-by-requires-2 c κs = (c .before .before .before .before .before .before .pre .0, c .before .before .before .before .before .before .pre .1, λ t. no-test t refl)
+count-items-by-requires-2 c κs = let start = c .before .before .before .before .before .before in (start .pre .0, start .pre .1, λ t. no-test t refl)
 
 returns-2 : tie.Need-returns-2
 returns-2 c = search needs

@@ -1,6 +1,7 @@
 use Prim.Native.Nat.{ℕ}
 use mathlib.Core.Path.{refl}
 use lib.ListN.{length-replicate}
+use Rattle.batch_keys.specs.Workers.{blockSize}
 use Rattle.batch_index.proofs.Lowest.{no-test}
 use borrow.Author.Needs.{needs}
 use Rattle.batch_getitems.proofs.inner.getitems.Statement.{statement}
@@ -13,7 +14,10 @@ slice-aggregate-getitems-by : tie.Need-slice-aggregate-getitems-by
 slice-aggregate-getitems-by c = search needs
 
 getitems-by-requires : tie.Need-getitems-by-requires
-getitems-by-requires c κs = (c .before .before .before .before .before .before .before .before .before .before .pre .0, c .before .before .before .before .before .before .before .before .before .before .pre .1, λ t. record { few = c .before .before .before .before .before .index-pays .ensures (c .before .before .before .before .if1 .taken); room = length-replicate {A = ℕ} 32768 0 })
+getitems-by-requires c κs = let if1 = c .before .before .before .before in
+    let index-pays = if1 .before in
+    let start = index-pays .before .before .before .before .before in
+    (start .pre .0, start .pre .1, λ t. record { few = index-pays .index-pays .ensures (if1 .if1 .taken); room = length-replicate {A = ℕ} blockSize 0 })
 
 same-length : tie.Need-same-length
 same-length c = search needs
@@ -31,7 +35,8 @@ slice-aggregate-getitems-by-2 : tie.Need-slice-aggregate-getitems-by-2
 slice-aggregate-getitems-by-2 c = search needs
 
 getitems-by-requires-2 : tie.Need-getitems-by-requires-2
-getitems-by-requires-2 c κs = (c .before .before .before .before .before .before .before .before .before .before .pre .0, c .before .before .before .before .before .before .before .before .before .before .pre .1, λ t. no-test t refl)
+getitems-by-requires-2 c κs = let start = c .before .before .before .before .before .before .before .before .before .before in
+    (start .pre .0, start .pre .1, λ t. no-test t refl)
 
 same-length-4 : tie.Need-same-length-4
 same-length-4 c = search needs

@@ -23,7 +23,8 @@ shared-slice-read-count-if-other : tie.Need-shared-slice-read-count-if-other Inv
 shared-slice-read-count-if-other c = omega (arith, c .before .loop-test .taken, c .before .before .before .before .pre .1)
 
 count-if-other-requires : tie.Need-count-if-other-requires Inv-loop μ-loop
-count-if-other-requires c κs = let l = c .before .before in omega (arith, c .before .loop-test .taken, l .loop .inv .few, l .loop .inv .begun, l .before .before .pre .2)
+count-if-other-requires c κs = let l = c .before .before in
+    omega (arith, c .before .loop-test .taken, l .loop .inv .few, l .loop .inv .begun, l .before .before .pre .2)
 
 add-i : tie.Need-add-i Inv-loop μ-loop
 add-i c = search needs

@@ -1,5 +1,5 @@
 use native.Mathlib.Omega.{arith}
-use Rattle.batch_index.proofs.Indexing.{home-within, index-slots, entered-far, entered-old, entered-new}
+use Rattle.batch_index.proofs.Indexing.{bucket-within, index-slots, entered-far, entered-old, entered-new}
 use borrow.Author.Needs.{needs}
 use Rattle.batch_index.proofs.inner.enter.Statement.{statement}
 use Rattle.batch_index.proofs.inner.enter.Tie as tie
@@ -10,17 +10,21 @@ mul-key c = search needs
 shared-slice-read-key : tie.Need-shared-slice-read-key
 shared-slice-read-key c = search needs
 
-home-requires : tie.Need-home-requires
-home-requires c κs = search needs
+bucket-requires : tie.Need-bucket-requires
+bucket-requires c κs = search needs
 
 seek-requires : tie.Need-seek-requires
-seek-requires c κs = let s = c .before .before .before .before .before in (index-slots (s .pre .3) (omega (arith, s .pre .2)), home-within _ _ (c .before .home .ensures))
+seek-requires c κs = let s = c .before .before .before .before .before in
+    (index-slots (s .pre .3) (omega (arith, s .pre .2)), bucket-within _ _ (c .before .bucket .ensures))
 
 same-length : tie.Need-same-length
 same-length c = search needs
 
 returns : tie.Need-returns
-returns c = entered-far (c .before .before .before .before .before .before .before .pre .3) (c .before .before .before .before .before .before .before .pre .2) (c .before .before .before .home .ensures) (c .before .seek .ensures)
+returns c = let seek = c .before in
+    let bucket = seek .before .before in
+    let start = bucket .before .before .before .before in
+    entered-far (start .pre .3) (start .pre .2) (bucket .bucket .ensures) (seek .seek .ensures)
 
 add-widened : tie.Need-add-widened
 add-widened c = search needs
@@ -41,7 +45,12 @@ same-length-2 : tie.Need-same-length-2
 same-length-2 c = search needs
 
 returns-2 : tie.Need-returns-2
-returns-2 c = entered-old (c .before .before .before .before .before .before .before .before .before .before .pre .3) (c .before .before .before .before .before .before .before .before .before .before .pre .2) (c .before .before .before .before .before .before .home .ensures) (c .before .before .before .before .seek .ensures) (c .before .before .before .if1 .left) (c .before .widened .ensures) (c .if2 .taken)
+returns-2 c = let widened = c .before in
+    let if1 = widened .before .before in
+    let seek = if1 .before in
+    let bucket = seek .before .before in
+    let start = bucket .before .before .before .before in
+    entered-old (start .pre .3) (start .pre .2) (bucket .bucket .ensures) (seek .seek .ensures) (if1 .if1 .left) (widened .widened .ensures) (c .if2 .taken)
 
 add-table : tie.Need-add-table
 add-table c = search needs
@@ -62,7 +71,12 @@ same-length-3 : tie.Need-same-length-3
 same-length-3 c = search needs
 
 returns-3 : tie.Need-returns-3
-returns-3 c = entered-new (c .before .before .before .before .before .before .before .before .before .before .pre .3) (c .before .before .before .before .before .before .before .before .before .before .pre .2) (c .before .before .before .before .before .before .home .ensures) (c .before .before .before .before .seek .ensures) (c .before .before .before .if1 .left) (c .before .widened .ensures) (c .if2 .left)
+returns-3 c = let widened = c .before in
+    let if1 = widened .before .before in
+    let seek = if1 .before in
+    let bucket = seek .before .before in
+    let start = bucket .before .before .before .before in
+    entered-new (start .pre .3) (start .pre .2) (bucket .bucket .ensures) (seek .seek .ensures) (if1 .if1 .left) (widened .widened .ensures) (c .if2 .left)
 
 pub enter-spec : {M : Type 1} → statement M
 enter-spec =
@@ -70,7 +84,7 @@ enter-spec =
     (tie.spec
     mul-key
     shared-slice-read-key
-    home-requires
+    bucket-requires
     seek-requires
     same-length
     returns

@@ -9,22 +9,22 @@ use Rattle.batch_index.proofs.inner.find_all.Statement.{statement}
 use Rattle.batch_index.proofs.inner.find_all.Tie as tie
 
 abbrev Inv-loop : tie.InvT-loop
-Inv-loop keys wanted found₀ shares part₀ found part = (length found ≡ length found₀) × FoundBefore keys wanted shares part found
+Inv-loop keys wanted found₀ partitions part₀ found part = (length found ≡ length found₀) × FoundBefore keys wanted partitions part found
 
 abbrev μ-loop : tie.MeasureT-loop
-μ-loop keys wanted found₀ shares part₀ found part = shares - part
+μ-loop keys wanted found₀ partitions part₀ found part = partitions - part
 
-shares-for-requires : tie.Need-shares-for-requires Inv-loop μ-loop
-shares-for-requires c κs = search needs
+partitions-for-requires : tie.Need-partitions-for-requires Inv-loop μ-loop
+partitions-for-requires c κs = search needs
 
-find-share-requires : tie.Need-find-share-requires Inv-loop μ-loop
-find-share-requires c κs = search needs
+find-partition-requires : tie.Need-find-partition-requires Inv-loop μ-loop
+find-partition-requires c κs = search needs
 
 loop-holds : tie.Need-loop-holds Inv-loop μ-loop
 loop-holds c = search needs
 
-find-share-requires-2 : tie.Need-find-share-requires-2 Inv-loop μ-loop
-find-share-requires-2 c κs = search needs
+find-partition-requires-2 : tie.Need-find-partition-requires-2 Inv-loop μ-loop
+find-partition-requires-2 c κs = search needs
 
 add-part : tie.Need-add-part Inv-loop μ-loop
 add-part c = search needs
@@ -47,10 +47,10 @@ find-all-spec =
     (tie.spec
     Inv-loop
     μ-loop
-    shares-for-requires
-    find-share-requires
+    partitions-for-requires
+    find-partition-requires
     loop-holds
-    find-share-requires-2
+    find-partition-requires-2
     add-part
     loop-less
     loop-again

@@ -6,10 +6,10 @@ use Rattle.batch_index.proofs.inner.seek.Statement.{statement}
 use Rattle.batch_index.proofs.inner.seek.Tie as tie
 
 abbrev Inv-loop : tie.InvT-loop
-Inv-loop table keys home key d₀ d = Seeking keys table home key d
+Inv-loop table keys bucket key d₀ d = Seeking keys table bucket key d
 
 abbrev μ-loop : tie.MeasureT-loop
-μ-loop table keys home key d₀ d = 256 - d
+μ-loop table keys bucket key d₀ d = 256 - d
 
 loop-holds : tie.Need-loop-holds Inv-loop μ-loop
 loop-holds c = seeking-start _ _ _ _
@@ -33,10 +33,14 @@ sub-if2 : tie.Need-sub-if2 Inv-loop μ-loop
 sub-if2 c = search needs
 
 mul-if2 : tie.Need-mul-if2 Inv-loop μ-loop
-mul-if2 c = let s = c .before .before .before .before .before .before .before in omega (arith, s .pre .0 .1 (s .args .home + c .before .before .before .before .loop .d), c .before .widened .ensures)
+mul-if2 c = let s = c .before .before .before .before .before .before .before in
+    omega (arith, s .pre .0 .1 (s .args .bucket + c .before .before .before .before .loop .d), c .before .widened .ensures)
 
 shared-slice-read-if2 : tie.Need-shared-slice-read-if2 Inv-loop μ-loop
-shared-slice-read-if2 c = let s = c .before .before .before .before .before .before .before .before in omega (arith, s .pre .0 .1 (s .args .home + c .before .before .before .before .before .loop .d), c .before .before .widened .ensures, c .before .if1 .left)
+shared-slice-read-if2 c = let widened = c .before .before in
+    let loop = widened .before .before .before in
+    let start = loop .before .before .before in
+    omega (arith, start .pre .0 .1 (start .args .bucket + loop .loop .d), widened .widened .ensures, c .before .if1 .left)
 
 returns-2 : tie.Need-returns-2 Inv-loop μ-loop
 returns-2 c = sought-key _ _ _ _ (c .before .before .before .before .before .before .loop .inv) (c .before .before .before .widened .ensures) (c .if2 .taken)
@@ -48,7 +52,10 @@ loop-less : tie.Need-loop-less Inv-loop μ-loop
 loop-less c = search needs
 
 loop-again : tie.Need-loop-again Inv-loop μ-loop
-loop-again c = seeking-next _ _ _ _ (c .before .before .before .before .before .before .loop .inv) (c .before .before .before .widened .ensures) (c .before .before .before .before .before .loop-test .taken) (c .before .before .if1 .left) (c .if2 .left)
+loop-again c = let if1 = c .before .before in
+    let widened = if1 .before in
+    let test = widened .before .before in
+    seeking-next _ _ _ _ (test .before .loop .inv) (widened .widened .ensures) (test .loop-test .taken) (if1 .if1 .left) (c .if2 .left)
 
 returns-3 : tie.Need-returns-3 Inv-loop μ-loop
 returns-3 c = sought-end _ _ _ _ (c .before .loop .inv) (c .loop-test .left)

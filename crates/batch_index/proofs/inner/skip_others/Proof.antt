@@ -33,7 +33,10 @@ loop-less : tie.Need-loop-less Inv-loop μ-loop
 loop-less c = search needs
 
 loop-again : tie.Need-loop-again Inv-loop μ-loop
-loop-again c = let l = c .before .before .before in skip-stride _ _ (l .loop .inv) (omega arith) (omega (arith, c .before .before .loop-test .taken, l .loop .inv .within)) (c .before .all-others .ensures (not-false _ (c .if1 .left)))
+loop-again c = let test = c .before .before in
+    let loop = test .before in
+    skip-stride _ _ (loop .loop .inv) (omega arith) (omega (arith, test .loop-test .taken, loop .loop .inv .within))
+    (c .before .all-others .ensures (not-false _ (c .if1 .left)))
 
 returns-2 : tie.Need-returns-2 Inv-loop μ-loop
 returns-2 c = c .before .loop .inv

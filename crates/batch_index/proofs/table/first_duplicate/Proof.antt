@@ -1,15 +1,15 @@
 use Prim.Native.Nat.{_-_}
 use native.Mathlib.Omega.{arith}
-use Rattle.batch_index.proofs.Shares.{Passing, passing-start, passing-next, passing-end}
+use Rattle.batch_index.proofs.Partitions.{Passing, passing-start, passing-next, passing-end}
 use borrow.Author.Needs.{needs}
 use Rattle.batch_index.proofs.table.first_duplicate.Statement.{statement}
 use Rattle.batch_index.proofs.table.first_duplicate.Tie as tie
 
 abbrev Inv-loop : tie.InvT-loop
-Inv-loop keys shares limit₀ part₀ limit part = Passing keys shares part limit
+Inv-loop keys partitions limit₀ part₀ limit part = Passing keys partitions part limit
 
 abbrev μ-loop : tie.MeasureT-loop
-μ-loop keys shares limit₀ part₀ limit part = shares - part
+μ-loop keys partitions limit₀ part₀ limit part = partitions - part
 
 scan-requires : tie.Need-scan-requires Inv-loop μ-loop
 scan-requires c κs = search needs
@@ -23,8 +23,8 @@ scan-requires-2 c κs = search needs
 returns-2 : tie.Need-returns-2 Inv-loop μ-loop
 returns-2 c = search needs
 
-shares-for-requires : tie.Need-shares-for-requires Inv-loop μ-loop
-shares-for-requires c κs = search needs
+partitions-for-requires : tie.Need-partitions-for-requires Inv-loop μ-loop
+partitions-for-requires c κs = search needs
 
 loop-holds : tie.Need-loop-holds Inv-loop μ-loop
 loop-holds c = passing-start _ _
@@ -60,7 +60,7 @@ first-duplicate-spec =
     returns
     scan-requires-2
     returns-2
-    shares-for-requires
+    partitions-for-requires
     loop-holds
     pass-requires
     scan-requires-3

@@ -29,7 +29,8 @@ stands-at-requires-2 c κs = search needs
 
 returns-2 : tie.Need-returns-2
 returns-2 c = let s = c .before .before .before .before .before in
-    apart-found _ _ _ (distinct-apart _ (known-distinct _ _ (c .before .before .enum-told2 .given .1) (s .pre))) (c .before .stands-at2 .ensures) (c .if2 .taken)
+    apart-found _ _ _ (distinct-apart _ (known-distinct _ _ (c .before .before .enum-told2 .given .1) (s .pre))) (c .before .stands-at2 .ensures)
+    (c .if2 .taken)
 
 scan-requires : tie.Need-scan-requires
 scan-requires c κs = search needs

@@ -31,7 +31,10 @@ same-length : tie.Need-same-length
 same-length c = search needs
 
 returns : tie.Need-returns
-returns c = block-kept _ _ _ _ _ (c .before .before .before .before .before .before .before .block-end .ensures) (c .before .before .before .before .find-all .ensures) (c .before .before .before .before .before .before .before .before .before .before .before .pre .1) (c .widened .ensures)
+returns c = let find-all = c .before .before .before .before in
+    let block-end = find-all .before .before .before in
+    let start = block-end .before .before .before .before in
+    block-kept _ _ _ _ _ (block-end .block-end .ensures) (find-all .find-all .ensures) (start .pre .1) (c .widened .ensures)
 
 pub find-block-spec : {M : Type 1} → statement M
 find-block-spec =

@@ -6,13 +6,17 @@ use Rattle.batch_keys.proofs.inner.find_next.Statement.{statement}
 use Rattle.batch_keys.proofs.inner.find_next.Tie as tie
 
 find-block-requires : tie.Need-find-block-requires
-find-block-requires c κs = let s = c .before .before .before .before .before .before in (s .pre .2 .few (c .before .before .if1 .taken), s .pre .1, s .pre .2 .room (c .before .before .if1 .taken))
+find-block-requires c κs = let s = c .before .before .before .before .before .before in
+    (s .pre .2 .few (c .before .before .if1 .taken), s .pre .1, s .pre .2 .room (c .before .before .if1 .taken))
 
 same-length : tie.Need-same-length
 same-length c = search needs
 
 returns : tie.Need-returns
-returns c = (c .before .before .find-block .ensures .first, kept-block (c .before .before .before .before .before .before .before .before .before .pre .2) (c .before .before .before .before .if2 .taken) (search needs) (c .before .before .find-block .ensures))
+returns c = let find-block = c .before .before in
+    let if2 = find-block .before .before in
+    let start = if2 .before .before .before .before .before in
+    (find-block .find-block .ensures .first, kept-block (start .pre .2) (if2 .if2 .taken) (search needs) (find-block .find-block .ensures))
 
 mul-widened : tie.Need-mul-widened
 mul-widened c = search needs
@@ -24,8 +28,12 @@ widened-requires : tie.Need-widened-requires
 widened-requires c κs = search needs
 
 returns-2 : tie.Need-returns-2
-returns-2 c = let s = c .before .before .before .before .before .before .before in
-    (c .widened .ensures ∙ kept-at (s .pre .2) (s .pre .1) (c .before .before .before .if1 .taken) (c .before .before .if2 .left), kept-next (s .pre .2) (c .before .before .before .if1 .taken) (c .before .before .if2 .left))
+returns-2 c = let if2 = c .before .before in
+    let if1 = if2 .before in
+    let start = if1 .before .before .before .before in (
+      c .widened .ensures ∙ kept-at (start .pre .2) (start .pre .1) (if1 .if1 .taken) (if2 .if2 .left),
+      kept-next (start .pre .2) (if1 .if1 .taken) (if2 .if2 .left),
+    )
 
 mul-find : tie.Need-mul-find
 mul-find c = search needs

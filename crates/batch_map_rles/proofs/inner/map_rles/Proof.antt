@@ -42,7 +42,9 @@ mul-out-keys : tie.Need-mul-out-keys Inv-loop μ-loop
 mul-out-keys c = search needs
 
 slice-write-out-keys : tie.Need-slice-write-out-keys Inv-loop μ-loop
-slice-write-out-keys c = let l = c .before .before in omega (arith, l .loop .inv .keys .long, l .before .before .before .before .before .pre .room-keys, c .before .loop-test .taken)
+slice-write-out-keys c = let loop = c .before .before in
+    let start = loop .before .before .before .before .before in
+    omega (arith, loop .loop .inv .keys .long, start .pre .room-keys, c .before .loop-test .taken)
 
 part-at-requires : tie.Need-part-at-requires Inv-loop μ-loop
 part-at-requires c κs = search needs
@@ -81,12 +83,15 @@ map-runs-requires c κs = let p = c .before .before in
     map-asked (l .before .before .before .before .before .pre) (l .loop .inv) (n .loop-test .taken) (p .before .part-at .ensures) (p .part-at2 .ensures)
 
 add-used : tie.Need-add-used Inv-loop μ-loop
-add-used c = let w = c .before .before in
-    let p = w .before .before .before in
-    let n = p .before .before .before in
-    let l = n .before in
-    let s = l .before .before .before .before .before in
-    omega (arith, map-used (s .pre) (l .loop .inv) (n .loop-test .taken) (p .before .part-at .ensures) (p .part-at2 .ensures) (w .map-runs .ensures), l .loop .inv .laying .long-ends, s .good)
+add-used c = let map-runs = c .before .before in
+    let part-at2 = map-runs .before .before .before in
+    let part-at = part-at2 .before in
+    let test = part-at .before .before in
+    let loop = test .before in
+    let start = loop .before .before .before .before .before in
+    let used = map-used (start .pre) (loop .loop .inv) (test .loop-test .taken) (part-at .part-at .ensures) (part-at2 .part-at2 .ensures)
+    (map-runs .map-runs .ensures) in
+    omega (arith, used, loop .loop .inv .laying .long-ends, start .good)
 
 add-k : tie.Need-add-k Inv-loop μ-loop
 add-k c = search needs

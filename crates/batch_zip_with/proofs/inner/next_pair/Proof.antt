@@ -14,7 +14,8 @@ use Rattle.batch_zip_with.proofs.inner.next_pair.Tie as tie
 
 abbrev Inv-loop : tie.InvT-loop
 Inv-loop a-keys b-keys lookup how from first-near block₀ places near₀ at₀ block near at =
-    Passing (pairAt how a-keys b-keys) (placesOf how (length a-keys) (length b-keys)) from at × KeptOther a-keys b-keys (lookup .indexed) block at × (length block ≡ length block₀)
+    Passing (pairAt how a-keys b-keys) (placesOf how (length a-keys) (length b-keys)) from at × KeptOther a-keys b-keys (lookup .indexed)
+    block at × (length block ≡ length block₀)
 
 abbrev μ-loop : tie.MeasureT-loop
 μ-loop a-keys b-keys lookup how from first-near block₀ places near₀ at₀ block near at = places - at
@@ -26,10 +27,18 @@ loop-holds : tie.Need-loop-holds Inv-loop μ-loop
 loop-holds c = let s = c .before .before .before .before in (passing-start _ _ _ (s .pre .1), s .pre .2, refl)
 
 pair-at-requires : tie.Need-pair-at-requires Inv-loop μ-loop
-pair-at-requires c κs = let l = c .before .before in
-    let p = l .before in
-    let s = p .before .before .before .before in
-    (s .pre .0, omega (arith, c .before .loop-test .taken, p .places .ensures, places-few (s .args .how) (length (now (s .args .a-keys))) (length (now (s .args .b-keys)))), l .loop .inv .1)
+pair-at-requires c κs = let loop = c .before .before in
+    let places = loop .before in
+    let start = places .before .before .before .before in (
+      start .pre .0,
+      omega (
+        arith,
+        c .before .loop-test .taken,
+        places .places .ensures,
+        places-few (start .args .how) (length (now (start .args .a-keys))) (length (now (start .args .b-keys))),
+      ),
+      loop .loop .inv .1,
+    )
 
 same-length : tie.Need-same-length Inv-loop μ-loop
 same-length c = search needs
@@ -53,10 +62,15 @@ loop-less : tie.Need-loop-less Inv-loop μ-loop
 loop-less c = search needs
 
 loop-again : tie.Need-loop-again Inv-loop μ-loop
-loop-again c = let e = c .before in
-    let r = e .before .before .before in
-    let l = r .before .before .before in
-    (passing-next _ _ _ (l .loop .inv .0) (rw (l .before .places .ensures) at (r .before .before .loop-test .taken)) (ap (λ (j : Joined). j .kept) (sym (r .pair-at .ensures .0)) ∙ e .if1 .left), r .pair-at .ensures .1, search needs)
+loop-again c = let if1 = c .before in
+    let pair-at = if1 .before .before .before in
+    let test = pair-at .before .before in
+    let places = test .before .before in (
+      passing-next _ _ _ (test .before .loop .inv .0) (rw (places .places .ensures) at (test .loop-test .taken))
+          (ap (λ (j : Joined). j .kept) (sym (pair-at .pair-at .ensures .0)) ∙ if1 .if1 .left),
+      pair-at .pair-at .ensures .1,
+      search needs,
+    )
 
 same-length-2 : tie.Need-same-length-2 Inv-loop μ-loop
 same-length-2 c = c .before .loop .inv .2

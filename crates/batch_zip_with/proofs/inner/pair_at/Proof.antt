@@ -25,8 +25,11 @@ same-length c = search needs
 returns : tie.Need-returns
 returns c = let t = c .before .before .before in
     let f = t .before .before .before in
-    let a = f .before .before .before .before .before .args in
-    (left-at (a .how) (now (a .a-keys)) (now (a .b-keys)) (a .at) (t .if1 .taken) (f .find-other .ensures .0) (c .before .keeps-left .ensures) (c .either .ensures), f .find-other .ensures .1)
+    let a = f .before .before .before .before .before .args in (
+      left-at (a .how) (now (a .a-keys)) (now (a .b-keys)) (a .at) (t .if1 .taken) (f .find-other .ensures .0) (c .before .keeps-left .ensures)
+          (c .either .ensures),
+      f .find-other .ensures .1,
+    )
 
 sub-b : tie.Need-sub-b
 sub-b c = search needs

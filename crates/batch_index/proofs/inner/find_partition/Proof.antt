@@ -1,7 +1,7 @@
 use Rattle.batch_index.proofs.Indexing.{index-start}
 use borrow.Author.Needs.{needs}
-use Rattle.batch_index.proofs.inner.find_share.Statement.{statement}
-use Rattle.batch_index.proofs.inner.find_share.Tie as tie
+use Rattle.batch_index.proofs.inner.find_partition.Statement.{statement}
+use Rattle.batch_index.proofs.inner.find_partition.Tie as tie
 
 slice-aggregate-fill : tie.Need-slice-aggregate-fill
 slice-aggregate-fill c = search needs
@@ -21,8 +21,8 @@ same-length c = search needs
 returns : tie.Need-returns
 returns c = search needs
 
-pub find-share-spec : {M : Type 1} → statement M
-find-share-spec =
+pub find-partition-spec : {M : Type 1} → statement M
+find-partition-spec =
     tie.close
     (tie.spec
     slice-aggregate-fill

@@ -1,8 +1,8 @@
 use mathlib.Core.Path.{sym}
 use Rattle.batch_keys.proofs.Doubles.{first-none}
 use borrow.Author.Needs.{needs}
-use Rattle.batch_keys.proofs.order_of.Statement.{statement}
-use Rattle.batch_keys.proofs.order_of.Tie as tie
+use Rattle.batch_keys.proofs.inner.order_of.Statement.{statement}
+use Rattle.batch_keys.proofs.inner.order_of.Tie as tie
 
 ascends-requires : tie.Need-ascends-requires
 ascends-requires c κs = search needs
