@@ -50,7 +50,7 @@ fn draw_value(out: usize, buffer: &mut [u8], x: i64, width: i64, value: i64) -> 
     put_form(out, buffer, form, [middle, value, 0, 0, 0, 0])
 }
 
-// Where a run starts behind another one, with a dot if other columns break there too.
+// Where a run starts after another one, with a dot if other columns break there too.
 fn draw_break(out: usize, buffer: &mut [u8], x: i64, seam: Seam) -> usize {
     if seam.is_of_several() {
         let dotted =
@@ -147,7 +147,7 @@ fn draw_fill(
     draw_run(out, buffer, window, marks, known, form, name, run)
 }
 
-// A strip: its name, its runs and the fill behind them. Each strip is a group, and ends the group before it.
+// A strip: its name, its runs and the fill after them. Each strip is a group, and ends the group before it.
 fn draw_strip(
     out: usize,
     buffer: &mut [u8],
@@ -233,7 +233,7 @@ fn print_start(x: i64, seam: Seam) -> i64 {
     num::wrapping_sub(x, half(seam_width(seam)))
 }
 
-// The room behind a print from `start` on.
+// The room after a print from `start` on.
 fn room_behind(room: i64, start: i64, x: i64) -> i64 {
     if start < room {
         return room;

@@ -3,5 +3,6 @@
 use mathlib.Core.Path.{_≡_, sym, ap, _∙_}
 use Rattle.ffi.specs.Reading.{Laid}
 
-pub handed : {R A : Type 0} {read : R → A} {lay : A → R} {promised : A → Type 0} {c : A} {r : R} → (read r ≡ c) × (r ≡ lay c) → promised c → Laid read lay promised r
+pub handed : {R A : Type 0} {read : R → A} {lay : A → R} {promised : A → Type 0} {c : A} {r : R} → (read r ≡ c) × (r ≡ lay c) → promised c
+    → Laid read lay promised r
 handed {lay = lay} (again, laid) h = record { promise = rw again h; whole = laid ∙ ap lay (sym again) }

@@ -18,7 +18,8 @@ use Rattle.column.specs.declared.answer.Counted.{Counted}
 use Rattle.column.specs.declared.answer.Found.{Found}
 use Rattle.column.specs.declared.answer.RleBatch.{RleBatch}
 use Rattle.column.specs.declared.error.Error.{Error}
-use Rattle.column.specs.declared.error.Error.the-variants.{UnknownCode, LengthMismatch, InvalidOffsets, InvalidEnds, TooMany, NegativeRun, Overflow, DuplicateKey, InvalidInterval, UnequalLength, LengthTooShort, ShortBuffer}
+use Rattle.column.specs.declared.error.Error.the-variants.{UnknownCode, LengthMismatch, InvalidOffsets, InvalidEnds, TooMany, NegativeRun, Overflow}
+use Rattle.column.specs.declared.error.Error.the-variants.{DuplicateKey, InvalidInterval, UnequalLength, LengthTooShort, ShortBuffer}
 use Rattle.column.specs.declared.error.InKey.{InKey}
 use Rattle.column.specs.declared.error.InKey.the-variants.{Outside, Position}
 use Rattle.column.specs.declared.error.Refusal.{Refusal}
@@ -41,7 +42,10 @@ use Rattle.ffi.specs.declared.RlReduced.{RlReduced}
 use Rattle.ffi.specs.declared.RlRefusal.{RlRefusal}
 use Rattle.ffi.specs.declared.RlSummed.{RlSummed}
 use Rattle.ffi.specs.declared.RlViewed.{RlViewed}
-use Rattle.ffi.specs.Reading.{readError, readInKey, readRefusal, readChecked, readCounted, readEquality, readFound, readGot, readViewed, readBatched, readSummed, readReduction, readReduced, readPlannedMany, bitsAt, carried, placeOf, fields, laidRefusal, laidChecked, laidCounted, laidEquality, laidFound, laidGot, laidViewed, laidBatched, laidSummed, laidReduction, laidReduced, laidPlannedMany}
+use Rattle.ffi.specs.Reading.{readError, readInKey, readRefusal, readChecked, readCounted, readEquality, readFound, readGot, readViewed, readBatched}
+use Rattle.ffi.specs.Reading.{readSummed, readReduction, readReduced, readPlannedMany, bitsAt, carried, placeOf, fields, laidRefusal, laidChecked}
+use Rattle.ffi.specs.Reading.{laidCounted, laidEquality, laidFound, laidGot, laidViewed, laidBatched, laidSummed, laidReduction, laidReduced}
+use Rattle.ffi.specs.Reading.{laidPlannedMany}
 
 -- the bits of an i64, as `as_unsigned` tells them, out of which it is read
 pub signed-told : (z : ℤ) {u : ℕ} → mag z < 2 ^ 63 → u ≡ residue (toZ w64 (ofZ w64 z)) → (u ≡ residue z) × (signed u ≡ z)
@@ -177,14 +181,16 @@ module _ {x : RlRefusal} (laid : x ≡ laidChecked Checked.Valid) where
       → (readViewed (viewed x (v .first) s l) ≡ c) × (viewed x (v .first) s l ≡ laidViewed c)
   viewed-view same-start same-length e = rw (e, laid, same-start, same-length) (refl, refl)
 
-  pub batched-batch : {c : Batched} {b : RleBatch} → c ≡ Batched.Batch b → (readBatched (batched x (b .keys) (b .runs)) ≡ c) × (batched x (b .keys) (b .runs) ≡ laidBatched c)
+  pub batched-batch : {c : Batched} {b : RleBatch} → c ≡ Batched.Batch b → (readBatched (batched x (b .keys) (b .runs)) ≡ c)
+      × (batched x (b .keys) (b .runs) ≡ laidBatched c)
   batched-batch e = rw (e, laid) (refl, refl)
 
   pub summed-total : {c : Summed} {y z : ℤ} → y ≡ z → c ≡ Summed.Total z → (readSummed (summed x y) ≡ c) × (summed x y ≡ laidSummed c)
   summed-total same e = rw (e, laid, same) (refl, refl)
 
   pub reduced-answer : {c : Reduced} {a : Reduction} {y : RlReduced} → y ≡ laidReduction x a → c ≡ Reduced.Answer a → (readReduced y ≡ c) × (y ≡ laidReduced c)
-  reduced-answer {a = a} h e = rw (e, h, laid) (rw (reduction-refusal (laidChecked Checked.Valid) a) (ap Reduced.Answer (reduction-back (laidChecked Checked.Valid) a)), refl)
+  reduced-answer {a = a} h e = rw (e, h, laid)
+      (rw (reduction-refusal (laidChecked Checked.Valid) a) (ap Reduced.Answer (reduction-back (laidChecked Checked.Valid) a)), refl)
 
   pub planned-counts : {c : PlannedMany} {n m : ℕ} → c ≡ PlannedMany.Counts n m → (readPlannedMany (planned x n m) ≡ c) × (planned x n m ≡ laidPlannedMany c)
   planned-counts e = rw (e, laid) (refl, refl)

@@ -9,9 +9,6 @@ use lib.IntN.{ℤ, pos}
 use lib.ListN.{getD}
 use Rattle.num.specs.Numbers.{residue, signed}
 use Rattle.batch.specs.declared.Got.{Got}
-use Rattle.batch.specs.Batch.{Entry, WrittenBatch}
-use Rattle.batch.specs.Calls.{WrittenGot}
-use Rattle.batch_collapse.specs.Calls.{WrittenCollapse}
 use Rattle.column.specs.declared.answer.Batched.{Batched}
 use Rattle.column.specs.declared.answer.Checked.{Checked}
 use Rattle.column.specs.declared.answer.Counted.{Counted}
@@ -19,30 +16,24 @@ use Rattle.column.specs.declared.answer.Found.{Found}
 use Rattle.column.specs.declared.answer.Fill.{Fill}
 use Rattle.column.specs.declared.answer.Fill.the-variants.{Value, Missing}
 use Rattle.column.specs.declared.error.Error.{Error}
-use Rattle.column.specs.declared.error.Error.the-variants.{UnknownCode, LengthMismatch, InvalidOffsets, InvalidEnds, TooMany, NegativeRun, Overflow, DuplicateKey, InvalidInterval, UnequalLength, LengthTooShort, ShortBuffer}
+use Rattle.column.specs.declared.error.Error.the-variants.{UnknownCode, LengthMismatch, InvalidOffsets, InvalidEnds, TooMany, NegativeRun, Overflow}
+use Rattle.column.specs.declared.error.Error.the-variants.{DuplicateKey, InvalidInterval, UnequalLength, LengthTooShort, ShortBuffer}
 use Rattle.column.specs.declared.error.InKey.{InKey}
 use Rattle.column.specs.declared.error.InKey.the-variants.{Outside, Position}
 use Rattle.column.specs.declared.error.Refusal.{Refusal}
-use Rattle.column.specs.Flat.{WrittenFlat}
-use Rattle.column.specs.Paper.{Outcome, numberOf, shownBy, shownChecked, shownFound, WrittenRuns, WrittenEntries}
-use Rattle.column.specs.Runs.{Runs}
+use Rattle.column.specs.Paper.{Outcome, numberOf, shownBy, shownChecked, shownFound}
 use Rattle.many.specs.declared.PlannedMany.{PlannedMany}
-use Rattle.many.specs.Calls.{WrittenPlanMany}
-use Rattle.merge_plan.specs.Calls.{WrittenGroups}
-use Rattle.merge_mask.specs.Calls.{Group}
-use Rattle.plan.specs.Calls.{Segment, WrittenPlan}
 use Rattle.reduce.specs.declared.Reduced.{Reduced}
 use Rattle.reduce.specs.declared.Reduction.{Reduction}
 use Rattle.reduce.specs.declared.Reduction.the-variants.{Whole, Fraction, Nothing}
 use Rattle.reduce.specs.declared.Summed.{Summed}
-use Rattle.reduce.specs.Calls.{plusZero, kindOf, shownSummed, Reduces, WrittenReductions}
+use Rattle.reduce.specs.Calls.{plusZero, kindOf, shownSummed, Reduces}
 use Rattle.equals.specs.declared.Equality.{Equality}
 use Rattle.equals.specs.Calls.{shownEquality}
 use Rattle.slice.specs.declared.Part.{Part}
 use Rattle.slice.specs.declared.View.{View}
 use Rattle.slice.specs.declared.Viewed.{Viewed}
 use Rattle.slice.specs.Calls.{shownViewed, PartOf}
-use Rattle.ranges_where.specs.Calls.{Range, WrittenRanges}
 use Rattle.ffi.specs.declared.RlBatched.{RlBatched}
 use Rattle.ffi.specs.declared.RlCounted.{RlCounted}
 use Rattle.ffi.specs.declared.RlEquality.{RlEquality}
@@ -106,7 +97,8 @@ readGot r = cond (eqb (r .refusal .number) 0) (cond (eqb (r .found) 0) Got.Nothi
 
 abbrev pub readViewed : RlViewed → Viewed
 readViewed r =
-    cond (eqb (r .refusal .number) 0) (Viewed.View (record { first = r .first; start = r .start; length = r .length })) (Viewed.Refused (readRefusal (r .refusal)))
+    cond (eqb (r .refusal .number) 0) (Viewed.View (record { first = r .first; start = r .start; length = r .length }))
+    (Viewed.Refused (readRefusal (r .refusal)))
 
 abbrev pub readPart : RlPart → Part
 readPart r = record { first = r .first; count = r .count }

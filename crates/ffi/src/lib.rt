@@ -17,7 +17,9 @@ use slice::Part;
 use slice::Viewed;
 ghost use mathlib.Core.Path.{_≡_};
 ghost use Rattle.ffi.specs.Reading as Reading;
-ghost use Rattle.ffi.specs.Reading.{readRefusal, readChecked, readCounted, readEquality, readFound, readGot, readViewed, readPart, readBatched, readSummed, readReduced, readPlannedMany, readFill, laidRefusal, laidChecked, laidCounted, laidEquality, laidFound, laidGot, laidViewed, laidBatched, laidSummed, laidReduction, laidReduced, laidPlannedMany};
+ghost use Rattle.ffi.specs.Reading.{readRefusal, readChecked, readCounted, readEquality, readFound, readGot, readViewed, readPart, readBatched};
+ghost use Rattle.ffi.specs.Reading.{readSummed, readReduced, readPlannedMany, readFill, laidRefusal, laidChecked, laidCounted, laidEquality, laidFound};
+ghost use Rattle.ffi.specs.Reading.{laidGot, laidViewed, laidBatched, laidSummed, laidReduction, laidReduced, laidPlannedMany};
 
 // A refusal: document 01's number, its values in document 01's order as 64 bits each (0 where it has fewer), and the position that it
 // may carry, with 1 in `in_key`. All 0 with an answer.

@@ -70,7 +70,7 @@ pub struct Job {
     pub valid: bool,
 }
 
-// Where the runs of a column start; of the column behind the last, where the last one's end.
+// Where the runs of a column start; of the column after the last, where the last one's end.
 fn offset(table: &[i64], column: usize) -> usize {
     let at = num::saturating_add(OFFSETS, column);
     sequence::to_nat(sequence::entry_or(table, at, 0))
@@ -167,7 +167,7 @@ fn line_of(bytes: &[u8], length: usize) -> &[u8] {
     words::part(bytes, LINE, num::saturating_add(LINE, length))
 }
 
-// Keeps the name of a column: the second word of the line that is read. What stands behind it is no byte of a name.
+// Keeps the name of a column: the second word of the line that is read. What stands after it is no byte of a name.
 fn put_name(bytes: &mut [u8], column: usize, length: usize) {
     let start = words::word_start(line_of(bytes, length), 1);
     let from = num::saturating_add(LINE, start);

@@ -17,43 +17,44 @@ ghost use Prim.Native.Nat.{_*_};
 ghost use mathlib.Core.Path.{_≡_};
 ghost use lib.ListN.{length};
 ghost use Rattle.batch.specs.Batch.{givenBatch, WritesBatch};
-ghost use Rattle.batch.specs.Calls as batches;
-ghost use Rattle.batch_slice_reduce.specs.Calls as batch-reduce;
-ghost use Rattle.batch_collapse.specs.Calls as collapse;
+ghost use Rattle.batch.specs.Calls as batch;
+ghost use Rattle.batch.specs.Calls.{WritesGot};
+ghost use Rattle.batch_collapse.specs.Calls as batch-collapse;
+ghost use Rattle.batch_collapse.specs.Calls.{WritesCollapse};
+ghost use Rattle.batch_concat.specs.Calls as batch-concat;
+ghost use Rattle.batch_getitems.specs.Calls as batch-getitems;
+ghost use Rattle.batch_keys.specs.Calls as batch-keys;
+ghost use Rattle.batch_map_rles.specs.Calls as batch-map-rles;
+ghost use Rattle.batch_slice_reduce.specs.Calls as batch-slice-reduce;
+ghost use Rattle.batch_zip_with.specs.Calls as batch-zip-with;
 ghost use Rattle.column.specs.Flat.{givenFlat, WritesFlat};
+ghost use Rattle.column.specs.Lent.{given};
+ghost use Rattle.column.specs.Paper.{WritesRuns, WritesEntries};
 ghost use Rattle.column.specs.Runs.{givenSequence};
-ghost use Rattle.batch_concat.specs.Calls as concat;
 ghost use Rattle.dense.specs.Calls as dense;
-ghost use Rattle.batch_map_rles.specs.Calls as each;
 ghost use Rattle.equals.specs.Calls as equals;
-ghost use Rattle.ffi.specs.Reading.{readFill, LaidCheck, LaidEquality, LaidFound, LaidViewed, LaidSum, LaidReduced, LaidPart, LaidGot, LaidCounted, LaidPlannedMany, LaidBatched};
-ghost use Rattle.merge_plan.specs.Calls as groups;
-ghost use Rattle.getitems.specs.Calls as intervals;
-ghost use Rattle.batch_getitems.specs.Calls as items;
-ghost use Rattle.batch_zip_with.specs.Calls as join;
-ghost use Rattle.batch_keys.specs.Calls as lookup;
+ghost use Rattle.ffi.specs.Reading.{readFill, LaidCheck, LaidEquality, LaidFound, LaidViewed, LaidSum, LaidReduced, LaidPart, LaidGot, LaidCounted};
+ghost use Rattle.ffi.specs.Reading.{LaidPlannedMany, LaidBatched};
+ghost use Rattle.from_runs.specs.Calls as from-runs;
+ghost use Rattle.getitems.specs.Calls as getitems;
 ghost use Rattle.many.specs.Calls as many;
-ghost use Rattle.merge_mask.specs.Calls as merge;
-ghost use Rattle.merge.specs.Calls as merged;
+ghost use Rattle.many.specs.Calls.{WritesPlanMany};
+ghost use Rattle.merge.specs.Calls as merge;
+ghost use Rattle.merge_mask.specs.Calls as merge-mask;
+ghost use Rattle.merge_plan.specs.Calls as merge-plan;
+ghost use Rattle.merge_plan.specs.Calls.{WritesGroups};
 ghost use Rattle.ops.specs.Calls as ops;
 ghost use Rattle.plan.specs.Calls as plan;
-ghost use Rattle.ranges_where.specs.Calls as ranges;
+ghost use Rattle.plan.specs.Calls.{WritesPlan};
+ghost use Rattle.ranges_where.specs.Calls as ranges-where;
+ghost use Rattle.ranges_where.specs.Calls.{WritesRanges};
 ghost use Rattle.reduce.specs.Calls as reduce;
-ghost use Rattle.rle.specs.Calls as calls;
-ghost use Rattle.from_runs.specs.Calls as constructors;
+ghost use Rattle.reduce.specs.Calls.{WritesReductions};
+ghost use Rattle.rle.specs.Calls as rle;
 ghost use Rattle.shift.specs.Calls as shift;
 ghost use Rattle.slice.specs.Calls as slice;
 ghost use Rattle.transform.specs.Calls as transform;
 ghost use Rattle.zip_many.specs.Calls as zip-many;
-ghost use Rattle.column.specs.Lent.{given};
-ghost use Rattle.column.specs.Paper.{WritesRuns, WritesEntries};
-ghost use Rattle.plan.specs.Calls.{WritesPlan};
-ghost use Rattle.many.specs.Calls.{WritesPlanMany};
-ghost use Rattle.ranges_where.specs.Calls.{WritesRanges};
-ghost use Rattle.merge_plan.specs.Calls.{WritesGroups};
-ghost use Rattle.reduce.specs.Calls.{WritesReductions};
-ghost use Rattle.batch.specs.Calls.{WritesGot};
-ghost use Rattle.batch_collapse.specs.Calls.{WritesCollapse};
 
 #[no_mangle]
 pub extern "C" fn rl_empty() -> RlRle
@@ -71,14 +72,14 @@ pub extern "C" fn rl_from_runs(
     out_ends: &mut [i64],
     out_values: &mut [i64],
 ) -> RlCounted
-    ensures { λ r. ⌜ LaidCounted (WritesRuns (constructors.fromRuns (given runs) (given values)) «out_ends» «out_values») r ⌝ }
+    ensures { λ r. ⌜ LaidCounted (WritesRuns (from-runs.fromRuns (given runs) (given values)) «out_ends» «out_values») r ⌝ }
 {
     ffi::counted(from_runs::from_runs(runs, values, out_ends, out_values))
 }
 
 #[no_mangle]
 pub extern "C" fn rl_from_ends(ends: &[i64], values: &[i64]) -> RlRefusal
-    ensures { λ r. ⌜ LaidCheck (constructors.fromEnds (givenSequence ends values)) r ⌝ }
+    ensures { λ r. ⌜ LaidCheck (from-runs.fromEnds (givenSequence ends values)) r ⌝ }
 {
     ffi::checked(from_runs::from_ends(ends, values))
 }
@@ -90,7 +91,7 @@ pub extern "C" fn rl_repeat(
     out_ends: &mut [i64],
     out_values: &mut [i64],
 ) -> RlCounted
-    ensures { λ r. ⌜ LaidCounted (WritesRuns (constructors.repeat value length) «out_ends» «out_values») r ⌝ }
+    ensures { λ r. ⌜ LaidCounted (WritesRuns (from-runs.repeat value length) «out_ends» «out_values») r ⌝ }
 {
     ffi::counted(from_runs::repeat(value, length, out_ends, out_values))
 }
@@ -103,7 +104,7 @@ pub extern "C" fn rl_push_run(
     run: i64,
     value: i64,
 ) -> RlCounted
-    ensures { λ r. ⌜ LaidCounted (WritesRuns (λ _. calls.pushRun (givenSequence ends values) used run value) ends values) r ⌝ }
+    ensures { λ r. ⌜ LaidCounted (WritesRuns (λ _. rle.pushRun (givenSequence ends values) used run value) ends values) r ⌝ }
 {
     ffi::counted(Rle { runs: used }.push_run(ends, values, run, value))
 }
@@ -116,7 +117,7 @@ pub extern "C" fn rl_extend_to(
     length: i64,
     value: i64,
 ) -> RlCounted
-    ensures { λ r. ⌜ LaidCounted (WritesRuns (λ _. calls.extendTo (givenSequence ends values) used length value) ends values) r ⌝ }
+    ensures { λ r. ⌜ LaidCounted (WritesRuns (λ _. rle.extendTo (givenSequence ends values) used length value) ends values) r ⌝ }
 {
     ffi::counted(Rle { runs: used }.extend_to(ends, values, length, value))
 }
@@ -305,7 +306,7 @@ pub extern "C" fn rl_getitems(
     out_values: &mut [i64],
 ) -> RlBatched
     ensures { λ r. ⌜ LaidBatched
-        (WritesFlat (intervals.getitems (givenSequence ends values) (given starts) (given stops)) «out_offsets» «out_ends» «out_values»)
+        (WritesFlat (getitems.getitems (givenSequence ends values) (given starts) (given stops)) «out_offsets» «out_ends» «out_values»)
         r ⌝ }
 {
     ffi::batched(getitems::getitems(
@@ -367,7 +368,8 @@ pub extern "C" fn rl_ranges_where(
     out_starts: &mut [i64],
     out_ends: &mut [i64],
 ) -> RlCounted
-    ensures { λ r. ⌜ LaidCounted (WritesRanges (ranges.rangesWhere (givenSequence ends values) code number) «out_starts» «out_ends») r ⌝ }
+    ensures { λ r.
+        ⌜ LaidCounted (WritesRanges (ranges-where.rangesWhere (givenSequence ends values) code number) «out_starts» «out_ends») r ⌝ }
 {
     ffi::counted(ranges_where::ranges_where(ends, values, code, number, out_starts, out_ends))
 }
@@ -379,7 +381,7 @@ pub extern "C" fn rl_merge(
     out_ends: &mut [i64],
     out_values: &mut [i64],
 ) -> RlCounted
-    ensures { λ r. ⌜ LaidCounted (WritesRuns (merged.merged (givenSequence ends values)) «out_ends» «out_values») r ⌝ }
+    ensures { λ r. ⌜ LaidCounted (WritesRuns (merge.merged (givenSequence ends values)) «out_ends» «out_values») r ⌝ }
 {
     ffi::counted(merge::merge(ends, values, out_ends, out_values))
 }
@@ -391,7 +393,7 @@ pub extern "C" fn rl_merged(
     out_ends: &mut [i64],
     out_values: &mut [i64],
 ) -> RlCounted
-    ensures { λ r. ⌜ LaidCounted (WritesRuns (merged.merged (givenSequence ends values)) «out_ends» «out_values») r ⌝ }
+    ensures { λ r. ⌜ LaidCounted (WritesRuns (merge.merged (givenSequence ends values)) «out_ends» «out_values») r ⌝ }
 {
     ffi::counted(merge::merged(ends, values, out_ends, out_values))
 }
@@ -405,7 +407,8 @@ pub extern "C" fn rl_merge_mask(
     out_ends: &mut [i64],
     out_values: &mut [i64],
 ) -> RlCounted
-    ensures { λ r. ⌜ LaidCounted (WritesRuns (merge.mergeMask (givenSequence ends values) (given mask) keep) «out_ends» «out_values») r ⌝ }
+    ensures { λ r.
+        ⌜ LaidCounted (WritesRuns (merge-mask.mergeMask (givenSequence ends values) (given mask) keep) «out_ends» «out_values») r ⌝ }
 {
     ffi::counted(merge_mask::merge_mask(ends, values, mask, keep, out_ends, out_values))
 }
@@ -418,7 +421,7 @@ pub extern "C" fn rl_merge_by(
     out_ends: &mut [i64],
     out_values: &mut [i64],
 ) -> RlCounted
-    ensures { λ r. ⌜ LaidCounted (WritesRuns (merge.mergeBy (givenSequence ends values) code) «out_ends» «out_values») r ⌝ }
+    ensures { λ r. ⌜ LaidCounted (WritesRuns (merge-mask.mergeBy (givenSequence ends values) code) «out_ends» «out_values») r ⌝ }
 {
     ffi::counted(merge_mask::merge_by(ends, values, code, out_ends, out_values))
 }
@@ -430,14 +433,14 @@ pub extern "C" fn rl_merge_plan(
     out_ends: &mut [i64],
     out_offsets: &mut [usize],
 ) -> RlCounted
-    ensures { λ r. ⌜ LaidCounted (WritesGroups (groups.mergePlan (given ends) (given mask)) «out_ends» «out_offsets») r ⌝ }
+    ensures { λ r. ⌜ LaidCounted (WritesGroups (merge-plan.mergePlan (given ends) (given mask)) «out_ends» «out_offsets») r ⌝ }
 {
     ffi::counted(merge_plan::merge_plan(ends, mask, out_ends, out_offsets))
 }
 
 #[no_mangle]
 pub extern "C" fn rl_group_ids(offsets: &[usize], out_ids: &mut [usize]) -> RlCounted
-    ensures { λ r. ⌜ LaidCounted (WritesEntries (groups.groupIds (given offsets)) «out_ids») r ⌝ }
+    ensures { λ r. ⌜ LaidCounted (WritesEntries (merge-plan.groupIds (given offsets)) «out_ids») r ⌝ }
 {
     ffi::counted(merge_plan::group_ids(offsets, out_ids))
 }
@@ -468,7 +471,7 @@ pub extern "C" fn rl_slice_reduce(
     out_bits: &mut [u64],
 ) -> RlCounted
     ensures { λ r. ⌜ LaidCounted
-        (WritesReductions (intervals.sliceReduce (givenSequence ends values) (given starts) (given stops) code ddof) «out_kinds» «out_bits»)
+        (WritesReductions (getitems.sliceReduce (givenSequence ends values) (given starts) (given stops) code ddof) «out_kinds» «out_bits»)
         r ⌝ }
 {
     ffi::counted(getitems::slice_reduce(
@@ -490,14 +493,14 @@ pub extern "C" fn rl_batch_from_parts(
     ends: &[i64],
     values: &[i64],
 ) -> RlRefusal
-    ensures { λ r. ⌜ LaidCheck (batches.fromParts (givenBatch keys offsets ends values)) r ⌝ }
+    ensures { λ r. ⌜ LaidCheck (batch.fromParts (givenBatch keys offsets ends values)) r ⌝ }
 {
     ffi::checked(batch::from_parts(keys, offsets, ends, values))
 }
 
 #[no_mangle]
 pub extern "C" fn rl_batch_position(keys: &[u32], key: u32) -> RlFound
-    ensures { λ r. ⌜ LaidFound (lookup.position (given keys) key) r ⌝ }
+    ensures { λ r. ⌜ LaidFound (batch-keys.position (given keys) key) r ⌝ }
 {
     ffi::found(batch_keys::position(keys, key))
 }
@@ -512,7 +515,7 @@ pub extern "C" fn rl_batch_get(
     out_ends: &mut [i64],
     out_values: &mut [i64],
 ) -> RlGot
-    ensures { λ r. ⌜ LaidGot (WritesGot (batches.get (givenBatch keys offsets ends values) key) «out_ends» «out_values») r ⌝ }
+    ensures { λ r. ⌜ LaidGot (WritesGot (batch.get (givenBatch keys offsets ends values) key) «out_ends» «out_values») r ⌝ }
 {
     ffi::got(batch::get(keys, offsets, ends, values, key, out_ends, out_values))
 }
@@ -531,7 +534,7 @@ pub extern "C" fn rl_batch_getitems(
     out_values: &mut [i64],
 ) -> RlBatched
     ensures { λ r. ⌜ LaidBatched
-        (WritesFlat (items.getitems (givenBatch keys offsets ends values) (given «get_keys») (given starts) (given stops))
+        (WritesFlat (batch-getitems.getitems (givenBatch keys offsets ends values) (given «get_keys») (given starts) (given stops))
         «out_offsets» «out_ends» «out_values») r ⌝ }
 {
     ffi::batched(batch_getitems::getitems(
@@ -563,7 +566,7 @@ pub extern "C" fn rl_batch_slice_reduce(
     out_bits: &mut [u64],
 ) -> RlCounted
     ensures { λ r. ⌜ LaidCounted
-        (WritesReductions (batch-reduce.sliceReduce
+        (WritesReductions (batch-slice-reduce.sliceReduce
         (givenBatch keys offsets ends values) (given «get_keys») (given starts) (given stops) code ddof) «out_kinds» «out_bits») r ⌝ }
 {
     ffi::counted(batch_slice_reduce::slice_reduce(
@@ -595,8 +598,8 @@ pub extern "C" fn rl_batch_shift(
     out_values: &mut [i64],
 ) -> RlBatched
     ensures { λ r. ⌜ LaidBatched
-        (WritesBatch (each.shift (givenBatch keys offsets ends values) distance fill) «out_keys» «out_offsets» «out_ends» «out_values»)
-        r ⌝ }
+        (WritesBatch (batch-map-rles.shift (givenBatch keys offsets ends values) distance fill)
+        «out_keys» «out_offsets» «out_ends» «out_values») r ⌝ }
 {
     ffi::batched(batch_map_rles::shift(
         keys,
@@ -624,7 +627,7 @@ pub extern "C" fn rl_batch_reversed(
     out_values: &mut [i64],
 ) -> RlBatched
     ensures { λ r. ⌜ LaidBatched
-        (WritesBatch (each.reversed (givenBatch keys offsets ends values)) «out_keys» «out_offsets» «out_ends» «out_values») r ⌝ }
+        (WritesBatch (batch-map-rles.reversed (givenBatch keys offsets ends values)) «out_keys» «out_offsets» «out_ends» «out_values») r ⌝ }
 {
     ffi::batched(batch_map_rles::reversed(
         keys,
@@ -652,8 +655,8 @@ pub extern "C" fn rl_batch_map_rles_slice(
     out_values: &mut [i64],
 ) -> RlBatched
     ensures { λ r. ⌜ LaidBatched
-        (WritesBatch (each.mapRlesSlice (givenBatch keys offsets ends values) start end) «out_keys» «out_offsets» «out_ends» «out_values»)
-        r ⌝ }
+        (WritesBatch (batch-map-rles.mapRlesSlice (givenBatch keys offsets ends values) start end)
+        «out_keys» «out_offsets» «out_ends» «out_values») r ⌝ }
 {
     ffi::batched(batch_map_rles::map_rles_slice(
         keys,
@@ -686,7 +689,7 @@ pub extern "C" fn rl_batch_collapse(
     scratch_values: &mut [i64],
 ) -> RlBatched
     ensures { λ r. ⌜ LaidBatched
-        (WritesCollapse (collapse.collapse (givenBatch keys offsets ends values) (given «new_keys») (readFill fill) code)
+        (WritesCollapse (batch-collapse.collapse (givenBatch keys offsets ends values) (given «new_keys») (readFill fill) code)
         (2 * length (given ends)) «out_keys» «out_offsets» «out_ends» «out_values» «scratch_ends» «scratch_values») r ⌝ }
 {
     ffi::batched(batch_collapse::collapse(
@@ -722,7 +725,7 @@ pub extern "C" fn rl_batch_concat(
     out_values: &mut [i64],
 ) -> RlBatched
     ensures { λ r. ⌜ LaidBatched
-        (WritesBatch (concat.concat (givenBatch «a_keys» «a_offsets» «a_ends» «a_values»)
+        (WritesBatch (batch-concat.concat (givenBatch «a_keys» «a_offsets» «a_ends» «a_values»)
         (givenBatch «b_keys» «b_offsets» «b_ends» «b_values»)) «out_keys» «out_offsets» «out_ends» «out_values») r ⌝ }
 {
     ffi::batched(batch_concat::concat(
@@ -761,7 +764,7 @@ pub extern "C" fn rl_batch_zip_with(
     out_values: &mut [i64],
 ) -> RlBatched
     ensures { λ r. ⌜ LaidBatched
-        (WritesBatch (join.zipWith (givenBatch «a_keys» «a_offsets» «a_ends» «a_values»)
+        (WritesBatch (batch-zip-with.zipWith (givenBatch «a_keys» «a_offsets» «a_ends» «a_values»)
         (givenBatch «b_keys» «b_offsets» «b_ends» «b_values») how (readFill «fill_a») (readFill «fill_b») code)
         «out_keys» «out_offsets» «out_ends» «out_values») r ⌝ }
 {

@@ -17,14 +17,14 @@ pub fn line_end(text: &[u8], at: usize) -> usize
     end
 }
 
-// A number of the text and the place behind it. It is not valid without a digit, or beyond i64.
+// A number of the text and the place after it. It is not valid without a digit, or beyond i64.
 struct Number {
     value: i64,
     next: usize,
     valid: bool,
 }
 
-// Digits and the place behind them.
+// Digits and the place after them.
 struct Digits {
     magnitude: u64,
     next: usize,
@@ -62,7 +62,7 @@ fn read_digits(line: &[u8], at: usize) -> Digits
     Digits { magnitude, next }
 }
 
-// The number behind its sign; `limit` is the greatest magnitude that the sign allows.
+// The number after its sign; `limit` is the greatest magnitude that the sign allows.
 fn number_within(line: &[u8], at: usize, negative: bool, limit: u64) -> Number
     requires { ⌜ at ≤ length (now line) ⌝ }
     ensures { λ r. ⌜ (at ≤ r .next) × (r .next ≤ length (now (line .entry))) ⌝ }
@@ -99,7 +99,7 @@ pub struct Line {
     pub valid: bool,
 }
 
-// Reads a line's numbers, each behind a single blank. A line with anything else, or with more numbers than there is room, is not valid.
+// Reads a line's numbers, each after a single blank. A line with anything else, or with more numbers than there is room, is not valid.
 pub fn read(line: &[u8], row: &mut [i64]) -> Line
     ensures { λ r. ⌜ Counts (r .numbers) (now (row .exit)) ⌝ }
 {

@@ -25,7 +25,8 @@ returns : tie.Need-returns
 returns c = reduced-answer (c .before .checked .ensures .1) (c .reduction .ensures) (c .before .before .before .r .given .1)
 
 returns-2 : tie.Need-returns-2
-returns-2 c = reduced-refused (c .before .refused .ensures .0) (c .before .refused .ensures .1) (c .reduction2 .ensures) (c .before .before .before .r2 .given .1)
+returns-2 c = reduced-refused (c .before .refused .ensures .0) (c .before .refused .ensures .1) (c .reduction2 .ensures)
+    (c .before .before .before .r2 .given .1)
 
 pub reduced-spec : {M : Type 1} → statement M
 reduced-spec =

@@ -2,11 +2,6 @@ use Rattle.ffi.proofs.Handed.{handed}
 use borrow.Author.Needs.{needs}
 use Rattle.runlength.proofs.rl_batch_collapse.Statement.{statement}
 use Rattle.runlength.proofs.rl_batch_collapse.Tie as tie
-use Rattle.runlength.proofs.rl_batch_collapse.Reads as reads
-use Rattle.runlength.proofs.rl_batch_collapse.Lts as lts
-use Rattle.batch_collapse.proofs.collapse.Reads as collapse-reads
-use Rattle.ffi.proofs.batched.Reads as batched-reads
-use Rattle.ffi.proofs.fill.Reads as fill-reads
 
 fill-requires : tie.Need-fill-requires
 fill-requires c κs = search needs
@@ -36,7 +31,9 @@ same-length-6 : tie.Need-same-length-6
 same-length-6 c = search needs
 
 returns : tie.Need-returns
-returns c = handed (c .batched .ensures) (rw (c .before .before .before .before .before .before .before .before .before .before .before .before .before .before .before .before .fill .ensures) at (c .before .before .before .before .before .before .before .before .before .collapse .ensures))
+returns c = handed (c .batched .ensures)
+    (rw (c .before .before .before .before .before .before .before .before .before .before .before .before .before .before .before .before .fill .ensures)
+    at (c .before .before .before .before .before .before .before .before .before .collapse .ensures))
 
 pub rl-batch-collapse-spec : {M : Type 1} → statement M
 rl-batch-collapse-spec =

@@ -2,10 +2,6 @@ use Rattle.ffi.proofs.Handed.{handed}
 use borrow.Author.Needs.{needs}
 use Rattle.runlength.proofs.rl_batch_concat.Statement.{statement}
 use Rattle.runlength.proofs.rl_batch_concat.Tie as tie
-use Rattle.runlength.proofs.rl_batch_concat.Reads as reads
-use Rattle.runlength.proofs.rl_batch_concat.Lts as lts
-use Rattle.batch_concat.proofs.concat.Reads as concat-reads
-use Rattle.ffi.proofs.batched.Reads as batched-reads
 
 concat-requires : tie.Need-concat-requires
 concat-requires c κs = search needs

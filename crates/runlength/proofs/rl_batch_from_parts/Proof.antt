@@ -2,10 +2,6 @@ use Rattle.ffi.proofs.Handed.{handed}
 use borrow.Author.Needs.{needs}
 use Rattle.runlength.proofs.rl_batch_from_parts.Statement.{statement}
 use Rattle.runlength.proofs.rl_batch_from_parts.Tie as tie
-use Rattle.runlength.proofs.rl_batch_from_parts.Reads as reads
-use Rattle.runlength.proofs.rl_batch_from_parts.Lts as lts
-use Rattle.batch.proofs.from_parts.Reads as from-parts-reads
-use Rattle.ffi.proofs.checked.Reads as checked-reads
 
 from-parts-requires : tie.Need-from-parts-requires
 from-parts-requires c κs = search needs

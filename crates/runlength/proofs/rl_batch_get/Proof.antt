@@ -2,10 +2,6 @@ use Rattle.ffi.proofs.Handed.{handed}
 use borrow.Author.Needs.{needs}
 use Rattle.runlength.proofs.rl_batch_get.Statement.{statement}
 use Rattle.runlength.proofs.rl_batch_get.Tie as tie
-use Rattle.runlength.proofs.rl_batch_get.Reads as reads
-use Rattle.runlength.proofs.rl_batch_get.Lts as lts
-use Rattle.batch.proofs.get.Reads as get-reads
-use Rattle.ffi.proofs.got.Reads as got-reads
 
 get-requires : tie.Need-get-requires
 get-requires c κs = search needs

@@ -2,10 +2,6 @@ use Rattle.ffi.proofs.Handed.{handed}
 use borrow.Author.Needs.{needs}
 use Rattle.runlength.proofs.rl_batch_getitems.Statement.{statement}
 use Rattle.runlength.proofs.rl_batch_getitems.Tie as tie
-use Rattle.runlength.proofs.rl_batch_getitems.Reads as reads
-use Rattle.runlength.proofs.rl_batch_getitems.Lts as lts
-use Rattle.ffi.proofs.batched.Reads as batched-reads
-use Rattle.batch_getitems.proofs.getitems.Reads as getitems-reads
 
 getitems-requires : tie.Need-getitems-requires
 getitems-requires c κs = search needs

@@ -3,10 +3,6 @@ use Rattle.ffi.proofs.Handed.{handed}
 use borrow.Author.Needs.{needs}
 use Rattle.runlength.proofs.rl_batch_map_rles_slice.Statement.{statement}
 use Rattle.runlength.proofs.rl_batch_map_rles_slice.Tie as tie
-use Rattle.runlength.proofs.rl_batch_map_rles_slice.Reads as reads
-use Rattle.runlength.proofs.rl_batch_map_rles_slice.Lts as lts
-use Rattle.batch_map_rles.proofs.map_rles_slice.Reads as map-rles-slice-reads
-use Rattle.ffi.proofs.batched.Reads as batched-reads
 
 map-rles-slice-requires : tie.Need-map-rles-slice-requires
 map-rles-slice-requires c κs = search needs
@@ -27,7 +23,9 @@ same-length-4 : tie.Need-same-length-4
 same-length-4 c = search needs
 
 returns : tie.Need-returns
-returns c = let s = c .before .before .before .before .before .before .before .before .before .before .before .before .before .before .before .before in handed (c .batched .ensures) (rw (toZ-ofZ (s .fits .start), toZ-ofZ (s .fits .end)) at (c .before .before .before .before .before .before .before .map-rles-slice .ensures))
+returns c = let s = c .before .before .before .before .before .before .before .before .before .before .before .before .before .before .before .before in
+    handed (c .batched .ensures)
+    (rw (toZ-ofZ (s .fits .start), toZ-ofZ (s .fits .end)) at (c .before .before .before .before .before .before .before .map-rles-slice .ensures))
 
 pub rl-batch-map-rles-slice-spec : {M : Type 1} → statement M
 rl-batch-map-rles-slice-spec =

@@ -2,10 +2,6 @@ use Rattle.ffi.proofs.Handed.{handed}
 use borrow.Author.Needs.{needs}
 use Rattle.runlength.proofs.rl_batch_position.Statement.{statement}
 use Rattle.runlength.proofs.rl_batch_position.Tie as tie
-use Rattle.runlength.proofs.rl_batch_position.Reads as reads
-use Rattle.runlength.proofs.rl_batch_position.Lts as lts
-use Rattle.ffi.proofs.found.Reads as found-reads
-use Rattle.batch_keys.proofs.position.Reads as position-reads
 
 position-requires : tie.Need-position-requires
 position-requires c κs = search needs

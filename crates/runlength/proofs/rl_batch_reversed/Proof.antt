@@ -2,10 +2,6 @@ use Rattle.ffi.proofs.Handed.{handed}
 use borrow.Author.Needs.{needs}
 use Rattle.runlength.proofs.rl_batch_reversed.Statement.{statement}
 use Rattle.runlength.proofs.rl_batch_reversed.Tie as tie
-use Rattle.runlength.proofs.rl_batch_reversed.Reads as reads
-use Rattle.runlength.proofs.rl_batch_reversed.Lts as lts
-use Rattle.batch_map_rles.proofs.reversed.Reads as reversed-reads
-use Rattle.ffi.proofs.batched.Reads as batched-reads
 
 reversed-requires : tie.Need-reversed-requires
 reversed-requires c κs = search needs

@@ -3,10 +3,6 @@ use Rattle.ffi.proofs.Handed.{handed}
 use borrow.Author.Needs.{needs}
 use Rattle.runlength.proofs.rl_batch_shift.Statement.{statement}
 use Rattle.runlength.proofs.rl_batch_shift.Tie as tie
-use Rattle.runlength.proofs.rl_batch_shift.Reads as reads
-use Rattle.runlength.proofs.rl_batch_shift.Lts as lts
-use Rattle.batch_map_rles.proofs.shift.Reads as shift-reads
-use Rattle.ffi.proofs.batched.Reads as batched-reads
 
 shift-requires : tie.Need-shift-requires
 shift-requires c κs = search needs
@@ -27,7 +23,9 @@ same-length-4 : tie.Need-same-length-4
 same-length-4 c = search needs
 
 returns : tie.Need-returns
-returns c = let s = c .before .before .before .before .before .before .before .before .before .before .before .before .before .before .before .before in handed (c .batched .ensures) (rw (toZ-ofZ (s .fits .distance), toZ-ofZ (s .fits .fill)) at (c .before .before .before .before .before .before .before .shift .ensures))
+returns c = let s = c .before .before .before .before .before .before .before .before .before .before .before .before .before .before .before .before in
+    handed (c .batched .ensures)
+    (rw (toZ-ofZ (s .fits .distance), toZ-ofZ (s .fits .fill)) at (c .before .before .before .before .before .before .before .shift .ensures))
 
 pub rl-batch-shift-spec : {M : Type 1} → statement M
 rl-batch-shift-spec =

@@ -3,10 +3,6 @@ use Rattle.ffi.proofs.Handed.{handed}
 use borrow.Author.Needs.{needs}
 use Rattle.runlength.proofs.rl_batch_slice_reduce.Statement.{statement}
 use Rattle.runlength.proofs.rl_batch_slice_reduce.Tie as tie
-use Rattle.runlength.proofs.rl_batch_slice_reduce.Reads as reads
-use Rattle.runlength.proofs.rl_batch_slice_reduce.Lts as lts
-use Rattle.ffi.proofs.counted.Reads as counted-reads
-use Rattle.batch_slice_reduce.proofs.slice_reduce.Reads as slice-reduce-reads
 
 slice-reduce-requires : tie.Need-slice-reduce-requires
 slice-reduce-requires c κs = search needs
@@ -21,7 +17,8 @@ same-length-2 : tie.Need-same-length-2
 same-length-2 c = search needs
 
 returns : tie.Need-returns
-returns c = let s = c .before .before .before .before .before .before .before .before .before .before .before .before .before in handed (c .counted .ensures) (rw (toZ-ofZ (s .fits .ddof)) at (c .before .before .before .before .before .slice-reduce .ensures))
+returns c = let s = c .before .before .before .before .before .before .before .before .before .before .before .before .before in
+    handed (c .counted .ensures) (rw (toZ-ofZ (s .fits .ddof)) at (c .before .before .before .before .before .slice-reduce .ensures))
 
 pub rl-batch-slice-reduce-spec : {M : Type 1} → statement M
 rl-batch-slice-reduce-spec =

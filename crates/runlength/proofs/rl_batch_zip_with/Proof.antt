@@ -2,11 +2,6 @@ use Rattle.ffi.proofs.Handed.{handed}
 use borrow.Author.Needs.{needs}
 use Rattle.runlength.proofs.rl_batch_zip_with.Statement.{statement}
 use Rattle.runlength.proofs.rl_batch_zip_with.Tie as tie
-use Rattle.runlength.proofs.rl_batch_zip_with.Reads as reads
-use Rattle.runlength.proofs.rl_batch_zip_with.Lts as lts
-use Rattle.ffi.proofs.batched.Reads as batched-reads
-use Rattle.ffi.proofs.fill.Reads as fill-reads
-use Rattle.batch_zip_with.proofs.zip_with.Reads as zip-with-reads
 
 fill-requires : tie.Need-fill-requires
 fill-requires c κs = search needs
@@ -33,7 +28,12 @@ same-length-4 : tie.Need-same-length-4
 same-length-4 c = search needs
 
 returns : tie.Need-returns
-returns c = handed (c .batched .ensures) (rw (c .before .before .before .before .before .before .before .before .before .before .before .before .before .fill .ensures, c .before .before .before .before .before .before .before .before .before .before .before .before .fill2 .ensures) at (c .before .before .before .before .before .before .before .zip-with .ensures))
+returns c = handed (c .batched .ensures)
+    (rw (
+      c .before .before .before .before .before .before .before .before .before .before .before .before .before .fill .ensures,
+      c .before .before .before .before .before .before .before .before .before .before .before .before .fill2 .ensures,
+    )
+    at (c .before .before .before .before .before .before .before .zip-with .ensures))
 
 pub rl-batch-zip-with-spec : {M : Type 1} → statement M
 rl-batch-zip-with-spec =

@@ -22,7 +22,9 @@ same-length-2 : tie.Need-same-length-2
 same-length-2 c = search needs
 
 returns : tie.Need-returns
-returns c = let w = c .before .before .before in let f = w .before .before .before in handed (c .counted .ensures) (rw (f .before .fill .ensures, f .fill2 .ensures) at (w .zip-with-raw .ensures))
+returns c = let w = c .before .before .before in
+    let f = w .before .before .before in
+    handed (c .counted .ensures) (rw (f .before .fill .ensures, f .fill2 .ensures) at (w .zip-with-raw .ensures))
 
 pub rl-zip-with-raw-spec : {M : Type 1} → statement M
 rl-zip-with-raw-spec =
