@@ -1,5 +1,5 @@
 -- What the searches leave and require.
-use Prim.Native.Nat.{ℕ, _+_, _*_, _≤_, _<_, _^_, _/_, _%_}
+use Prim.Native.Nat.{ℕ, _+_, _≤_, _<_, _^_}
 use mathlib.Core.Bool.{Bool, true, _&&_}
 use mathlib.Core.Option.{none}
 use mathlib.Core.List.{List, [], _∷_}
@@ -7,6 +7,7 @@ use mathlib.Core.Path.{_≡_}
 use lib.Dec.{ltb}
 use lib.ListN.{length, getD}
 use Rattle.column.specs.Questions.{distinctKeys}
+use Rattle.column.specs.Workers.{KeptBlock}
 use Rattle.batch_index.specs.Calls.{lowest}
 use Rattle.batch_keys.specs.declared.Order.{Order}
 use Rattle.batch_keys.specs.declared.Order.the-variants.{Ascending, Distinct, Unknown}
@@ -39,17 +40,19 @@ pub record BlockEnd (i wanted r : ℕ) : Type 0 where
   pub short : r ≤ i + blockSize
   pub whole : (r ≡ wanted → ⊥) → r ≡ i + blockSize
 
--- those of the block at i are found, the first of them at r
+-- those of the block at i are found
+abbrev pub FoundFrom : List ℕ → List ℕ → ℕ → List ℕ → Type 0
+FoundFrom ks ws i bs = (d : ℕ) → d < blockSize → i + d < length ws → getD bs d 0 ≡ lowest (getD ws (i + d) 0) ks
+
+-- and the first of them at r
 pub record BlockFound (ks ws : List ℕ) (i : ℕ) (bs : List ℕ) (r : ℕ) : Type 0 where
   pub first : r ≡ lowest (getD ws i 0) ks
-  pub found : (d : ℕ) → d < blockSize → i + d < length ws → getD bs d 0 ≡ lowest (getD ws (i + d) 0) ks
+  pub found : FoundFrom ks ws i bs
 
--- before the wanted key at i is looked for: those of its block are found, unless it is the first of the block
+-- before the wanted key at i is looked for by an index
 pub record Kept (ks ws : List ℕ) (indexed : Bool) (bs : List ℕ) (i : ℕ) : Type 0 where
-  pub room : indexed ≡ true → length bs ≡ blockSize
   pub few : indexed ≡ true → length ks < 2 ^ 32
-  pub kept : indexed ≡ true → (i % blockSize ≡ 0 → ⊥) → (d : ℕ) → d < blockSize → i / blockSize * blockSize + d < length ws
-      → getD bs d 0 ≡ lowest (getD ws (i / blockSize * blockSize + d) 0) ks
+  pub block : indexed ≡ true → KeptBlock blockSize (FoundFrom ks ws) bs i
 
 -- what an index asks: few enough keys, and room for the positions of a block
 pub record Blocks (ks bs : List ℕ) : Type 0 where

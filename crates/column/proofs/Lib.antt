@@ -1,5 +1,6 @@
 pub mod All
 pub mod Appending
+pub mod Blocks
 pub mod Buffer
 pub mod Canonical
 pub mod Cover

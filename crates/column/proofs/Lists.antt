@@ -13,16 +13,6 @@ use Rattle.num.proofs.Tests.{by-test}
 use Rattle.column.specs.Lists.{any}
 use Rattle.column.specs.Questions.{rise, startAndRise, lastOffset}
 
-module _ {A : Type 0} (f : A → Bool) (i : ℕ) (xs : List A) (d : A) where
-  pub any-next : i < length xs → f (getD xs i d) ≡ false → any f (drop i xs) ≡ any f (drop (i + 1) xs)
-  any-next h e = rw (add-one, drop-cons xs i d, e)
-
-  pub any-found : i < length xs → f (getD xs i d) ≡ true → any f (drop i xs) ≡ true
-  any-found h e = rw (drop-cons xs i d, e)
-
-  pub any-end : length xs ≤ i → any f (drop i xs) ≡ false
-  any-end h = rw drop-of-length-le
-
 pub any-append : {A : Type 0} (f : A → Bool) (xs ys : List A) → any f (xs ++ ys) ≡ any f xs || any f ys
 any-append f [] ys = refl
 any-append f (x ∷ xs) ys = by-test (f x) (λ t. rw t) (λ t. rw t (any-append f xs ys))

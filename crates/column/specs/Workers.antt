@@ -1,5 +1,5 @@
 -- What workers of several crates leave and require.
-use Prim.Native.Nat.{ℕ, _+_, _-_, _≤_, _<_, _^_, suc}
+use Prim.Native.Nat.{ℕ, _+_, _-_, _*_, _≤_, _<_, _^_, _/_, _%_, suc}
 use mathlib.Core.Bool.{Bool, cond}
 use mathlib.Core.List.{List, [], _∷_, map}
 use mathlib.Core.Path.{_≡_}
@@ -111,3 +111,10 @@ pub record FilledFlat (cs : List Runs) (x x′ : List ℕ) (e e′ v v′ : List
 -- of the buffers that a call is lent
 abbrev pub FillsFlat : List Runs → Lent ℕ → Lent ℤ → Lent ℤ → ℕ → Type 0
 FillsFlat cs x e v n = FilledFlat cs (given x) (after x) (given e) (after e) (given v) (after v) n
+
+-- ---- answers that are found a block at a time, and kept for the rest of the block
+
+-- before the one at i is asked for: those of its block are found, unless it is the first of the block
+pub record KeptBlock (size : ℕ) (Found : ℕ → List ℕ → Type 0) (bs : List ℕ) (i : ℕ) : Type 0 where
+  pub room : length bs ≡ size
+  pub kept : (i % size ≡ 0 → ⊥) → Found (i / size * size) bs

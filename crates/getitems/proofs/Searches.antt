@@ -15,6 +15,7 @@ use borrow.Author.Tests.{eqb-true, eqb-false}
 use Rattle.num.proofs.Tests.{by-test}
 use Rattle.column.specs.Questions.{endsValid}
 use Rattle.column.specs.Runs.{toNat, lengthOfEnds}
+use Rattle.column.proofs.Blocks.{block-found}
 use Rattle.column.proofs.Naturals.{to-nat-below}
 use Rattle.slice.specs.Workers.{Halving}
 use Rattle.slice.proofs.Searching.{halving-start, halving-end}
@@ -133,24 +134,17 @@ module _ {es ps : List ℤ} {from back : ℕ} {qs ls : List ℕ} where
 -- ---- what they found, for the intervals of the block
 
 module _ {es ps : List ℤ} {back : ℕ} {bs : List ℕ} where
-  pub kept-start : length bs ≡ blockSize → Kept es ps back bs 0
-  kept-start r = record { room = r; kept = λ n. absurd (n refl) }
-
-  module _ {i : ℕ} (k : Kept es ps back bs i) where
-    pub kept-at : (i % blockSize ≡ 0 → ⊥) → {r : ℕ} → r ≡ getD bs (i % blockSize) 0 → (r ≤ length es)
-        × (endsValid es ≡ none → r ≡ found es back (getD ps i (pos 0)))
-    kept-at n e =
-        let s = k .kept n in
-        let m : i / blockSize * blockSize + i % blockSize ≡ i = omega arith in
-        (rw e (s .within (i % blockSize) (omega arith)), λ v. e ∙ rw m at (s .found-all v (i % blockSize) (omega arith)))
-
-    pub kept-next : (i % blockSize ≡ 0 → ⊥) → Kept es ps back bs (i + 1)
-    kept-next n = record { room = k .room; kept = λ m. let e : (i + 1) / blockSize ≡ i / blockSize = omega arith in rw e (k .kept n) }
+  pub kept-at : {i : ℕ} → Kept es ps back bs i → (i % blockSize ≡ 0 → ⊥) → {r : ℕ} → r ≡ getD bs (i % blockSize) 0 → (r ≤ length es)
+      × (endsValid es ≡ none → r ≡ found es back (getD ps i (pos 0)))
+  kept-at {i} k n e =
+      let s = k .kept n in
+      let m : i / blockSize * blockSize + i % blockSize ≡ i = omega arith in
+      (rw e (s .within (i % blockSize) (omega arith)), λ v. e ∙ rw m at (s .found-all v (i % blockSize) (omega arith)))
 
   pub kept-block : {i : ℕ} → length bs ≡ blockSize → i % blockSize ≡ 0 → Searched es ps back i bs → {r : ℕ} → r ≡ getD bs 0 0
       → ((r ≤ length es) × (endsValid es ≡ none → r ≡ found es back (getD ps i (pos 0)))) × Kept es ps back bs (i + 1)
   kept-block {i} l z s e =
       let o : i + 0 ≡ i = omega arith in (
         (rw e (s .within 0 (omega arith)), λ v. e ∙ rw o at (s .found-all v 0 (omega arith))),
-        record { room = l; kept = λ m. let q : (i + 1) / blockSize * blockSize ≡ i = omega arith in rw q s },
+        block-found (omega arith) i l z s,
       )

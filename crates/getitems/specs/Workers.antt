@@ -1,5 +1,5 @@
 -- What the workers leave and require.
-use Prim.Native.Nat.{ℕ, _+_, _≤_, _-_, _*_, _<_, _^_, _/_, _%_, min}
+use Prim.Native.Nat.{ℕ, _+_, _≤_, _-_, _<_, _^_, min}
 use mathlib.Core.Option.{none}
 use mathlib.Core.List.{List, [], _∷_, map}
 use mathlib.Core.Path.{_≡_}
@@ -8,6 +8,7 @@ use lib.ListN.{length, getD}
 use Rattle.column.specs.Lists.{total}
 use Rattle.column.specs.Questions.{endsValid}
 use Rattle.column.specs.Runs.{Sequence, runs, runsOf, toNat, lengthOfEnds}
+use Rattle.column.specs.Workers.{KeptBlock}
 use Rattle.slice.specs.Calls.{firstEndAbove, sliceRuns}
 use Rattle.slice.specs.Workers.{touchedBy, Halving}
 use Rattle.getitems.specs.Calls.{intervalRuns}
@@ -43,10 +44,9 @@ pub record Searched (es ps : List ℤ) (back from : ℕ) (bs : List ℕ) : Type 
   pub within : (d : ℕ) → d < blockSize → getD bs d 0 ≤ length es
   pub found-all : endsValid es ≡ none → (d : ℕ) → d < blockSize → getD bs d 0 ≡ found es back (getD ps (from + d) (pos 0))
 
--- before the position at i is looked for: those of its block are found, unless it is the first of the block
-pub record Kept (es ps : List ℤ) (back : ℕ) (bs : List ℕ) (i : ℕ) : Type 0 where
-  pub room : length bs ≡ blockSize
-  pub kept : (i % blockSize ≡ 0 → ⊥) → Searched es ps back (i / blockSize * blockSize) bs
+-- before the position at i is looked for
+abbrev pub Kept : List ℤ → List ℤ → ℕ → List ℕ → ℕ → Type 0
+Kept es ps back = KeptBlock blockSize (Searched es ps back)
 
 -- ---- the calls
 

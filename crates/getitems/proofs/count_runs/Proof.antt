@@ -3,9 +3,9 @@ use mathlib.Core.Path.{ap, sym, refl, _∙_}
 use native.Mathlib.Omega.{arith}
 use lib.ListN.{length}
 use Rattle.num.proofs.Bits.{back}
+use Rattle.column.proofs.Blocks.{block-start}
 use Rattle.getitems.specs.Workers.{found, Kept}
 use Rattle.getitems.proofs.Items.{Counting, counting-start, counting-next, counting-end}
-use Rattle.getitems.proofs.Searches.{kept-start}
 use borrow.Author.Needs.{needs}
 use Rattle.getitems.proofs.count_runs.Statement.{statement}
 use Rattle.getitems.proofs.count_runs.Tie as tie
@@ -21,7 +21,7 @@ returns : tie.Need-returns Inv-loop μ-loop
 returns c = λ v l. absurd (c .if1 .taken l)
 
 loop-holds : tie.Need-loop-holds Inv-loop μ-loop
-loop-holds c = (counting-start _ _ _, kept-start refl, kept-start refl)
+loop-holds c = (counting-start _ _ _, block-start refl, block-start refl)
 
 mul-start : tie.Need-mul-start Inv-loop μ-loop
 mul-start c = search needs

@@ -7,7 +7,7 @@ use Rattle.batch_keys.proofs.inner.find_next.Tie as tie
 
 find-block-requires : tie.Need-find-block-requires
 find-block-requires c κs = let s = c .before .before .before .before .before .before in
-    (s .pre .2 .few (c .before .before .if1 .taken), s .pre .1, s .pre .2 .room (c .before .before .if1 .taken))
+    (s .pre .2 .few (c .before .before .if1 .taken), s .pre .1, s .pre .2 .block (c .before .before .if1 .taken) .room)
 
 same-length : tie.Need-same-length
 same-length c = search needs
@@ -22,7 +22,7 @@ mul-widened : tie.Need-mul-widened
 mul-widened c = search needs
 
 slice-read-widened : tie.Need-slice-read-widened
-slice-read-widened c = omega (arith, c .before .before .before .before .before .before .pre .2 .room (c .before .before .if1 .taken))
+slice-read-widened c = omega (arith, c .before .before .before .before .before .before .pre .2 .block (c .before .before .if1 .taken) .room)
 
 widened-requires : tie.Need-widened-requires
 widened-requires c κs = search needs
@@ -32,7 +32,7 @@ returns-2 c = let if2 = c .before .before in
     let if1 = if2 .before in
     let start = if1 .before .before .before .before in (
       c .widened .ensures ∙ kept-at (start .pre .2) (start .pre .1) (if1 .if1 .taken) (if2 .if2 .left),
-      kept-next (start .pre .2) (if1 .if1 .taken) (if2 .if2 .left),
+      kept-next (start .pre .2) (if2 .if2 .left),
     )
 
 mul-find : tie.Need-mul-find

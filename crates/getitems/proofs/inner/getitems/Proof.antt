@@ -8,9 +8,9 @@ use Rattle.num.proofs.Bits.{back}
 use Rattle.column.specs.Runs.{Runs, runsOf, Filled}
 use Rattle.getitems.specs.Calls.{intervalRuns}
 use Rattle.column.proofs.Laying.{Laying, laying-start, laying-room, laying-next, laying-end}
+use Rattle.column.proofs.Blocks.{block-start}
 use Rattle.getitems.specs.Workers.{Kept}
 use Rattle.getitems.proofs.Items.{length-items, item-sliceable, item-filled}
-use Rattle.getitems.proofs.Searches.{kept-start}
 use borrow.Author.Needs.{needs}
 use Rattle.getitems.proofs.inner.getitems.Statement.{statement}
 use Rattle.getitems.proofs.inner.getitems.Tie as tie
@@ -58,7 +58,7 @@ slice-write-out-offsets : tie.Need-slice-write-out-offsets Inv-loop μ-loop
 slice-write-out-offsets c = omega (arith, c .before .pre .room-offsets)
 
 loop-holds : tie.Need-loop-holds Inv-loop μ-loop
-loop-holds c = (laying-start (now (c .before .args .out-offsets)) (omega (arith, c .before .pre .room-offsets)) _ _ _, kept-start refl)
+loop-holds c = (laying-start (now (c .before .args .out-offsets)) (omega (arith, c .before .pre .room-offsets)) _ _ _, block-start refl)
 
 mul-start : tie.Need-mul-start Inv-loop μ-loop
 mul-start c = search needs

@@ -1,5 +1,7 @@
 use mathlib.Core.Path.{refl}
-use Rattle.getitems.proofs.Searches.{kept-at, kept-next, kept-block}
+use native.Mathlib.Omega.{arith}
+use Rattle.column.proofs.Blocks.{block-next}
+use Rattle.getitems.proofs.Searches.{kept-at, kept-block}
 use borrow.Author.Needs.{needs}
 use Rattle.getitems.proofs.inner.searches.find_next.Statement.{statement}
 use Rattle.getitems.proofs.inner.searches.find_next.Tie as tie
@@ -27,7 +29,7 @@ slice-read-result-2 c = search needs
 returns-2 : tie.Need-returns-2
 returns-2 c = let k = c .before .before .before .pre .1 in
     let n = c .before .if1 .left in
-    let f = kept-at k n refl in (f .0, f .1, kept-next k n)
+    let f = kept-at k n refl in (f .0, f .1, block-next (omega arith) k n)
 
 pub find-next-spec : {M : Type 1} → statement M
 find-next-spec =
