@@ -71,6 +71,10 @@ pub asks-then : {r a b q : Question} {qs : List Question} → Asks a qs → r �
     → Asks r (qs ++ (q ∷ []))
 asks-then {q = q} {qs = qs} s e h = record { told = asked-last (firstNo qs) e (s .told) h ∙ sym (first-several qs (q ∷ [])) }
 
+-- one that the code puts before others
+pub asks-before : {r a b q : Question} {qs : List Question} → r ≡ firstNo (a ∷ b ∷ []) → a ≡ q → Asks b qs → Asks r (q ∷ qs)
+asks-before {q = q} {qs = qs} e p s = record { told = asked-next q qs e p (λ y. s .told) }
+
 -- several that the code puts as one, after others
 pub asks-several : {r a b : Question} {ps : List Question} (qs : List Question) → Asks a ps → r ≡ firstNo (a ∷ b ∷ []) → (firstNo ps ≡ none → b ≡ firstNo qs)
     → Asks r (ps ++ qs)
