@@ -1,7 +1,7 @@
 use mathlib.Core.List.{[], _∷_}
 use Rattle.column.proofs.YesNo.{asks-rooms}
 use Rattle.column.specs.Questions.{endsValid}
-use Rattle.column.proofs.FirstNo.{asks-first, asks-then}
+use Rattle.column.proofs.FirstNo.{asks-first, asks-before}
 use Rattle.plan.specs.Calls.{planAsked}
 use borrow.Author.Needs.{needs}
 use Rattle.plan.proofs.plan_asks.Statement.{statement}
@@ -16,23 +16,23 @@ ask-ends-requires c κs = search needs
 ask-ends-requires-2 : tie.Need-ask-ends-requires-2
 ask-ends-requires-2 c κs = search needs
 
-and-requires : tie.Need-and-requires
-and-requires c κs = search needs
-
 ask-room-requires : tie.Need-ask-room-requires
 ask-room-requires c κs = search needs
-
-and-requires-2 : tie.Need-and-requires-2
-and-requires-2 c κs = search needs
 
 ask-room-requires-2 : tie.Need-ask-room-requires-2
 ask-room-requires-2 c κs = search needs
 
-and-requires-3 : tie.Need-and-requires-3
-and-requires-3 c κs = search needs
-
 ask-room-requires-3 : tie.Need-ask-room-requires-3
 ask-room-requires-3 c κs = search needs
+
+and-requires : tie.Need-and-requires
+and-requires c κs = search needs
+
+and-requires-2 : tie.Need-and-requires-2
+and-requires-2 c κs = search needs
+
+and-requires-3 : tie.Need-and-requires-3
+and-requires-3 c κs = search needs
 
 and-requires-4 : tie.Need-and-requires-4
 and-requires-4 c κs = search needs
@@ -40,14 +40,14 @@ and-requires-4 c κs = search needs
 returns : tie.Need-returns
 unfolding planAsked
 returns c =
-    let second = c .before .before in
-    let first = second .before .before in
-    let ends = first .before .before in
-    let asked = asks-first (ends .before .before .ask-ends .ensures) in
-    let asked = asks-then asked (ends .and .ensures) (λ y. ends .before .ask-ends2 .ensures) in
-    let asked = asks-then asked (first .and2 .ensures) (λ y. first .before .ask-room .ensures) in
-    let asked = asks-then asked (second .and3 .ensures) (λ y. second .before .ask-room2 .ensures) in
-    let asked = asks-then asked (c .and4 .ensures) (λ y. c .before .ask-room3 .ensures) in
+    let idx-b = c .before .before .before .before in
+    let idx-a = idx-b .before in
+    let ends = idx-a .before in
+    let valid-b = ends .before in
+    let asked = asks-before (c .before .before .before .and .ensures) (idx-a .ask-room2 .ensures) (asks-first (idx-b .ask-room3 .ensures)) in
+    let asked = asks-before (c .before .before .and2 .ensures) (ends .ask-room .ensures) asked in
+    let asked = asks-before (c .before .and3 .ensures) (valid-b .ask-ends2 .ensures) asked in
+    let asked = asks-before (c .and4 .ensures) (valid-b .before .ask-ends .ensures) asked in
     asks-rooms (endsValid _ ∷ endsValid _ ∷ []) (_ ∷ _ ∷ _ ∷ []) (_ ∷ _ ∷ _ ∷ []) asked .told
 
 pub plan-asks-spec : {M : Type 1} → statement M
@@ -57,11 +57,11 @@ plan-asks-spec =
     add-needed
     ask-ends-requires
     ask-ends-requires-2
-    and-requires
     ask-room-requires
-    and-requires-2
     ask-room-requires-2
-    and-requires-3
     ask-room-requires-3
+    and-requires
+    and-requires-2
+    and-requires-3
     and-requires-4
     returns)
