@@ -29,8 +29,10 @@
  * a batch, in which pointers may be null where there are no entries.
  *
  * Threads: the library keeps nothing between calls, allocates nothing and has no variables of its own, so calls may run at once on
- * any threads, under the rules for buffers above. A call takes less than 320 KiB of stack. Of other libraries it needs memcpy and
- * memset alone.
+ * any threads, under the rules for buffers above. Of other libraries it needs memcpy and memset alone.
+ *
+ * Stack: a call takes at most 64 KiB, whatever its arguments. One on columns takes less than 16 KiB, but for the many-way ones
+ * (rl_plan_many, rl_zip_many).
  *
  * The sections below have the names of the Rust's files. */
 #ifndef RUNLENGTH_H
@@ -464,16 +466,17 @@ rl_counted rl_slice_reduce(const int64_t *ends, size_t ends_len, const int64_t *
  * or do not finish at ends_len; 4 of the first key whose ends are not valid, with its position. Of two batches each of these, and
  * each what, is asked of a and then of b. As a cost it is a pass over the offsets and the ends.
  *
- * Many keys are looked up by halving, where each key is above the one before it, or by an index that the call makes for itself: a
- * pass over the keys for each 16,384 of them and each 32,768 that are looked up. Where there are fewer than 512 of either and the
- * keys do not rise so, they are looked for one after another.
+ * Many keys are looked up by halving, where each key is above the one before it, or by an index that the call makes for itself, of
+ * 4,096 wanted keys at a time: a pass over all keys for each. Where there are fewer than 256 keys or 64 wanted ones and the keys do
+ * not rise so, they are looked for one after another. No keys take more than ten times as long as random ones of the same number.
  *
  * A batch that is answered has as many entries in out_keys as it has keys, one more in out_offsets, the first of which is 0, and as
  * many in out_ends and in out_values as it has runs. */
 
 /* Whether four lists are a batch of different keys: the number is 0 where they are. Writes nothing.
  * Refuses: the batch; 8: the lowest position of a key that stands before as well.
- * Costs: the batch; one pass over the keys, and where one is not above the one before it a pass for each 16,384 of them. */
+ * Costs: the batch; one pass over the keys, and where one is not above the one before it a pass for each 6,144 of them, over those
+ * that follow. */
 rl_refusal rl_batch_from_parts(const uint32_t *keys, size_t keys_len, const size_t *offsets, size_t offsets_len,
                                const int64_t *ends, size_t ends_len, const int64_t *values, size_t values_len);
 
@@ -547,7 +550,7 @@ rl_batched rl_batch_map_rles_slice(const uint32_t *keys, size_t keys_len, const 
  * out_keys needs keys_len entries, out_offsets keys_len + 1, out_ends and out_values ends_len, scratch_ends and scratch_values
  * 2 * ends_len.
  * Costs: the batch; for each key the runs of its new key so far and its own. New keys that never fall, or of which none is given
- * twice, take one pass, others for each key a look at those before it. */
+ * twice, take one pass, others a pass for every few thousand of them. */
 rl_batched rl_batch_collapse(const uint32_t *keys, size_t keys_len, const size_t *offsets, size_t offsets_len, const int64_t *ends,
                              size_t ends_len, const int64_t *values, size_t values_len, const uint32_t *new_keys,
                              size_t new_keys_len, rl_fill fill, uint8_t code, uint32_t *out_keys, size_t out_keys_len,
