@@ -2,6 +2,7 @@
 
 use crate::answer::Error;
 use crate::call::{Arg, Call, Fill, Parameter};
+use crate::keys::{crowded, descending, doubled_late, random as random_keys};
 use std::collections::BTreeSet;
 
 /// What a parameter stands for.
@@ -95,8 +96,9 @@ impl Role {
     }
 }
 
-/// The longest buffer that is made to fit an answer.
+/// The longest buffer that is made to fit an answer, and the longest with batches of many keys.
 const LONGEST: u64 = 1 << 16;
+const LONGEST_OF_BATCH: u64 = 1 << 20;
 
 const MIN: i64 = i64::MIN;
 const MAX: i64 = i64::MAX;
@@ -1172,6 +1174,65 @@ pub fn large(call: &Call, number: usize, rng: &mut Rng) -> Vec<Arg> {
     args
 }
 
+/// How many keys batches of many have: enough for a table, for several, and for many.
+pub const KEY_COUNTS: [usize; 3] = [600, 5_000, 40_000];
+
+/// Arguments of a call on batches with so many keys: random, crowded, descending, and with double ones late in the list; of these one
+/// in `share`.
+pub fn of_keys(
+    call: &Call,
+    count: usize,
+    share: usize,
+    rng: &mut Rng,
+) -> impl Iterator<Item = Vec<Arg>> {
+    let lists = [
+        random_keys(count, rng),
+        crowded(count, rng),
+        descending(count),
+        doubled_late(count, rng),
+    ];
+    let lists = lists.into_iter().step_by(share);
+    lists.map(|keys| with_keys(call, keys, rng))
+}
+
+/// Arguments with these keys, which are the new ones, too. The second batch has other keys for a third of them, in another order. All
+/// sequences are of one length and all codes valid, so that the keys are looked for.
+fn with_keys(call: &Call, keys: Vec<u32>, rng: &mut Rng) -> Vec<Arg> {
+    let mut others = keys.clone();
+    let replaced = others.iter_mut().step_by(3);
+    replaced.for_each(|key| *key = rng.word() as u32);
+    shuffle(&mut others, rng);
+    let first = of_equal_lengths(keys, rng);
+    let drawn = Drawn {
+        second: of_equal_lengths(others, rng),
+        intervals: first.columns.iter().map(|c| c.interval(rng)).collect(),
+        column: first.columns[0].clone(),
+        first,
+    };
+    let arg = |parameter: &Parameter| match parameter.role {
+        Role::NewKeys => Arg::Keys(drawn.first.keys.clone()),
+        Role::How => Arg::Code(rng.below(4) as u8),
+        Role::Code => Arg::Code(rng.below(10) as u8),
+        Role::Reduction => Arg::Code(rng.below(3) as u8),
+        role => drawn.arg(role, rng),
+    };
+    let mut args: Vec<Arg> = call.parameters.iter().map(arg).collect();
+    lengthen_up_to(LONGEST_OF_BATCH, call, &call.lent_at(), &mut args);
+    args
+}
+
+/// Sequences of two runs and five positions.
+fn of_equal_lengths(keys: Vec<u32>, rng: &mut Rng) -> Keyed {
+    let column = |_| {
+        let values = vec![rng.number(), rng.number()];
+        Column::new(&[1 + rng.below(4) as i64, 5], values)
+    };
+    Keyed {
+        columns: keys.iter().map(column).collect(),
+        keys,
+    }
+}
+
 /// Arguments of a call that takes some, made from random sequences and half the time damaged.
 pub fn random(call: &Call, rng: &mut Rng) -> (Vec<Arg>, Fit) {
     let drawn = Drawn::new(call, rng);
@@ -1201,10 +1262,14 @@ pub fn random(call: &Call, rng: &mut Rng) -> (Vec<Arg>, Fit) {
 
 /// Makes each buffer as long as document 01 asks.
 fn lengthen_to_need(call: &Call, lent: &[usize], args: &mut [Arg]) {
+    lengthen_up_to(LONGEST, call, lent, args);
+}
+
+fn lengthen_up_to(longest: u64, call: &Call, lent: &[usize], args: &mut [Arg]) {
     loop {
         let refusal = call.naive(args).answer.refusal;
         let [which, needed, given] = refusal.values;
-        if !refusal.is(Error::ShortBuffer) || needed > LONGEST {
+        if !refusal.is(Error::ShortBuffer) || needed > longest {
             return;
         }
         let index = lent[which as usize];

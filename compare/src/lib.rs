@@ -16,11 +16,13 @@ pub mod call;
 #[cfg(feature = "library")]
 pub mod cutting;
 pub mod inputs;
+pub mod keys;
 #[cfg(feature = "library")]
 pub mod library;
 pub mod naive;
 pub mod original;
 pub mod tally;
+pub mod timing;
 
 /// Runs this on the one thread of a pool of rayon's. There the original does its work at once; from
 /// any other thread each of its calls on batches would hand it over and wait.

@@ -4,7 +4,7 @@
 use crate::answer::{Error, Reduction, Refusal};
 use crate::call::{Fill, Reading, Runs, Written};
 use std::cmp::Ordering;
-use std::collections::BTreeSet;
+use std::collections::{BTreeSet, HashMap};
 use std::ops::RangeInclusive;
 
 /// A longer run is listed as a single entry. Of longer columns only some positions are looked at.
@@ -984,6 +984,7 @@ struct Batch<'a> {
     offsets: &'a [usize],
     ends: &'a [i64],
     values: &'a [i64],
+    lowest: HashMap<u32, usize>,
 }
 
 impl<'a> Batch<'a> {
@@ -993,7 +994,13 @@ impl<'a> Batch<'a> {
             offsets,
             ends,
             values,
+            lowest: lowest(keys),
         }
+    }
+
+    /// The lowest position of a key.
+    fn position(&self, key: u32) -> Option<usize> {
+        self.lowest.get(&key).copied()
     }
 
     /// The ends and values at a position of the keys; none, for no position.
@@ -1004,7 +1011,7 @@ impl<'a> Batch<'a> {
 
     /// The ends and values of a key; none, for an absent one.
     fn of(&self, key: u32) -> (&'a [i64], &'a [i64]) {
-        self.sequence(lowest(self.keys, key))
+        self.sequence(self.position(key))
     }
 
     /// What the slice of each interval shows, each of the sequence of its key.
@@ -1026,19 +1033,24 @@ impl<'a> Batch<'a> {
     }
 }
 
-/// The lowest position of a key.
-fn lowest(keys: &[u32], key: u32) -> Option<usize> {
-    (0..keys.len()).find(|&position| keys[position] == key)
+/// The lowest position of each key: the last that is put in.
+fn lowest(keys: &[u32]) -> HashMap<u32, usize> {
+    let positions = (0..keys.len()).rev();
+    positions
+        .map(|position| (keys[position], position))
+        .collect()
 }
 
-/// Whether the key at the position stands before as well.
-fn repeats(keys: &[u32], position: usize) -> bool {
-    keys[..position].contains(&keys[position])
+/// The positions of the keys that stand before as well.
+fn repeats(keys: &[u32]) -> impl Iterator<Item = usize> {
+    let lowest = lowest(keys);
+    (0..keys.len()).filter(move |&position| lowest[&keys[position]] < position)
 }
 
 /// Each key once, where it first appears.
 fn once(keys: &[u32]) -> Vec<u32> {
-    let first = (0..keys.len()).filter(|&position| !repeats(keys, position));
+    let lowest = lowest(keys);
+    let first = (0..keys.len()).filter(|&position| lowest[&keys[position]] == position);
     first.map(|position| keys[position]).collect()
 }
 
@@ -1069,14 +1081,14 @@ fn ask_batches(batches: &[&Batch], lengths: Result<(), Refusal>) -> Result<(), R
 
 pub fn batch_from_parts(keys: &[u32], offsets: &[usize], ends: &[i64], values: &[i64]) -> Reading {
     ask_batches(&[&Batch::new(keys, offsets, ends, values)], Ok(()))?;
-    match (0..keys.len()).find(|&position| repeats(keys, position)) {
+    match repeats(keys).next() {
         Some(position) => Err(Error::DuplicateKey.with(&[position as u64])),
         None => Ok(Written::nothing([0])),
     }
 }
 
 pub fn batch_position(keys: &[u32], key: u32) -> Reading {
-    let position = lowest(keys, key);
+    let position = lowest(keys).get(&key).copied();
     let counts = [position.is_some().into(), position.unwrap_or(0)];
     Ok(Written::nothing(counts))
 }
@@ -1094,7 +1106,7 @@ pub fn batch_get(
     ask_batches(&[&batch], Ok(()))?;
     let (ends, values) = batch.of(key);
     ask_room(ends.len(), [out_ends.len(), out_values.len()])?;
-    let found = lowest(keys, key);
+    let found = batch.position(key);
     Ok(Written::got(found.map(|_| runs(&show(ends, values)))))
 }
 
@@ -1250,17 +1262,14 @@ pub fn batch_collapse(
     let collapsed = Batch::new(keys, offsets, ends, values);
     let lengths = ask_lengths(4, new_keys.len(), keys.len());
     ask_batches(&[&collapsed], lengths)?;
-    let of_new_key = |&new_key: &u32| -> Vec<Side> {
-        let members = (0..keys.len()).filter(|&position| new_keys[position] == new_key);
-        members
-            .map(|position| {
-                let (ends, values) = collapsed.sequence(Some(position));
-                Side::new(ends, values, fill.option())
-            })
-            .collect()
-    };
+    let mut members: HashMap<u32, Vec<Side>> = HashMap::new();
+    for (position, &new_key) in new_keys.iter().enumerate() {
+        let (ends, values) = collapsed.sequence(Some(position));
+        let member = Side::new(ends, values, fill.option());
+        members.entry(new_key).or_default().push(member);
+    }
     let unique = once(new_keys);
-    let groups: Vec<Vec<Side>> = unique.iter().map(of_new_key).collect();
+    let groups: Vec<&Vec<Side>> = unique.iter().map(|new_key| &members[new_key]).collect();
     for (position, members) in groups.iter().enumerate() {
         ask_group(members).map_err(|refusal| refusal.at(position))?;
     }
@@ -1271,8 +1280,9 @@ pub fn batch_collapse(
         &[&needed[..], &[2 * ends.len(); 2]].concat(),
         &[&given[..], &scratch].concat(),
     )?;
-    let sequence =
-        |members: &Vec<Side>| merged_at_each(members, |position| gathered(members, code, position));
+    let sequence = |members: &&Vec<Side>| {
+        merged_at_each(members, |position| gathered(members, code, position))
+    };
     let sequences = groups.iter().map(sequence).collect();
     Ok(batch(unique, sequences))
 }
@@ -1312,12 +1322,15 @@ pub fn batch_concat(
 }
 
 /// The keys of a join, each with its positions on both sides.
-fn joined(a: &[u32], b: &[u32], how: u8) -> Vec<(u32, Option<usize>, Option<usize>)> {
+fn joined(a: &Batch, b: &Batch, how: u8) -> Vec<(u32, Option<usize>, Option<usize>)> {
     let (keeps_left, keeps_right) = ([0, 2].contains(&how), [0, 3].contains(&how));
-    let left = (0..a.len()).map(|i| (a[i], Some(i), lowest(b, a[i])));
+    let left = a.keys.iter().enumerate();
+    let left = left.map(|(i, &key)| (key, Some(i), b.position(key)));
     let left = left.filter(|(_, _, right)| keeps_left || right.is_some());
-    let own = (0..b.len()).filter(|&j| keeps_right && lowest(a, b[j]).is_none());
-    left.chain(own.map(|j| (b[j], None, Some(j)))).collect()
+    let own = b.keys.iter().enumerate();
+    let own = own.filter(|&(_, &key)| keeps_right && a.position(key).is_none());
+    left.chain(own.map(|(j, &key)| (key, None, Some(j))))
+        .collect()
 }
 
 pub fn batch_zip_with(
@@ -1343,7 +1356,7 @@ pub fn batch_zip_with(
     let a = Batch::new(a_keys, a_offsets, a_ends, a_values);
     let b = Batch::new(b_keys, b_offsets, b_ends, b_values);
     ask_batches(&[&a, &b], Ok(()))?;
-    let joined = joined(a_keys, b_keys, how);
+    let joined = joined(&a, &b, how);
     let sides = |&(_, left, right): &_| {
         let ((left_ends, left_values), (right_ends, right_values)) =
             (a.sequence(left), b.sequence(right));

@@ -5,7 +5,7 @@
 
 use compare::call::{Arg, CALLS, Call};
 use compare::cutting::{self, COMBINATIONS, Job, Joined, Side};
-use compare::inputs::{self, Rng, Role};
+use compare::inputs::{self, KEY_COUNTS, Rng, Role};
 use compare::repeat_for;
 use compare::tally::{Seen, Tally};
 use std::collections::BTreeMap;
@@ -22,14 +22,6 @@ const BATCH: usize = 256;
 
 /// Cases with many keys or intervals, between two looks at the clock.
 const LARGE: usize = 4;
-
-/// More keys than an index of the library takes at once, and than are looked for at once.
-const SHARES: usize = 40_000;
-
-/// The calls that look for keys by an index: for those of intervals, and for those of another batch. The
-/// naive reading takes as long for the latter as the square of their number.
-const INDEXED: [&str; 2] = ["batch_getitems", "batch_slice_reduce"];
-const JOINED: [&str; 2] = ["batch_concat", "batch_zip_with"];
 
 /// The part of the time in which jobs are cut: one in so many.
 const CUTTING: u32 = 5;
@@ -145,6 +137,20 @@ struct Run {
 }
 
 impl Run {
+    /// Compares a call on batches with many keys. The most are left out where only a share is looked at.
+    fn many_keys(&self, call: &Call, comparison: &mut Comparison) {
+        let mut rng = Rng::new(self.seed);
+        let counts = match self.share {
+            1 => &KEY_COUNTS[..],
+            _ => &KEY_COUNTS[..KEY_COUNTS.len() - 1],
+        };
+        for &count in counts {
+            for args in inputs::of_keys(call, count, self.share, &mut rng) {
+                comparison.compare(call, args);
+            }
+        }
+    }
+
     /// What one of the workers compares.
     fn worker(&self, worker: usize) -> Comparison {
         let mut comparison = Comparison::default();
@@ -152,14 +158,12 @@ impl Run {
             let small = inputs::some_small(call, self.share);
             let inputs = inputs::seams(call).into_iter().chain(small);
             inputs.for_each(|args| comparison.compare(call, args));
+            if call.takes(Role::Keys) {
+                self.many_keys(call, &mut comparison);
+            }
         }
         let cutting = self.time / CUTTING;
         let mut rng = Rng::of_worker(self.seed, worker);
-        let joined = JOINED.iter().filter(|_| self.share == 1);
-        for name in INDEXED.iter().chain(joined) {
-            let call = Call::named(name);
-            comparison.compare(call, inputs::large(call, SHARES, &mut rng));
-        }
         repeat_for(self.time - cutting, || {
             for call in CALLS.iter().filter(|call| call.takes_arguments()) {
                 for _ in 0..BATCH {

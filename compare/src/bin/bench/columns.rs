@@ -1,13 +1,14 @@
 //! The calls on columns.
 
 use crate::inputs::{self, ANY, DIFFERENT, Flat, LONG, SHORT};
-use crate::lists::{Checked, Part, Reduced, Reductions, Viewed, lent};
+use crate::lists::{Checked, Part, Reduced, Reductions, Viewed};
 use crate::measure::{Bench, Work};
 use crate::{Case, cases, versus};
 use compare::answer::Reduction;
 use compare::call::Fill;
 use compare::inputs::Rng;
 use compare::library::{self, Counted};
+use compare::timing::lent;
 use runlength::{Keep, Result, Rle, RleLike, RleRef, SliceView};
 use std::hint::black_box;
 

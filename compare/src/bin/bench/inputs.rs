@@ -2,7 +2,6 @@
 
 use compare::inputs::{Rng, shuffle};
 use runlength::{Rle, RleBatch, RleLike};
-use std::collections::HashSet;
 
 pub type Batch = RleBatch<u32, i64>;
 
@@ -89,13 +88,7 @@ pub enum Order {
 pub fn keys(rng: &mut Rng, count: usize, order: Order) -> Vec<u32> {
     match order {
         Order::Ascending => (0..count as u32).collect(),
-        Order::Scattered => {
-            let mut seen = HashSet::new();
-            std::iter::repeat_with(|| rng.below(1 << 32) as u32)
-                .filter(|key| seen.insert(*key))
-                .take(count)
-                .collect()
-        }
+        Order::Scattered => compare::keys::random(count, rng),
     }
 }
 

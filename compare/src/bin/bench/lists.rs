@@ -1,29 +1,9 @@
 //! What both sides give back, as counts and lists of bytes, so that any results can be compared.
 
 use compare::answer::{Answer, Reduction};
+use compare::timing::Entry;
 use runlength::{MergePlan, Plan, PlanMany, Rle, RleBatch, RleLike, SliceView};
 use std::borrow::Cow;
-
-/// An entry of a list.
-pub trait Entry: Copy {
-    /// What a lent buffer holds before a call. It is not 0, so that the buffer's memory is written.
-    const HELD: Self;
-}
-
-macro_rules! entries {
-    ($($type:ty)*) => {
-        $(impl Entry for $type {
-            const HELD: Self = 7;
-        })*
-    };
-}
-
-entries! { i64 usize u64 u32 u8 }
-
-/// A buffer to be lent.
-pub fn lent<T: Entry>(entries: usize) -> Vec<T> {
-    vec![T::HELD; entries]
-}
 
 fn bytes<T: Entry>(list: &[T]) -> Cow<'_, [u8]> {
     // SAFETY: the entries are integers, all of whose bytes are set.

@@ -22,6 +22,7 @@ mod measure;
 mod table;
 
 use compare::inputs::Rng;
+use compare::timing;
 use measure::{Bench, Sides};
 use std::env;
 use std::process::ExitCode;
@@ -84,7 +85,7 @@ macro_rules! versus {
                 read: 0 $(+ size_of_val::<[_]>($list))*,
                 kept: 0,
             },
-            |$input| ($($crate::lists::lent($room),)*),
+            |$input| ($(compare::timing::lent($room),)*),
             |$input, ($($buffer,)*)| compare::library::$call(
                 $(black_box($list),)* $(black_box($argument),)* $($buffer),*
             ),
@@ -107,14 +108,14 @@ fn measure(rounds: u32, case: &'static Case, runs: usize, sides: Sides) {
         rng: Rng::new(1),
         times: Vec::new(),
     };
-    measure::keep_memory();
+    timing::keep_memory();
     let times = match sides {
         Sides::DefaultThreads => {
             (case.measure)(&mut bench);
             bench.times
         }
         Sides::OneThread => {
-            measure::share_memory();
+            timing::share_memory();
             compare::in_pool(move || {
                 (case.measure)(&mut bench);
                 bench.times

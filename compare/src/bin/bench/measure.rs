@@ -1,19 +1,13 @@
 //! How long a call takes on each side, and copying as many bytes.
 
-use crate::lists::{Lent, Show, lent};
+use crate::lists::{Lent, Show};
 use compare::answer::Answer;
 use compare::inputs::Rng;
+use compare::timing::{self, Side, lent};
 use runlength::Result;
-use std::ffi::c_int;
-use std::hint::black_box;
 use std::time::{Duration, Instant};
 
-/// The runs that the inputs have together at least: the processor learns the branches of a short
-/// input that it meets again and again.
-const VARIED: usize = 100_000;
-
-/// What turns that are timed at once take together, unless they make more bytes than these.
-const TIMED: Duration = Duration::from_micros(200);
+/// The bytes that turns timed at once make together at most, unless one makes more.
 const MADE: usize = 256 << 10;
 
 /// What a round adds to the time that is taken at least, and to that after which none is begun, if
@@ -21,27 +15,6 @@ const MADE: usize = 256 << 10;
 const LEAST: Duration = Duration::from_millis(10);
 const MOST: Duration = Duration::from_millis(200);
 const FEW: u32 = 3;
-
-unsafe extern "C" {
-    fn mallopt(parameter: c_int, value: c_int) -> c_int;
-}
-
-/// Has malloc keep all memory: no block is mapped on its own, and nothing is trimmed.
-pub fn keep_memory() {
-    set_malloc(-4, 0); // M_MMAP_MAX
-    set_malloc(-1, -1); // M_TRIM_THRESHOLD
-}
-
-/// Has all threads share what memory there is.
-pub fn share_memory() {
-    set_malloc(-8, 1); // M_ARENA_MAX
-}
-
-fn set_malloc(parameter: c_int, value: c_int) {
-    // SAFETY: a setting that malloc takes at any time.
-    let taken = unsafe { mallopt(parameter, value) };
-    assert_eq!(taken, 1, "malloc has this setting");
-}
 
 /// What is timed in a process.
 #[derive(Clone, Copy, PartialEq, Eq)]
@@ -108,8 +81,7 @@ impl Total {
 impl Bench {
     /// The inputs that calls take in turn.
     pub fn inputs<I>(&mut self, make: impl Fn(&mut Rng, usize) -> I) -> Vec<I> {
-        let count = VARIED.div_ceil(self.runs);
-        (0..count).map(|_| make(&mut self.rng, self.runs)).collect()
+        timing::inputs(self.runs, || make(&mut self.rng, self.runs))
     }
 
     /// `lend` makes the library's buffers and `given` what a call of the original consumes, both
@@ -179,53 +151,5 @@ impl Bench {
             }
             round();
         }
-    }
-}
-
-/// The calls of one side, one with each input in turn.
-struct Side<'a, I, M, C> {
-    inputs: &'a [I],
-    /// What makes, untimed, what a call consumes.
-    given: M,
-    call: C,
-    /// The best time of a turn, in nanoseconds.
-    best: f64,
-}
-
-impl<'a, I, G, R, M: Fn(&'a I) -> G, C: Fn(&'a I, G) -> R> Side<'a, I, M, C> {
-    fn new(inputs: &'a [I], given: M, call: C) -> Self {
-        Side {
-            inputs,
-            given,
-            call,
-            best: f64::INFINITY,
-        }
-    }
-
-    /// The results of a turn, which is timed.
-    fn first(&mut self) -> Vec<R> {
-        self.turns(1)
-    }
-
-    /// Times at most so many turns. What they give back is dropped after that.
-    fn time(&mut self, most: usize) {
-        let turns = (TIMED.as_nanos() as f64 / self.best.max(1.0)).ceil() as usize;
-        self.turns(turns.min(most));
-    }
-
-    fn turns(&mut self, turns: usize) -> Vec<R> {
-        let all = (0..turns).flat_map(|_| self.inputs);
-        let given: Vec<G> = all.map(&self.given).collect();
-        let mut results = Vec::with_capacity(given.len());
-        let mut given = given.into_iter();
-        let start = Instant::now();
-        for _ in 0..turns {
-            for (input, given) in self.inputs.iter().zip(&mut given) {
-                results.push(black_box((self.call)(black_box(input), black_box(given))));
-            }
-        }
-        let time = start.elapsed().as_secs_f64() * 1e9;
-        self.best = self.best.min(time / turns as f64);
-        results
     }
 }

@@ -2,6 +2,7 @@
 
 use crate::{Case, SIZES, WITH_THREADS, rows};
 use compare::call::CALLS;
+use compare::timing::shown;
 use std::env;
 use std::process::Command;
 
@@ -96,21 +97,6 @@ impl Row {
             .filter_map(|figures| figures.ratios[other]);
         ratios.fold(0.0, f64::max)
     }
-}
-
-/// With three digits, in thousands or millions where there are more.
-fn shown(figure: f64) -> String {
-    let (figure, unit) = match figure {
-        999_500.0.. => (figure / 1e6, "M"),
-        9_995.0.. => (figure / 1e3, "k"),
-        _ => (figure, ""),
-    };
-    let digits = match figure {
-        99.95.. => 0,
-        9.995.. => 1,
-        _ => 2,
-    };
-    format!("{figure:.digits$}{unit}")
 }
 
 fn print_row([call, input, unit, time, one, default, copy]: [&str; 7]) {
