@@ -72,7 +72,8 @@ module _ (op : ℤ → ℤ → ℤ) (fill : Fill) (ks os : List ℕ) (es vs : Li
     all-few = omega (arith, groups-few newKeys (columns (flat os es vs)) (once newKeys) (once-no-doubles [] newKeys), all-runs ks os es vs newKeys g)
 
     group-runs : (key : ℕ) → length (collapseRuns op fill (members entries key)) ≤ memberRuns entries key
-    group-runs key = collapse-few op fill (members entries key) (members-all Valid key newKeys (columns (flat os es vs)) (all-valid ks os es vs newKeys g))
+    group-runs key = collapse-few op fill (members entries key) (members-all Valid key newKeys (columns (flat os es vs))
+        (all-valid ks os es vs newKeys g))
 
     results-few : (groups : List ℕ) → total (map length (columnsOf (map (collapseKey op fill entries) groups))) ≤ groupRuns entries groups
     results-few [] = omega arith
@@ -94,19 +95,22 @@ module _ (op : ℤ → ℤ → ℤ) (fill : Fill) (ks os : List ℕ) (es vs : Li
 
       module _ {k x : List ℕ} {e v s t : List ℤ} {used n first : ℕ} (c : Collapsing k₀ k (set x₀ 0 0) x e₀ e v₀ v s₀ s t₀ t used n first) where
         module _ (h : first < length newKeys) where
-          group-left : groupRuns entries (drop n (once newKeys)) ≡ memberRuns entries (getD newKeys first 0) + groupRuns entries (drop (n + 1) (once newKeys))
+          group-left : groupRuns entries (drop n (once newKeys)) ≡ memberRuns entries (getD newKeys first 0) + groupRuns entries (drop (n + 1)
+              (once newKeys))
           group-left =
               ap (groupRuns entries) (drop-cons (once newKeys) n 0 (group-within newKeys (c .groups) h))
               ∙ rw (add-one n, group-key newKeys (c .groups) h)
 
           -- the room that is left
-          pub collapsing-room : (used + memberRuns entries (getD newKeys first 0) ≤ length e) × (used + memberRuns entries (getD newKeys first 0) ≤ length v)
+          pub collapsing-room : (used + memberRuns entries (getD newKeys first 0) ≤ length e) × (used + memberRuns entries
+              (getD newKeys first 0) ≤ length v)
           collapsing-room = (
             omega (arith, group-left, c .left, room .room-ends, c .laying .laying .long-ends),
             omega (arith, group-left, c .left, room .room-values, c .laying .laying .long-values),
           )
 
-          pub collapsing-fold : FoldRoom (batch ks os es vs) newKeys first (take (length e - used) (drop used e)) (take (length v - used) (drop used v)) s t
+          pub collapsing-fold : FoldRoom (batch ks os es vs) newKeys first (take (length e - used) (drop used e)) (take (length v - used)
+              (drop used v)) s t
           collapsing-fold = record {
             within = h;
             alone = c .groups .single h;
@@ -130,7 +134,12 @@ module _ (op : ℤ → ℤ → ℤ) (fill : Fill) (ks os : List ℕ) (es vs : Li
                 → Collapsing k₀ (set k n key) (set x₀ 0 0) (set x (n + 1) (used + m)) e₀ (putMid used (length e - used) e e₂)
                 v₀ (putMid used (length v - used) v v₂) s₀ s₂ t₀ t₂ (used + m) (n + 1) r
             collapsing-next ek t =
-                let w : n < length results = omega (arith, length-map (once newKeys) (collapseKey op fill entries), group-within newKeys (c .groups) h) in
+                let w : n < length results = omega (
+                  arith,
+                  length-map (once newKeys) (collapseKey op fill entries),
+                  group-within newKeys
+                      (c .groups) h,
+                ) in
                 let g : Filled (getD results n noEntry .runs) (take (length e - used) (drop used e)) e₂ (take (length v - used) (drop used v)) v₂ m =
                 rw at-group (f .filled) in
                 record {
@@ -144,7 +153,8 @@ module _ (op : ℤ → ℤ → ℤ) (fill : Fill) (ks os : List ℕ) (es vs : Li
                   scratch-values = free-next (c .scratch-values) (f .scratch-values);
                 }
 
-        pub collapsing-end : length newKeys ≤ first → FilledGroups results (2 * length es) k₀ k x₀ x e₀ e v₀ v s₀ s t₀ t (record { keys = n; runs = used })
+        pub collapsing-end : length newKeys ≤ first → FilledGroups results (2 * length es) k₀ k x₀ x e₀ e v₀ v s₀ s t₀ t
+            (record { keys = n; runs = used })
         collapsing-end h =
             let a : length results ≤ n = omega (arith, length-map (once newKeys) (collapseKey op fill entries), group-all newKeys (c .groups) h) in
             record {
@@ -158,7 +168,8 @@ module _ (op : ℤ → ℤ → ℤ) (fill : Fill) (ks os : List ℕ) (es vs : Li
 
 -- ---- a fill that is missing shows nowhere: the result is that of its value
 
-from-filled : (op : ℤ → ℤ → ℤ) (fill : Fill) (sofar : Runs) (ms : List Runs) → collapseFrom op (Value (valueOf fill)) sofar ms ≡ collapseFrom op fill sofar ms
+from-filled : (op : ℤ → ℤ → ℤ) (fill : Fill) (sofar : Runs) (ms : List Runs) → collapseFrom op (Value
+    (valueOf fill)) sofar ms ≡ collapseFrom op fill sofar ms
 unfolding collapseFrom combined table greatestLength rowAt valueAt
 from-filled op fill sofar [] = refl
 from-filled op fill sofar (m ∷ ms) = from-filled op fill (combined op (two fill fill sofar m)) ms

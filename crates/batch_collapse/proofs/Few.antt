@@ -44,7 +44,11 @@ from-few : (op : ℤ → ℤ → ℤ) (fill : Fill) (sofar : Runs) (ms : List Ru
 unfolding collapseFrom
 from-few op fill sofar [] v a = omega arith
 from-few op fill sofar (m ∷ ms) v a =
-    omega (arith, from-few op fill (combined op (two fill fill sofar m)) ms (combined-valid op fill fill sofar m) (a .1), two-few op fill fill sofar m v (a .0))
+    omega (
+      arith,
+      from-few op fill (combined op (two fill fill sofar m)) ms (combined-valid op fill fill sofar m) (a .1),
+      two-few op fill fill sofar m v (a .0),
+    )
 
 pub collapse-few : (op : ℤ → ℤ → ℤ) (fill : Fill) (ms : List Runs) → All Valid ms → length (collapseRuns op fill ms) ≤ total (map length ms)
 unfolding collapseRuns

@@ -86,7 +86,8 @@ missing-equal a b e =
     let n : leZ (pos a) (largerOf (pos b) (pos 0)) ≡ false = by-test (leb b 0) (λ w. rw (w, lt-leb a 0 (omega arith)))
     (λ w. rw (w, lt-leb a b (omega arith))) in
     let m : pos a ≡ largerOf (pos a) (largerOf (pos b) (pos 0)) = rw n in
-    let z : refusal 10 (pos a ∷ pos b ∷ []) ≡ none = sym (fills-second (pos a) (pos b) Missing Missing m (rw (le-ltb a a (omega arith))) (rw u)) ∙ e in
+    let z : refusal 10 (pos a ∷ pos b ∷ []) ≡ none = sym (fills-second (pos a) (pos b) Missing Missing m (rw (le-ltb a a (omega arith)))
+    (rw u)) ∙ e in
     cc)
     (λ u. omega (arith, ltb-false a b t, ltb-false b a u)))
 

@@ -30,7 +30,17 @@ use Rattle.batch_collapse.specs.Calls.{collapseFrom, collapseRuns, membe
 use Rattle.batch_collapse.specs.Workers.{Grouped, memberRuns, Foldable, FoldedMember, FoldRoom, Folded, FilledGroup}
 use Rattle.batch_collapse.proofs.Columns.{new-many, all-valid, all-runs, part-runs}
 use Rattle.batch_collapse.proofs.Few.{merged-few, combined-valid, collapse-few}
-use Rattle.batch_collapse.proofs.Members.{membersAt, AtMember, at-next, member-at, members-next, members-end, members-first, members-all, members-few}
+use Rattle.batch_collapse.proofs.Members.{
+  membersAt,
+  AtMember,
+  at-next,
+  member-at,
+  members-next,
+  members-end,
+  members-first,
+  members-all,
+  members-few,
+}
 
 -- ---- entries written into the front of a buffer
 
@@ -82,7 +92,13 @@ module _ (op : ℤ → ℤ → ℤ) (f : ℤ) {pe pv : List ℤ} {count : ℕ} {
           d .count ∙ sym a,
           d .count ∙ sym b,
           rw (long _ e e′ (d .ends) (rw length-ends (omega (arith, both-few, c, q .room-ends)))) (omega (arith, both-few, c, q .room-ends, d .count)),
-          rw (long _ v v′ (d .values) (rw length-values (omega (arith, both-few, c, q .room-values)))) (omega (arith, both-few, c, q .room-values, d .count)),
+          rw (long _ v v′ (d .values) (rw length-values (omega (arith, both-few, c, q .room-values)))) (omega (
+            arith,
+            both-few,
+            c,
+            q .room-values,
+            d .count,
+          )),
           omega (arith, a, both-few, z .scratch-ends),
           omega (arith, b, both-few, z .scratch-values),
         )
@@ -90,7 +106,12 @@ module _ (op : ℤ → ℤ → ℤ) (f : ℤ) {pe pv : List ℤ} {count : ℕ} {
     pub member-folded : {s′ t′ : List ℤ} → s′ ≡ over (take r e′) s → t′ ≡ over (take r v′) t → FoldedMember both e e′ v v′ s s′ t t′ r
     member-folded a b = record {
       through = d;
-      filled = record { count = d .count; ends = a ∙ ap (λ (l : List ℤ). over l s) front-ends; values = b ∙ ap (λ (l : List ℤ). over l t) front-values };
+      filled = record {
+        count = d .count;
+        ends = a ∙ ap (λ (l : List ℤ). over l s) front-ends;
+        values = b ∙ ap (λ
+            (l : List ℤ). over l t) front-values;
+      };
     }
 
 -- ---- a member
@@ -176,9 +197,15 @@ module _ (ks os : List ℕ) (es vs : List ℤ) (nk : List ℕ) (first : ℕ) whe
         first-out = (p .valid, p .paired, omega (arith, first-few, p .count, q .room-ends), omega (arith, first-few, p .count, q .room-values))
 
         first-runs : length (encode (dense (runsOf pe pv))) + total (map length (left next)) ≤ most
-        first-runs = rw (p .runs) (omega (arith, first-few, merged-few (columnAt (batch ks os es vs) first) (column-valid ks os es vs (g .valid) first)))
+        first-runs = rw (p .runs) (omega (
+          arith,
+          first-few,
+          merged-few (columnAt (batch ks os es vs) first) (column-valid ks os es vs
+              (g .valid) first),
+        ))
 
-        pub first-long : {s₁ t₁ : List ℤ} {n : ℕ} → Filled (encode (dense (runsOf pe pv))) s s₁ t t₁ n → (length s₁ ≡ length s) × (length t₁ ≡ length t)
+        pub first-long : {s₁ t₁ : List ℤ} {n : ℕ} → Filled (encode (dense (runsOf pe pv))) s s₁ t t₁ n → (length s₁ ≡ length s) ×
+            (length t₁ ≡ length t)
         first-long {s₁} {t₁} d = (
           long _ s s₁ (d .ends) (rw length-ends (omega (arith, first-runs, low, q .scratch-ends))),
           long _ t t₁ (d .values) (rw length-values (omega (arith, first-runs, low, q .scratch-values))),
@@ -292,7 +319,12 @@ module _ (ks os : List ℕ) (es vs : List ℤ) (nk : List ℕ) (first : ℕ) whe
             let on : left at ≡ columnAt (batch ks os es vs) at ∷ left at′ = members-next key nk cs (new-many ks os es vs nk g) at m h here in
             let k : length (i .sofar) + (length (columnAt (batch ks os es vs) at) + total (map length (left at′))) ≤ most = rw on at (i .few) in
             let n : length next + total (map length (left at′)) ≤ most =
-            omega (arith, k, two-few op (Value f) (Value f) (i .sofar) (columnAt (batch ks os es vs) at) (i .valid) (column-valid ks os es vs (g .valid) at)) in
+            omega (
+              arith,
+              k,
+              two-few op (Value f) (Value f) (i .sofar) (columnAt (batch ks os es vs) at) (i .valid) (column-valid ks os es vs
+                  (g .valid) at),
+            ) in
             let le : length e′ ≡ length e = long _ e e′ (d .through .ends) (rw length-ends (omega (arith, i .room .room-ends))) in
             let lv : length v′ ≡ length v = long _ v v′ (d .through .values) (rw length-values (omega (arith, i .room .room-values))) in
             let ls : length s′ ≡ length s = long _ s s′ (d .filled .ends) (rw length-ends (omega (arith, low g, i .room .scratch-ends))) in

@@ -39,7 +39,8 @@ module _ (key : ℕ) (ks : List ℕ) (cs : List Runs) (l : length ks ≡ length 
   unfolding entriesFrom members
   member-at n h e = rw (add-one n, drop-cons ks n 0 h, drop-cons cs n [] (omega arith), eq-eqb key (getD ks n 0) (sym e))
 
-  others : (n d : ℕ) → n + d ≤ length ks → ((i : ℕ) → n ≤ i → i < n + d → eqb key (getD ks i 0) ≡ false) → membersAt key ks cs n ≡ membersAt key ks cs (n + d)
+  others : (n d : ℕ) → n + d ≤ length ks → ((i : ℕ) → n ≤ i → i < n + d → eqb key
+      (getD ks i 0) ≡ false) → membersAt key ks cs n ≡ membersAt key ks cs (n + d)
   others n zero h f = let e : n + 0 ≡ n = omega arith in rw e
   others n (suc d) h f =
       let e : n + 1 + d ≡ n + suc d = omega arith in
@@ -71,7 +72,8 @@ module _ (key : ℕ) (ks : List ℕ) (cs : List Runs) (l : length ks ≡ length 
       → members (entriesFrom ks cs) key ≡ getD cs first [] ∷ membersAt key ks cs r
   members-first first h t e s =
       let z : 0 + first ≡ first = omega arith in
-      others 0 first (omega arith) (λ i a b. ne-eqb key (getD ks i 0) (λ q. among-not (getD ks first 0) ks first i t (omega arith) (omega arith) (e ∙ q)))
+      others 0 first (omega arith) (λ i a b. ne-eqb key (getD ks i 0) (λ q. among-not (getD ks first 0) ks first i t (omega arith)
+      (omega arith) (e ∙ q)))
       ∙ ap (membersAt key ks cs) z
       ∙ members-next first s h e
 
@@ -81,7 +83,8 @@ pub members-all : (P : Runs → Type 0) (key : ℕ) (ks : List ℕ) (cs : List R
 unfolding entriesFrom members
 members-all P key [] cs a = tt
 members-all P key (k ∷ ks) [] a = tt
-members-all P key (k ∷ ks) (c ∷ cs) a = by-test (eqb key k) (λ t. rw t (a .0, members-all P key ks cs (a .1))) (λ t. rw t (members-all P key ks cs (a .1)))
+members-all P key (k ∷ ks) (c ∷ cs) a = by-test (eqb key k) (λ t. rw t (a .0, members-all P key ks cs (a .1))) (λ t. rw t
+    (members-all P key ks cs (a .1)))
 
 -- ---- the runs of the members of keys none of which is given twice: no more than all runs
 
@@ -114,7 +117,11 @@ pub groups-few : (ks : List ℕ) (cs : List Runs) (groups : List ℕ) → NoDoub
 unfolding entriesFrom
 groups-few [] cs groups n = omega (arith, groups-none groups)
 groups-few (k ∷ ks) [] groups n = omega (arith, groups-none groups)
-groups-few (k ∷ ks) (c ∷ cs) groups n = omega (arith, groups-more (record { key = k; runs = c }) (entriesFrom ks cs) groups n, groups-few ks cs groups n)
+groups-few (k ∷ ks) (c ∷ cs) groups n = omega (
+  arith,
+  groups-more (record { key = k; runs = c }) (entriesFrom ks cs) groups n,
+  groups-few ks cs groups n,
+)
 
 pub members-few : (ks : List ℕ) (cs : List Runs) (key : ℕ) → memberRuns (entriesFrom ks cs) key ≤ total (map length cs)
 members-few ks cs key = omega (arith, groups-few ks cs (key ∷ []) (refl, tt))

@@ -8,9 +8,12 @@ use native.Mathlib.Omega.{arith}
 use lib.ListN.{length, getD}
 use borrow.Author.Count.{below-more}
 use borrow.Author.Tests.{ne-eqb}
-use Rattle.batch_index.specs.Workers.{doubled, NextPosition}
+use Rattle.batch_index.specs.declared.inner.links.Links.{Links}
+use Rattle.batch_index.specs.Workers.{doubled, NextPosition, Linked, LinkedFrom}
 use Rattle.batch_index.proofs.Lowest.{skip-start, next-found, next-end}
-use Rattle.batch_collapse.specs.Workers.{Together, NextGroup}
+use Rattle.batch_index.proofs.Links.{none-from, if-linked, head-listed, last-listed}
+use Rattle.batch_collapse.specs.declared.inner.Group.{Group}
+use Rattle.batch_collapse.specs.Workers.{Together, NextGroup, AtGroup}
 use Rattle.batch_collapse.proofs.Together.{together-gone}
 
 -- from n up to i, P holds of each
@@ -42,6 +45,22 @@ module _ {ks : List ℕ} {n i : ℕ} (s : PastGroup ks n i) where
   pub group-end : length ks ≤ i → NextGroup ks n i
   group-end h = record { after = s .after; within = s .within; before = s .each; here = λ l. let z : ⊥ = omega arith in absurd z }
 
+-- before the first is found
+pub none-linked : {ks fs ns ps : List ℕ} {l : Links} → l .linked ≡ false → l .from ≤ l .to → l .to ≤ length ks → Linked ks fs ns ps l
+none-linked {ks} {fs} {ns} {ps} {l} e a b = let s : LinkedFrom (l .from) ks fs ns ps l = none-from e a b (omega arith) in s .known
+
+-- as it is found, by links
+module _ {ks fs ns ps : List ℕ} {l : Links} {g : Group} {i x : ℕ} (el : g .links ≡ l) (ea : g .first .at ≡ i) (ee : g .first .entry ≡ x) where
+  pub at-found : LinkedFrom i ks fs ns ps l → (l .linked ≡ true → x ≡ getD fs (i - l .from) 0) → doubled ks i ≡ false → AtGroup ks fs ns ps g
+  at-found s ex d = record {
+    linked = rw el (s .known);
+    begun = rw (el, ea) (s .begun);
+    listed = rw el (if-linked (λ t. head-listed s t (ex t) d ee ea));
+  }
+
+  pub at-end : Linked ks fs ns ps l → l .from ≤ i → length ks ≤ i → AtGroup ks fs ns ps g
+  at-end s b h = record { linked = rw el s; begun = rw (el, ea) b; listed = last-listed (rw ea h) }
+
 -- ---- the next member, where equal keys stand together: it stands after the last, or there is none
 
 module _ (ks : List ℕ) (last : ℕ) where
@@ -51,7 +70,8 @@ module _ (ks : List ℕ) (last : ℕ) where
   pub member-last : last < length ks → length ks ≤ last + 1 → NextPosition (getD ks last 0) ks (last + 1) (length ks)
   member-last h k = let e : last + 1 ≡ length ks = omega arith in rw e (next-end _ _ (skip-start _ _ (omega arith)) (omega arith))
 
-  pub member-gone : Together ks → last + 1 < length ks → (getD ks (last + 1) 0 ≡ getD ks last 0 → ⊥) → NextPosition (getD ks last 0) ks (last + 1) (length ks)
+  pub member-gone : Together ks → last + 1 < length ks → (getD ks (last + 1) 0 ≡ getD ks last 0 → ⊥) → NextPosition (getD ks last 0) ks
+      (last + 1) (length ks)
   member-gone t h n = record {
     after = omega arith;
     within = omega arith;

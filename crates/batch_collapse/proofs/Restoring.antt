@@ -105,7 +105,8 @@ module _ (ks os : List ℕ) (es vs : List ℤ) (nk : List ℕ) (first : ℕ) {to
     module _ (op : ℤ → ℤ → ℤ) (f : ℤ) {e₂ v₂ s₂ t₂ : List ℤ} {r : ℕ}
         (d : Folded (collapseRuns op (Value f) (members (renamed (batch ks os es vs) nk) (getD nk first 0))) (length es)
         (memberRuns (renamed (batch ks os es vs) nk) (getD nk first 0)) e e₂ v v₂ s₁ s₂ t₁ t₂ r) where
-      pub back-room : ((length es + runs ≤ length s₂) × (runs ≤ length e₂) × (r ≤ runs)) × ((length es + runs ≤ length t₂) × (runs ≤ length v₂) × (r ≤ runs))
+      pub back-room : ((length es + runs ≤ length s₂) × (runs ≤ length e₂) × (r ≤ runs)) × ((length es + runs ≤ length t₂) ×
+          (runs ≤ length v₂) × (r ≤ runs))
       back-room =
           let few : r ≤ runs = omega (arith, d .count, er, group-few ks os es vs nk g op (Value f) (getD nk first 0)) in (
             (omega (arith, aside-room .0 .1, d .long-scratch-ends, long-ends), omega (arith, aside-room .0 .0, d .long-ends), few),
@@ -121,7 +122,8 @@ module _ (ks os : List ℕ) (es vs : List ℤ) (nk : List ℕ) (first : ℕ) {to
           record {
             filled = record {
               count = d .count;
-              ends = be ∙ ap₂ over (d .front-ends) (aside-back (length es) runs e e₂ s s₁ s₂ low (aside-room .0 .0) (q .scratch-ends) ae (d .back-ends) re);
+              ends = be ∙ ap₂ over (d .front-ends) (aside-back (length es) runs e e₂ s s₁ s₂ low (aside-room .0 .0) (q .scratch-ends) ae
+                  (d .back-ends) re);
               values = bv ∙ ap₂ over (d .front-values)
                   (aside-back (length es) runs v v₂ t t₁ t₂ low (aside-room .1 .0) (q .scratch-values) av (d .back-values) rv);
             };

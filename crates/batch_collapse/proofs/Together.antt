@@ -3,7 +3,7 @@
 use Prim.Native.Nat.{ℕ, zero, suc, _+_, _-_, _≤_, _<_}
 use mathlib.Core.Bool.{true}
 use mathlib.Core.List.{List}
-use mathlib.Core.Path.{_≡_, refl, ap, sym, _∙_}
+use mathlib.Core.Path.{_≡_, ap, sym, _∙_}
 use native.Mathlib.Omega.{arith}
 use lib.Dec.{eqb, ltb}
 use lib.ListN.{length, getD, take}
@@ -13,7 +13,7 @@ use borrow.Author.Tests.{eqb-true, eqb-false, ne-eqb}
 use Rattle.num.proofs.Tests.{by-test}
 use Rattle.column.specs.Lists.{any}
 use Rattle.batch_index.specs.Calls.{lowest}
-use Rattle.batch_index.specs.Workers.{doubled, FirstDouble, every}
+use Rattle.batch_index.specs.Workers.{doubled, FirstDouble}
 use Rattle.batch_index.proofs.Lowest.{lowest-any}
 use Rattle.batch_index.proofs.Doubles.{among-not, among-none, among-at}
 use Rattle.batch_collapse.specs.Workers.{Together}
@@ -50,9 +50,9 @@ module _ (ks : List ℕ) where
       ∙ sym t)
 
   -- keys none of which is given twice
-  pub single-together : {r : ℕ} → FirstDouble every ks (length ks) r → r ≡ length ks → Together ks
+  pub single-together : {r : ℕ} → FirstDouble ks r → r ≡ length ks → Together ks
   single-together f e i p h =
-      let n = f .before i (omega arith) refl in
+      let n = f .before i (omega arith) in
       n ∙ sym (ne-eqb (getD ks i 0) (getD ks (i - 1) 0) (λ k. among-not (getD ks i 0) ks i (i - 1) n (omega arith) (omega arith) k))
 
   -- ---- does the key at i stand before it too

@@ -10,10 +10,11 @@ use Rattle.column.specs.declared.answer.RleBatch.{RleBatch}
 use Rattle.column.specs.Flat.{flat}
 use Rattle.column.specs.Lists.{total}
 use Rattle.column.specs.Runs.{Sequence, sequence, Runs, endsOf, valuesOf, Filled}
-use Rattle.batch_index.specs.Workers.{doubled}
+use Rattle.batch_index.specs.Workers.{doubled, Chains, Listed, Linked}
 use Rattle.batch.specs.Batch.{Batch, Entry}
 use Rattle.batch.specs.Workers.{ValidBatch, FilledCounts}
 use Rattle.ops.specs.Workers.{Zippable}
+use Rattle.batch_collapse.specs.declared.inner.Group.{Group}
 use Rattle.batch_collapse.specs.Calls.{members, renamed}
 
 -- ---- groups of equal keys
@@ -28,6 +29,17 @@ pub record NextGroup (ks : List ℕ) (n r : ℕ) : Type 0 where
   pub within : r ≤ length ks
   pub before : (i : ℕ) → n ≤ i → i < r → doubled ks i ≡ true
   pub here : r < length ks → doubled ks r ≡ false
+
+-- the members of a group can be found
+pub record Chained (ks ns ps : List ℕ) (g : Group) : Type 0 where
+  pub chains : Chains ks ns ps (g .links)
+  pub listed : Listed ks ps (g .links) (g .first)
+
+-- and the groups after it
+pub record AtGroup (ks fs ns ps : List ℕ) (g : Group) : Type 0 where
+  pub linked : Linked ks fs ns ps (g .links)
+  pub begun : g .links .from ≤ g .first .at
+  pub listed : Listed ks ps (g .links) (g .first)
 
 -- a valid batch with a new key for each key, and what is known of the new keys
 pub record Grouped (b : Batch) (newKeys : List ℕ) (together : Bool) : Type 0 where

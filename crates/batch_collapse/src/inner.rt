@@ -1,28 +1,38 @@
 // Workers that assume what the calls have asked.
 use batch::inner::copy;
 use batch::inner::part_at;
+use batch_index::inner::links;
+use batch_index::inner::links::Links;
+use batch_index::inner::links::Member;
 use column::answer::Asked;
 use column::answer::Fill;
 use column::answer::RleBatch;
 use column::sequence;
-ghost use Prim.Native.Nat.{_+_, _*_, _≤_, _<_};
+ghost use Prim.Native.Nat.{_+_, _*_, _≤_, _<_, _^_};
 ghost use mathlib.Core.Bool.{true, false};
 ghost use mathlib.Core.List.{_++_, map};
 ghost use mathlib.Core.Path.{_≡_};
+ghost use lib.Dec.{leb};
 ghost use lib.ListN.{length, getD, take, drop};
 ghost use Rattle.num.specs.Numbers.{operation};
 ghost use Rattle.column.specs.declared.answer.Fill.the-variants.{Value, Missing};
 ghost use Rattle.column.specs.Asking.{shownAsked};
 ghost use Rattle.column.specs.Combine.{combined};
 ghost use Rattle.column.specs.Runs.{sequence, over, givenSequence};
-ghost use Rattle.batch_index.specs.Workers.{doubled, NextPosition};
+ghost use Rattle.batch_index.specs.Workers.{doubled, NextPosition, Linked, LinkLent, Chains, Listed};
 ghost use Rattle.ops.specs.Calls.{sides};
 ghost use Rattle.batch.specs.Batch.{batch, givenBatch};
 ghost use Rattle.batch_keys.specs.Calls.{once};
 ghost use Rattle.batch_collapse.specs.Calls.{collapseRuns, filledGroup, members, renamed, filledGroups, collapseKey};
-ghost use Rattle.batch_collapse.specs.Workers.{Together, NextGroup, Grouped, memberRuns, Foldable, FoldedMember, FoldRoom, Folded, FilledGroup};
-ghost use Rattle.batch_collapse.specs.Workers.{CollapseRoom, FilledGroups};
+ghost use Rattle.batch_collapse.specs.Workers.{Together, NextGroup, Chained, AtGroup, Grouped, memberRuns, Foldable};
+ghost use Rattle.batch_collapse.specs.Workers.{FoldedMember, FoldRoom, Folded, FilledGroup, CollapseRoom, FilledGroups};
 ghost use Rattle.column.specs.Lent.{given, after};
+
+// A group, as it is found: its first member, and the links by which the others are.
+pub struct Group {
+    links: Links,
+    first: Member,
+}
 
 // Whether no key is below the one before it.
 fn never_fall(keys: &[u32]) -> bool
@@ -50,6 +60,19 @@ pub fn stand_together(keys: &[u32]) -> bool
     batch_keys::first_duplicate(keys) == keys.len()
 }
 
+// Whether the new keys are linked: they do not stand together, and are not so few that a scan is quicker.
+pub fn links_pay(keys: &[u32], together: bool) -> bool
+    ensures { λ r. ⌜ (r ≡ true → length (given keys) < 2 ^ 32) ⌝ }
+{
+    if together {
+        return false;
+    }
+    if keys.len() < 128 {
+        return false;
+    }
+    keys.len() < 0x1_0000_0000
+}
+
 // Whether the key at a position stands before it too.
 fn stands_before(keys: &[u32], together: bool, i: usize) -> bool
     requires { ⌜ (together ≡ true → Together (now keys)) × (i < length (now keys)) ⌝ }
@@ -65,23 +88,53 @@ fn stands_before(keys: &[u32], together: bool, i: usize) -> bool
     batch_index::inner::scan(&keys[..i], key) < i
 }
 
-// The next position, from one on, of a key that does not stand before it too.
-fn next_group(keys: &[u32], together: bool, from: usize) -> usize
-    requires { ⌜ (together ≡ true → Together (now keys)) × (from ≤ length (now keys)) ⌝ }
-    ensures { λ r. ⌜ NextGroup (given keys) from r ⌝ }
+// The same, by the first entry of the key if it is linked.
+fn is_again(keys: &[u32], together: bool, links: Links, entry: usize, i: usize) -> bool
+    requires { ⌜ (together ≡ true → Together (now keys)) × (i < length (now keys)) × (links .linked ≡ true → leb 2048 entry ≡ doubled (now keys) i) ⌝ }
+    ensures { λ r. ⌜ r ≡ doubled (given keys) i ⌝ }
 {
+    if links.linked {
+        return links::CAPACITY <= entry;
+    }
+    stands_before(keys, together, i)
+}
+
+fn group_at(links: Links, at: usize, entry: usize) -> Group
+    ensures { λ r. ⌜ (r .links ≡ links) × (r .first .at ≡ at) × (r .first .entry ≡ entry) ⌝ }
+{
+    let first = Member { at, entry };
+    Group { links, first }
+}
+
+// The next position, from one on, of a key that does not stand before it too.
+fn next_group(
+    keys: &[u32],
+    together: bool,
+    links: Links,
+    from: usize,
+    first: &mut [u16],
+    next: &mut [u16],
+    positions: &mut [u32],
+) -> Group
+    requires { ⌜ (together ≡ true → Together (now keys)) × (from ≤ length (now keys)) × (links .from ≤ from)
+        × Linked (now keys) (now first) (now next) (now positions) links × LinkLent (now keys) (now first) (now next) (now positions) ⌝ }
+    ensures { λ r. ⌜ NextGroup (given keys) from (r .first .at) × AtGroup (given keys) (after first) (after next) (after positions) r ⌝ }
+{
+    let mut links = links;
     let mut i = from;
     while i < keys.len() {
-        if !stands_before(keys, together, i) {
-            return i;
+        links = links::link(keys, links, i, &mut *first, &mut *next, &mut *positions);
+        let entry = links::first_entry(links, &*first, i);
+        if !is_again(keys, together, links, entry, i) {
+            return group_at(links, i, entry);
         }
         i += 1;
     }
-    i
+    group_at(links, i, links::CAPACITY)
 }
 
 // The next position of the key at `last`, after that.
-fn next_member(keys: &[u32], together: bool, last: usize) -> usize
+fn next_equal(keys: &[u32], together: bool, last: usize) -> usize
     requires { ⌜ (together ≡ true → Together (now keys)) × (last < length (now keys)) ⌝ }
     ensures { λ r. ⌜ NextPosition (getD (given keys) last 0) (given keys) (last + 1) r ⌝ }
 {
@@ -98,6 +151,29 @@ fn next_member(keys: &[u32], together: bool, last: usize) -> usize
     keys.len()
 }
 
+// The next member of the group of `last`.
+fn next_member(
+    keys: &[u32],
+    together: bool,
+    links: Links,
+    next: &[u16],
+    positions: &[u32],
+    last: Member,
+) -> Member
+    requires { ⌜ (together ≡ true → Together (now keys)) × (last .at < length (now keys)) × Chains (now keys) (now next) (now positions) links
+        × Listed (now keys) (now positions) links last ⌝ }
+    ensures { λ r. ⌜ NextPosition (getD (given keys) (last .at) 0) (given keys) (last .at + 1) (r .at)
+        × Listed (given keys) (given positions) links r ⌝ }
+{
+    if links.linked {
+        return links::next_entry(keys, links, next, positions, last.entry);
+    }
+    Member {
+        at: next_equal(keys, together, last.at),
+        entry: links::CAPACITY,
+    }
+}
+
 // 10 of a group, of which `first` is the position of the first member, where no fill is given.
 fn ask_group(
     keys: &[u32],
@@ -106,24 +182,30 @@ fn ask_group(
     values: &[i64],
     new_keys: &[u32],
     together: bool,
+    group: Group,
+    next: &[u16],
+    positions: &[u32],
     code: u8,
-    first: usize,
 ) -> Asked
     requires { ⌜ Grouped (batch (now keys) (now offsets) (now ends) (now values)) (now «new_keys») together
-        × (first < length (now «new_keys»)) × (doubled (now «new_keys») first ≡ false) ⌝ }
+        × (group .first .at < length (now «new_keys»)) × (doubled (now «new_keys») (group .first .at) ≡ false)
+        × Chained (now «new_keys») (now next) (now positions) group ⌝ }
     ensures { λ r. ⌜ shownAsked r ≡ filledGroup (operation code)
-        Missing (members (renamed (givenBatch keys offsets ends values) (given «new_keys»)) (getD (given «new_keys») first 0)) ⌝ }
+        Missing (members (renamed (givenBatch keys offsets ends values) (given «new_keys»)) (getD (given «new_keys») (group .first .at) 0)) ⌝ }
 {
+    let links = group.links;
+    let first = group.first.at;
     let length = sequence::length(part_at(offsets, ends, first));
-    let mut at = next_member(new_keys, together, first);
-    while at < new_keys.len() {
+    let mut member = next_member(new_keys, together, links, next, positions, group.first);
+    while member.at < new_keys.len() {
+        let at = member.at;
         let other = sequence::length(part_at(offsets, ends, at));
         let asked = questions::ask_fills(length, other, Fill::Missing, Fill::Missing);
         match asked {
             Asked::Yes => {}
             Asked::No(r) => return Asked::No(r),
         }
-        at = next_member(new_keys, together, at);
+        member = next_member(new_keys, together, links, next, positions, member);
     }
     Asked::Yes
 }
@@ -136,23 +218,54 @@ fn ask_all_groups(
     values: &[i64],
     new_keys: &[u32],
     together: bool,
+    first: &mut [u16],
+    next: &mut [u16],
+    positions: &mut [u32],
     code: u8,
 ) -> Asked
-    requires { ⌜ Grouped (batch (now keys) (now offsets) (now ends) (now values)) (now «new_keys») together ⌝ }
+    requires { ⌜ Grouped (batch (now keys) (now offsets) (now ends) (now values)) (now «new_keys») together
+        × LinkLent (now «new_keys») (now first) (now next) (now positions) ⌝ }
     ensures { λ r. ⌜ shownAsked r ≡ filledGroups
         (operation code) Missing (renamed (givenBatch keys offsets ends values) (given «new_keys»)) (once (given «new_keys»)) ⌝ }
 {
     let mut n: usize = 0;
-    let mut first = next_group(new_keys, together, 0);
-    while first < new_keys.len() {
-        let group = ask_group(keys, offsets, ends, values, new_keys, together, code, first);
-        let asked = questions::in_key(group, n);
+    let mut group = next_group(
+        new_keys,
+        together,
+        links::unlinked(0, 0),
+        0,
+        &mut *first,
+        &mut *next,
+        &mut *positions,
+    );
+    while group.first.at < new_keys.len() {
+        let filled = ask_group(
+            keys,
+            offsets,
+            ends,
+            values,
+            new_keys,
+            together,
+            group,
+            &*next,
+            &*positions,
+            code,
+        );
+        let asked = questions::in_key(filled, n);
         match asked {
             Asked::Yes => {}
             Asked::No(r) => return Asked::No(r),
         }
         n += 1;
-        first = next_group(new_keys, together, first + 1);
+        group = next_group(
+            new_keys,
+            together,
+            group.links,
+            group.first.at + 1,
+            &mut *first,
+            &mut *next,
+            &mut *positions,
+        );
     }
     Asked::Yes
 }
@@ -165,16 +278,31 @@ pub fn ask_groups(
     values: &[i64],
     new_keys: &[u32],
     together: bool,
+    first: &mut [u16],
+    next: &mut [u16],
+    positions: &mut [u32],
     fill: Fill,
     code: u8,
 ) -> Asked
-    requires { ⌜ Grouped (batch (now keys) (now offsets) (now ends) (now values)) (now «new_keys») together ⌝ }
+    requires { ⌜ Grouped (batch (now keys) (now offsets) (now ends) (now values)) (now «new_keys») together
+        × LinkLent (now «new_keys») (now first) (now next) (now positions) ⌝ }
     ensures { λ r. ⌜ shownAsked r ≡
         filledGroups (operation code) fill (renamed (givenBatch keys offsets ends values) (given «new_keys»)) (once (given «new_keys»)) ⌝ }
 {
     match fill {
         Fill::Value(_) => Asked::Yes,
-        Fill::Missing => ask_all_groups(keys, offsets, ends, values, new_keys, together, code),
+        Fill::Missing => ask_all_groups(
+            keys,
+            offsets,
+            ends,
+            values,
+            new_keys,
+            together,
+            first,
+            next,
+            positions,
+            code,
+        ),
     }
 }
 
@@ -186,17 +314,23 @@ fn group_runs(
     values: &[i64],
     new_keys: &[u32],
     together: bool,
-    first: usize,
+    group: Group,
+    next: &[u16],
+    positions: &[u32],
 ) -> usize
     requires { ⌜ Grouped (batch (now keys) (now offsets) (now ends) (now values)) (now «new_keys») together
-        × (first < length (now «new_keys»)) × (doubled (now «new_keys») first ≡ false) ⌝ }
-    ensures { λ r. ⌜ r ≡ memberRuns (renamed (givenBatch keys offsets ends values) (given «new_keys»)) (getD (given «new_keys») first 0) ⌝ }
+        × (group .first .at < length (now «new_keys»)) × (doubled (now «new_keys») (group .first .at) ≡ false)
+        × Chained (now «new_keys») (now next) (now positions) group ⌝ }
+    ensures { λ r. ⌜ r ≡ memberRuns (renamed (givenBatch keys offsets ends values) (given «new_keys»)) (getD (given «new_keys») (group .first .at) 0) ⌝ }
 {
+    let links = group.links;
+    let first = group.first.at;
     let mut runs = part_at(offsets, ends, first).len();
-    let mut at = next_member(new_keys, together, first);
-    while at < new_keys.len() {
+    let mut member = next_member(new_keys, together, links, next, positions, group.first);
+    while member.at < new_keys.len() {
+        let at = member.at;
         runs += part_at(offsets, ends, at).len();
-        at = next_member(new_keys, together, at);
+        member = next_member(new_keys, together, links, next, positions, member);
     }
     runs
 }
@@ -245,7 +379,9 @@ fn fold_group(
     values: &[i64],
     new_keys: &[u32],
     together: bool,
-    first: usize,
+    group: Group,
+    next: &[u16],
+    positions: &[u32],
     fill: i64,
     code: u8,
     out_ends: &mut [i64],
@@ -255,23 +391,27 @@ fn fold_group(
 ) -> usize
     requires { ⌜ Grouped (batch (now keys) (now offsets) (now ends) (now values)) (now «new_keys») together
         × FoldRoom (batch (now keys) (now offsets) (now ends) (now values))
-        (now «new_keys») first (now «out_ends») (now «out_values») (now «scratch_ends») (now «scratch_values») ⌝ }
+        (now «new_keys») (group .first .at) (now «out_ends») (now «out_values») (now «scratch_ends») (now «scratch_values»)
+        × Chained (now «new_keys») (now next) (now positions) group ⌝ }
     ensures { λ r. ⌜ Folded
         (collapseRuns (operation code) (Value fill)
-        (members (renamed (givenBatch keys offsets ends values) (given «new_keys»)) (getD (given «new_keys») first 0)))
+        (members (renamed (givenBatch keys offsets ends values) (given «new_keys»)) (getD (given «new_keys») (group .first .at) 0)))
         (length (given ends))
-        (memberRuns (renamed (givenBatch keys offsets ends values) (given «new_keys»)) (getD (given «new_keys») first 0)) (given «out_ends»)
+        (memberRuns (renamed (givenBatch keys offsets ends values) (given «new_keys»)) (getD (given «new_keys») (group .first .at) 0)) (given «out_ends»)
         (after «out_ends») (given «out_values»)
         (after «out_values») (given «scratch_ends») (after «scratch_ends») (given «scratch_values») (after «scratch_values») r ⌝ }
 {
-    let mut at = next_member(new_keys, together, first);
+    let links = group.links;
+    let first = group.first.at;
+    let mut member = next_member(new_keys, together, links, next, positions, group.first);
     let mut count = merge::inner::merged(
         part_at(offsets, ends, first),
         part_at(offsets, values, first),
         scratch_ends,
         scratch_values,
     );
-    while at < new_keys.len() {
+    while member.at < new_keys.len() {
+        let at = member.at;
         count = fold_member(
             part_at(offsets, ends, at),
             part_at(offsets, values, at),
@@ -283,7 +423,7 @@ fn fold_group(
             scratch_ends,
             scratch_values,
         );
-        at = next_member(new_keys, together, at);
+        member = next_member(new_keys, together, links, next, positions, member);
     }
     count
 }
@@ -313,7 +453,9 @@ fn collapse_group(
     values: &[i64],
     new_keys: &[u32],
     together: bool,
-    first: usize,
+    group: Group,
+    next: &[u16],
+    positions: &[u32],
     fill: i64,
     code: u8,
     out_ends: &mut [i64],
@@ -323,14 +465,24 @@ fn collapse_group(
 ) -> usize
     requires { ⌜ Grouped (batch (now keys) (now offsets) (now ends) (now values)) (now «new_keys») together
         × FoldRoom (batch (now keys) (now offsets) (now ends) (now values))
-        (now «new_keys») first (now «out_ends») (now «out_values») (now «scratch_ends») (now «scratch_values») ⌝ }
+        (now «new_keys») (group .first .at) (now «out_ends») (now «out_values») (now «scratch_ends») (now «scratch_values»)
+        × Chained (now «new_keys») (now next) (now positions) group ⌝ }
     ensures { λ r. ⌜ FilledGroup
         (collapseRuns (operation code) (Value fill)
-        (members (renamed (givenBatch keys offsets ends values) (given «new_keys»)) (getD (given «new_keys») first 0)))
+        (members (renamed (givenBatch keys offsets ends values) (given «new_keys»)) (getD (given «new_keys») (group .first .at) 0)))
         (2 * length (given ends)) (given «out_ends») (after «out_ends») (given «out_values»)
         (after «out_values») (given «scratch_ends») (after «scratch_ends») (given «scratch_values») (after «scratch_values») r ⌝ }
 {
-    if next_member(new_keys, together, first) == new_keys.len() {
+    let first = group.first.at;
+    let second = next_member(
+        new_keys,
+        together,
+        group.links,
+        next,
+        positions,
+        group.first,
+    );
+    if second.at == new_keys.len() {
         return merge::inner::merged(
             part_at(offsets, ends, first),
             part_at(offsets, values, first),
@@ -339,7 +491,17 @@ fn collapse_group(
         );
     }
     let n = ends.len();
-    let runs = group_runs(keys, offsets, ends, values, new_keys, together, first);
+    let runs = group_runs(
+        keys,
+        offsets,
+        ends,
+        values,
+        new_keys,
+        together,
+        group,
+        next,
+        positions,
+    );
     put_aside(out_ends, runs, scratch_ends, n);
     put_aside(out_values, runs, scratch_values, n);
     let count = fold_group(
@@ -349,7 +511,9 @@ fn collapse_group(
         values,
         new_keys,
         together,
-        first,
+        group,
+        next,
+        positions,
         fill,
         code,
         out_ends,
@@ -370,6 +534,9 @@ pub fn collapse(
     values: &[i64],
     new_keys: &[u32],
     together: bool,
+    first: &mut [u16],
+    next: &mut [u16],
+    positions: &mut [u32],
     fill: i64,
     code: u8,
     out_keys: &mut [u32],
@@ -381,7 +548,8 @@ pub fn collapse(
 ) -> RleBatch
     requires { ⌜ Grouped (batch (now keys) (now offsets) (now ends) (now values)) (now «new_keys») together
         × CollapseRoom (batch (now keys) (now offsets) (now ends) (now values))
-        (now «out_keys») (now «out_offsets») (now «out_ends») (now «out_values») (now «scratch_ends») (now «scratch_values») ⌝ }
+        (now «out_keys») (now «out_offsets») (now «out_ends») (now «out_values») (now «scratch_ends») (now «scratch_values»)
+        × LinkLent (now «new_keys») (now first) (now next) (now positions) ⌝ }
     ensures { λ r. ⌜ FilledGroups
         (map (collapseKey (operation code) (Value fill) (renamed (givenBatch keys offsets ends values) (given «new_keys»)))
         (once (given «new_keys»))) (2 * length (given ends)) (given «out_keys») (after «out_keys») (given «out_offsets»)
@@ -391,9 +559,18 @@ pub fn collapse(
     out_offsets[0] = 0;
     let mut used: usize = 0;
     let mut n: usize = 0;
-    let mut first = next_group(new_keys, together, 0);
-    while first < new_keys.len() {
-        let key = new_keys[first];
+    let mut group = next_group(
+        new_keys,
+        together,
+        links::unlinked(0, 0),
+        0,
+        &mut *first,
+        &mut *next,
+        &mut *positions,
+    );
+    while group.first.at < new_keys.len() {
+        let at = group.first.at;
+        let key = new_keys[at];
         out_keys[n] = key;
         let count = collapse_group(
             keys,
@@ -402,7 +579,9 @@ pub fn collapse(
             values,
             new_keys,
             together,
-            first,
+            group,
+            &*next,
+            &*positions,
             fill,
             code,
             &mut out_ends[used..],
@@ -413,7 +592,15 @@ pub fn collapse(
         used += count;
         n += 1;
         out_offsets[n] = used;
-        first = next_group(new_keys, together, first + 1);
+        group = next_group(
+            new_keys,
+            together,
+            group.links,
+            at + 1,
+            &mut *first,
+            &mut *next,
+            &mut *positions,
+        );
     }
     RleBatch {
         keys: n,

@@ -10,16 +10,14 @@ use lib.ListN.{length, getD, take}
 use borrow.Author.Tests.{eq-eqb, ne-eqb}
 use Rattle.num.proofs.Tests.{by-test}
 use Rattle.column.specs.Lists.{any}
-use Rattle.batch_index.specs.Workers.{doubled, FirstDouble, every}
 use Rattle.batch_index.proofs.Lowest.{no-test}
-
--- ---- a key among those before a position
 
 pub among-not : (k : ℕ) (ks : List ℕ) (i j : ℕ) → any (eqb k) (take i ks) ≡ false → j < i → j < length ks → k ≡ getD ks j 0 → ⊥
 among-not k [] i j t h l e = let z : ⊥ = omega arith in absurd z
 among-not k (x ∷ ks) zero j t h l e = let z : ⊥ = omega arith in absurd z
 among-not k (x ∷ ks) (suc i) zero t h l e = no-test (rw (eq-eqb k x e)) t
-among-not k (x ∷ ks) (suc i) (suc j) t h l e = by-test (eqb k x) (λ y. no-test (rw y) t) (λ y. among-not k ks i j (rw y at t) (omega arith) (omega arith) e)
+among-not k (x ∷ ks) (suc i) (suc j) t h l e = by-test (eqb k x) (λ y. no-test (rw y) t) (λ y. among-not k ks i j (rw y at t) (omega arith)
+    (omega arith) e)
 
 pub among-none : (k : ℕ) (ks : List ℕ) (i : ℕ) → i ≤ length ks → ((j : ℕ) → j < i → k ≡ getD ks j 0 → ⊥) → any (eqb k) (take i ks) ≡ false
 among-none k ks zero h n = refl
@@ -29,15 +27,3 @@ among-none k (x ∷ ks) (suc i) h n = rw (ne-eqb k x (n 0 (omega arith))) (among
 -- a key that stands at an earlier position is among them
 pub among-at : (k : ℕ) (ks : List ℕ) (i j : ℕ) → j < i → j < length ks → k ≡ getD ks j 0 → any (eqb k) (take i ks) ≡ true
 among-at k ks i j h l e = by-test (any (eqb k) (take i ks)) (λ t. t) (λ t. absurd (among-not k ks i j t h l e))
-
--- ---- one key after another: those before i are given once
-
-abbrev pub Single : List ℕ → ℕ → Type 0
-Single ks i = (i ≤ length ks) × ((j : ℕ) → j < i → doubled ks j ≡ false)
-
-module _ (ks : List ℕ) (i : ℕ) (s : Single ks i) where
-  pub single-found : doubled ks i ≡ true → FirstDouble every ks (length ks) i
-  single-found t = record { within = s .0; before = λ j h e. s .1 j h; here = λ h. t }
-
-  pub single-end : length ks ≤ i → FirstDouble every ks (length ks) i
-  single-end h = record { within = s .0; before = λ j l e. s .1 j l; here = λ l. let z : ⊥ = omega arith in absurd z }

@@ -1,4 +1,6 @@
 pub mod Lowest
 pub mod Doubles
-pub mod Indexing
-pub mod Partitions
+pub mod Table
+pub mod Wanted
+pub mod Blocks
+pub mod Links

@@ -24,7 +24,8 @@ unfolding lowest
 lowest-is key [] i h b t = omega arith
 lowest-is key (k ∷ ks) zero h b t = rw (eq-eqb key k (sym (t (omega arith))))
 lowest-is key (k ∷ ks) (suc i) h b t =
-    rw (ne-eqb key k (λ e. b 0 (omega arith) (sym e))) (ap suc (lowest-is key ks i (omega arith) (λ j l e. b (suc j) (omega arith) e) (λ l. t (omega arith))))
+    rw (ne-eqb key k (λ e. b 0 (omega arith) (sym e))) (ap suc (lowest-is key ks i (omega arith) (λ j l e. b (suc j) (omega arith) e) (λ l. t
+    (omega arith))))
 
 lowest-step : (t : Bool) (n m : ℕ) → n ≤ m → cond t 0 (suc n) ≤ suc m
 lowest-step true n m h = omega arith
@@ -77,6 +78,16 @@ module _ (key : ℕ) (ks : List ℕ) where
     pub next-end : length ks ≤ i → NextPosition key ks n i
     next-end h = record { after = s .after; within = s .within; before = s .before; here = λ l. let z : ⊥ = omega arith in absurd z }
 
+  -- where the key does not stand, the next position is the one after
+  pub next-earlier : {n m r : ℕ} → m ≡ n + 1 → (getD ks n 0 ≡ key → ⊥) → NextPosition key ks m r → NextPosition key ks n r
+  next-earlier {n} {m} {r} e d p =
+      record {
+        after = omega (arith, p .after);
+        within = p .within;
+        before = others-more n (n + 1) r (others-one n (ne-eqb key (getD ks n 0) (λ u. d (sym u)))) (rw e at p .before);
+        here = p .here;
+      }
+
   -- how many of those from n up to i are others
   pub record Counted (n to count i : ℕ) : Type 0 where
     pub begun : n ≤ i
@@ -87,7 +98,8 @@ module _ (key : ℕ) (ks : List ℕ) where
   pub counted-none : {n to : ℕ} → n ≤ to → Counted n to 0 n
   counted-none {n} h = record { begun = omega arith; within = h; few = omega arith; all = λ e. others-none n }
 
-  pub counted-more : {n to count i r : ℕ} → Counted n to count i → i < to → r ≡ cond (eqb (getD ks i 0) key) count (count + 1) → Counted n to r (i + 1)
+  pub counted-more : {n to count i r : ℕ} → Counted n to count i → i < to → r ≡ cond (eqb (getD ks i 0) key) count (count + 1) → Counted n to r
+      (i + 1)
   counted-more {n} {count = count} {i} {r} c h er =
       by-test (eqb (getD ks i 0) key)
       (λ t. let e : r ≡ count = er ∙ rw t in

@@ -15,7 +15,7 @@ use Rattle.column.specs.Asking.{refusal, eachFrom}
 use Rattle.column.specs.Questions.{distinctAt, distinctKeys}
 use Rattle.column.proofs.FirstNo.{all-yes, each-next, each-refused, each-end}
 use Rattle.column.proofs.YesNo.{distinct-yes, distinct-refused}
-use Rattle.batch_index.specs.Workers.{doubled, FirstDouble, every}
+use Rattle.batch_index.specs.Workers.{doubled, FirstDouble}
 use Rattle.batch_index.proofs.Doubles.{among-not, among-none}
 use Rattle.batch_keys.specs.declared.Order.{Order}
 use Rattle.batch_keys.specs.declared.Order.the-variants.{Ascending, Distinct}
@@ -28,9 +28,9 @@ use Rattle.batch_keys.proofs.Ascending.{ascends-apart}
 apart-single : (ks : List ℕ) → Apart ks → (i : ℕ) → i < length ks → doubled ks i ≡ false
 apart-single ks a i h = among-none (getD ks i 0) ks i (omega arith) (λ j l e. a j i l h (sym e))
 
-pub ascends-first : (ks : List ℕ) → ascends ks ≡ true → FirstDouble every ks (length ks) (length ks)
+pub ascends-first : (ks : List ℕ) → ascends ks ≡ true → FirstDouble ks (length ks)
 ascends-first ks t =
-    record { within = omega arith; before = λ i h e. apart-single ks (ascends-apart ks t) i h; here = λ h. let z : ⊥ = omega arith in absurd z }
+    record { within = omega arith; before = apart-single ks (ascends-apart ks t); here = λ h. let z : ⊥ = omega arith in absurd z }
 
 -- ---- the question
 
@@ -59,14 +59,14 @@ module _ (ks : List ℕ) where
   pub distinct-apart : distinctKeys ks ≡ none → Apart ks
   distinct-apart y i j h k e = among-not (getD ks j 0) ks j i (asked-next j k (asked-rest j (omega arith) y) .0) h (omega arith) (sym e)
 
-  module _ {r : ℕ} (f : FirstDouble every ks (length ks) r) where
+  module _ {r : ℕ} (f : FirstDouble ks r) where
     pub first-refused : r < length ks → refusal 8 (pos r ∷ []) ≡ distinctKeys ks
     first-refused h =
-        sym (asked-from r (f .within) (λ j l. f .before j l refl)
+        sym (asked-from r (f .within) (f .before)
         ∙ each-refused (distinctAt ks) r ks 0 h (distinct-refused ks r (getD ks r 0) (f .here h)))
 
     pub first-none : length ks ≤ r → none ≡ distinctKeys ks
-    first-none h = sym (asked-from r (f .within) (λ j l. f .before j l refl) ∙ each-end (distinctAt ks) r ks 0 h)
+    first-none h = sym (asked-from r (f .within) (f .before) ∙ each-end (distinctAt ks) r ks 0 h)
 
 -- ---- what is known of keys
 

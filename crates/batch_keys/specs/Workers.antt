@@ -31,7 +31,7 @@ Known Unknown ks = Unit {0}
 
 -- how many wanted keys a block has
 abbrev pub blockSize : ℕ
-blockSize = 32768
+blockSize = 4096
 
 -- the block at i of so many wanted keys ends at r
 pub record BlockEnd (i wanted r : ℕ) : Type 0 where

@@ -67,7 +67,7 @@ pub fn order_of(keys: &[u32]) -> Order
     if crate::ascends(keys) {
         return Order::Ascending;
     }
-    if batch_index::table::first_duplicate(keys) == keys.len() {
+    if batch_index::inner::duplicates::first_duplicate(keys) == keys.len() {
         return Order::Distinct;
     }
     Order::Unknown
@@ -96,16 +96,16 @@ pub fn find(keys: &[u32], order: Order, near: usize, key: u32) -> usize
 }
 
 // How many wanted keys are looked for at once.
-pub const BLOCK: usize = 32_768;
+pub const BLOCK: usize = 4096;
 
 // Whether a table of the keys is taken to be quicker than a search for each wanted one. The bounds are reckoned.
 pub fn index_pays(order: Order, keys: usize, wanted: usize) -> bool
     ensures { λ r. ⌜ (r ≡ true → keys < 2 ^ 32) ⌝ }
 {
-    if keys < 512 {
+    if keys < 256 {
         return false;
     }
-    if wanted < 512 {
+    if wanted < 64 {
         return false;
     }
     match order {
@@ -137,7 +137,7 @@ fn find_block(keys: &[u32], wanted: &[u32], i: usize, block: &mut [u32]) -> usiz
     ensures { λ r. ⌜ BlockFound (given keys) (given wanted) i (after block) r ⌝ }
 {
     let end = block_end(i, wanted.len());
-    batch_index::inner::find_all(keys, &wanted[i..end], &mut *block);
+    batch_index::inner::wanted::find_all(keys, &wanted[i..end], &mut *block);
     widened(block[0])
 }
 

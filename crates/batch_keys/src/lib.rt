@@ -7,11 +7,10 @@ use column::error::Error;
 use column::error::InKey;
 use column::error::Refusal;
 ghost use mathlib.Core.Path.{_≡_};
-ghost use lib.ListN.{length};
 ghost use Rattle.column.specs.Asking.{shownAsked};
 ghost use Rattle.column.specs.Paper.{shownFound};
 ghost use Rattle.column.specs.Questions.{distinctKeys};
-ghost use Rattle.batch_index.specs.Workers.{FirstDouble, every};
+ghost use Rattle.batch_index.specs.Workers.{FirstDouble};
 ghost use Rattle.batch_keys.specs.Calls as calls;
 ghost use Rattle.batch_keys.specs.Workers.{ascends};
 ghost use Rattle.column.specs.Lent.{given};
@@ -41,12 +40,12 @@ fn ascends(keys: &[u32]) -> bool
 
 // The lowest position of a key that stands before it too, or how many keys there are.
 pub fn first_duplicate(keys: &[u32]) -> usize
-    ensures { λ r. ⌜ FirstDouble every (given keys) (length (given keys)) r ⌝ }
+    ensures { λ r. ⌜ FirstDouble (given keys) r ⌝ }
 {
     if ascends(keys) {
         return keys.len();
     }
-    batch_index::table::first_duplicate(keys)
+    batch_index::inner::duplicates::first_duplicate(keys)
 }
 
 // 8

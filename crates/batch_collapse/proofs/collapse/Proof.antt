@@ -1,31 +1,13 @@
-use mathlib.Core.Option.{none}
-use mathlib.Core.Path.{_≡_, _∙_}
+use lib.ListN.{length-replicate}
+use Prim.Native.Nat.{ℕ}
 use denote.Ref.{now}
-use Rattle.num.proofs.Bits.{back}
-use Rattle.column.specs.Asking.{shownAsked}
+use native.Mathlib.Omega.{arith}
 use Rattle.column.proofs.Promised.{asked-yes, asked-no}
-use Rattle.batch.specs.Batch.{batch}
-use Rattle.batch_collapse.specs.Calls.{collapseAsked}
-use Rattle.batch_collapse.proofs.Asks.{allAsked, all-refused, all-asked, grouped, all-room}
-use Rattle.batch_collapse.proofs.Collapsing.{collapse-written, collapse-refused}
+use Rattle.batch_collapse.proofs.Asks.{all-refused}
+use Rattle.batch_collapse.proofs.Collapsing.{collapse-refused}
 use borrow.Author.Needs.{needs}
 use Rattle.batch_collapse.proofs.collapse.Statement.{statement}
 use Rattle.batch_collapse.proofs.collapse.Tie as tie
-
--- the questions but 10 and 12
-yes : (c : tie.After-enum-told) → let a = c .before .before .before .before .before .before .before .before .args in
-    collapseAsked (batch (now (a .keys)) (now (a .offsets)) (now (a .ends)) (now (a .values))) (now (a .new-keys)) (a .code) ≡ none
-yes c = asked-yes (c .before .before .collapse-asks .ensures) (c .enum-told .given .1)
-
--- all of them
-asked : (c : tie.After-and) → let a = c .before .before .before .before .before .before .before .before .before .before .before .before .args in
-    shownAsked (c .and .result) ≡ allAsked (now (a .keys)) (now (a .offsets)) (now (a .ends)) (now (a .values)) (now (a .new-keys)) (a .fill) (a .code)
-    (now (a .out-keys)) (now (a .out-offsets)) (now (a .out-ends)) (now (a .out-values)) (now (a .scratch-ends)) (now (a .scratch-values))
-asked c = let t = c .before .before .before .before in
-    let a = t .before .before .before .before .before .before .before .before .args in
-    all-asked (now (a .keys)) (now (a .offsets)) (now (a .ends)) (now (a .values)) (now (a .new-keys)) (a .fill) (a .code) (now (a .out-keys))
-    (now (a .out-offsets)) (now (a .out-ends)) (now (a .out-values)) (now (a .scratch-ends)) (now (a .scratch-values)) (yes t) (c .and .ensures)
-    (c .before .before .ask-groups .ensures) (c .before .ask-room .ensures)
 
 collapse-asks-requires : tie.Need-collapse-asks-requires
 collapse-asks-requires c κs = search needs
@@ -37,47 +19,45 @@ enum-known-asked : tie.Need-enum-known-asked
 enum-known-asked c = search needs
 
 returns : tie.Need-returns
-returns c = let t = c .before .before .before in
-    let a = t .before .before .before .before .before .before .args in
+returns c = let a = c .before .before .before .before .before .before .before .before .before .args in
     collapse-refused _ _ _ _ _ _ _ _ _ _ _ _ _
-    (all-refused (now (a .keys)) (now (a .offsets)) (now (a .ends)) (now (a .values)) (now (a .new-keys)) (a .fill) (a .code) (now (a .out-keys))
-    (now (a .out-offsets)) (now (a .out-ends)) (now (a .out-values)) (now (a .scratch-ends)) (now (a .scratch-values))
-    (asked-no _ (t .collapse-asks .ensures) (c .before .asked .given .1)))
+    (all-refused (now (a .keys)) (now (a .offsets)) (now (a .ends)) (now (a .values)) (now (a .new-keys)) (a .fill) (a .code)
+    (now (a .out-keys)) (now (a .out-offsets)) (now (a .out-ends)) (now (a .out-values)) (now (a .scratch-ends)) (now (a .scratch-values))
+    (asked-no _ (c .before .before .before .collapse-asks .ensures) (c .before .asked .given .1)))
 
 stand-together-requires : tie.Need-stand-together-requires
 stand-together-requires c κs = search needs
 
-ask-groups-requires : tie.Need-ask-groups-requires
-ask-groups-requires c κs = grouped _ _ _ _ _ _ (yes (c .before)) (c .stand-together .ensures)
+links-pay-requires : tie.Need-links-pay-requires
+links-pay-requires c κs = search needs
 
-add-ask-room : tie.Need-add-ask-room
-add-ask-room c = search needs
+slice-aggregate-collapse-by : tie.Need-slice-aggregate-collapse-by
+slice-aggregate-collapse-by c = search needs
 
-mul-ask-room : tie.Need-mul-ask-room
-mul-ask-room c = search needs
+slice-aggregate-collapse-by-2 : tie.Need-slice-aggregate-collapse-by-2
+slice-aggregate-collapse-by-2 c = search needs
 
-ask-room-requires : tie.Need-ask-room-requires
-ask-room-requires c κs = search needs
+slice-aggregate-collapse-by-3 : tie.Need-slice-aggregate-collapse-by-3
+slice-aggregate-collapse-by-3 c = search needs
 
-and-requires : tie.Need-and-requires
-and-requires c κs = search needs
-
-enum-told-2 : tie.Need-enum-told-2
-enum-told-2 c = search needs
-
-value-requires : tie.Need-value-requires
-value-requires c κs = search needs
-
-collapse-requires : tie.Need-collapse-requires
-collapse-requires c κs = let u = c .before .before .before .before .before .before .before in
-    let f = u .before .before in
-    let t = f .before .before .before .before in (
-      grouped _ _ _ _ _ _ (yes t) (f .before .before .before .stand-together .ensures),
-      all-room _ _ _ _ _ _ _ _ _ _ _ _ _ (yes t) (asked-yes (asked f) (u .enum-told2 .given .1)),
-    )
-
-enum-known-fits : tie.Need-enum-known-fits
-enum-known-fits c = search needs
+collapse-by-requires : tie.Need-collapse-by-requires
+collapse-by-requires c κs = (
+  asked-yes (c .before .before .before .before .before .before .before .before .before .before .before .before .before .before .collapse-asks
+      .ensures) (c .before .before .before .before .before .before .before .before .before .before .before .before .enum-told .given .1),
+  c .before .before .before .before .before .before .before .before .before .before .before .stand-together .ensures,
+  record {
+    room = λ h. record {
+      few = c .before .before .before .before .before .before .before .before .before .before .links-pay .ensures
+          (c .before .before .before .before .before .before .before .before .before .if1 .taken);
+      firsts = h;
+      nexts = omega (
+        arith,
+        length-replicate {A = ℕ} 2048 0,
+      );
+      positions = omega (arith, length-replicate {A = ℕ} 2048 0);
+    };
+  },
+)
 
 same-length : tie.Need-same-length
 same-length c = search needs
@@ -98,15 +78,49 @@ same-length-6 : tie.Need-same-length-6
 same-length-6 c = search needs
 
 returns-2 : tie.Need-returns-2
-returns-2 c = let collapse = c .before .before .before .before .before .before .before .before in
-    let value = collapse .before .before .before .before .before .before .before in
-    let told2 = value .before in
-    let place = told2 .before .before in
-    collapse-written _ _ _ _ _ _ _ _ _ _ _ _ _ (asked-yes (asked place) (told2 .enum-told2 .given .1)) (back _ (value .value .ok) ∙ value .value .ensures)
-    (collapse .collapse .ensures)
+returns-2 c = c .before .before .before .before .before .before .before .before .before .before .before .collapse-by .ensures
+
+slice-aggregate-collapse-by-4 : tie.Need-slice-aggregate-collapse-by-4
+slice-aggregate-collapse-by-4 c = search needs
+
+slice-aggregate-collapse-by-5 : tie.Need-slice-aggregate-collapse-by-5
+slice-aggregate-collapse-by-5 c = search needs
+
+slice-aggregate-collapse-by-6 : tie.Need-slice-aggregate-collapse-by-6
+slice-aggregate-collapse-by-6 c = search needs
+
+collapse-by-requires-2 : tie.Need-collapse-by-requires-2
+collapse-by-requires-2 c κs = (
+  asked-yes
+      (c .before .before .before .before .before .before .before .before .before .before .before .before .before .before .collapse-asks .ensures)
+      (c .before .before .before .before .before .before .before .before .before .before .before .before .enum-told .given .1),
+  c .before .before .before .before .before .before .before .before .before .before .before .stand-together .ensures,
+  record {
+    room = λ h. let z : ⊥ = omega arith in
+        absurd z;
+  },
+)
+
+same-length-7 : tie.Need-same-length-7
+same-length-7 c = search needs
+
+same-length-8 : tie.Need-same-length-8
+same-length-8 c = search needs
+
+same-length-9 : tie.Need-same-length-9
+same-length-9 c = search needs
+
+same-length-10 : tie.Need-same-length-10
+same-length-10 c = search needs
+
+same-length-11 : tie.Need-same-length-11
+same-length-11 c = search needs
+
+same-length-12 : tie.Need-same-length-12
+same-length-12 c = search needs
 
 returns-3 : tie.Need-returns-3
-returns-3 c = collapse-refused _ _ _ _ _ _ _ _ _ _ _ _ _ (asked-no _ (asked (c .before .before .before)) (c .before .fits2 .given .1))
+returns-3 c = c .before .before .before .before .before .before .before .before .before .before .before .collapse-by2 .ensures
 
 pub collapse-spec : {M : Type 1} → statement M
 collapse-spec =
@@ -117,15 +131,11 @@ collapse-spec =
     enum-known-asked
     returns
     stand-together-requires
-    ask-groups-requires
-    add-ask-room
-    mul-ask-room
-    ask-room-requires
-    and-requires
-    enum-told-2
-    value-requires
-    collapse-requires
-    enum-known-fits
+    links-pay-requires
+    slice-aggregate-collapse-by
+    slice-aggregate-collapse-by-2
+    slice-aggregate-collapse-by-3
+    collapse-by-requires
     same-length
     same-length-2
     same-length-3
@@ -133,4 +143,14 @@ collapse-spec =
     same-length-5
     same-length-6
     returns-2
+    slice-aggregate-collapse-by-4
+    slice-aggregate-collapse-by-5
+    slice-aggregate-collapse-by-6
+    collapse-by-requires-2
+    same-length-7
+    same-length-8
+    same-length-9
+    same-length-10
+    same-length-11
+    same-length-12
     returns-3)
