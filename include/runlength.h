@@ -468,7 +468,7 @@ rl_counted rl_slice_reduce(const int64_t *ends, size_t ends_len, const int64_t *
  *
  * Many keys are looked up by halving, where each key is above the one before it, or by an index that the call makes for itself, of
  * 4,096 wanted keys at a time: a pass over all keys for each. Where there are fewer than 256 keys or 64 wanted ones and the keys do
- * not rise so, they are looked for one after another. No keys take more than ten times as long as random ones of the same number.
+ * not rise so, they are looked for one after another.
  *
  * A batch that is answered has as many entries in out_keys as it has keys, one more in out_offsets, the first of which is 0, and as
  * many in out_ends and in out_values as it has runs. */

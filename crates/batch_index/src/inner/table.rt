@@ -12,7 +12,7 @@ ghost use Rattle.column.specs.Lent.{given, after};
 // So many slots are probed for a key.
 const PROBES: usize = 32;
 
-// It multiplies well: the pairs, triples and so on of numbers that follow one another lie in no few planes.
+// Odd, so that different numbers stay different.
 const FACTOR: u64 = 2_891_336_453;
 
 fn mixed(x: u32) -> u32

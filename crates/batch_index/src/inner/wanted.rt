@@ -11,9 +11,6 @@ ghost use Rattle.batch_index.specs.Calls.{lowest};
 ghost use Rattle.batch_index.specs.Workers.{lookedUp, Sized, Unfound, FoundOnce, FoundAll};
 ghost use Rattle.column.specs.Lent.{given, after};
 
-// How many wanted keys a table holds: half as many as it has slots.
-pub const BLOCK: usize = 4096;
-
 // Says of each wanted key that it stands nowhere.
 fn clear(keys: &[u32], wanted: &[u32], found: &mut [u32])
     requires { ⌜ (length (now keys) < 2 ^ 32) × (length (now wanted) ≤ length (now found)) ⌝ }
