@@ -1,3 +1,5 @@
+#![tactic(auto)]
+
 // A batch is handed in as its keys, its offsets, and its ends and values laid flat.
 pub mod inner;
 pub mod two;

@@ -1,3 +1,5 @@
+#![tactic(auto)]
+
 // collapse of a batch.
 pub mod inner;
 

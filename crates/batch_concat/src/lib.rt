@@ -1,3 +1,5 @@
+#![tactic(auto)]
+
 // concat of two batches.
 pub mod inner;
 

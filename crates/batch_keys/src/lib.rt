@@ -1,3 +1,5 @@
+#![tactic(auto)]
+
 // The keys of a batch: where one stands, and whether one is given twice.
 pub mod inner;
 

@@ -1,3 +1,5 @@
+#![tactic(auto)]
+
 // Calls that do the same to the sequence of each key. A batch is handed in as its keys, its offsets, and its ends and values laid flat.
 pub mod inner;
 

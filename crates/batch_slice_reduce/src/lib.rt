@@ -1,3 +1,5 @@
+#![tactic(auto)]
+
 // slice_reduce of a batch, by intervals each with a key. A batch is handed in as its keys, its offsets, and its ends and values laid flat.
 pub mod inner;
 

@@ -1,3 +1,5 @@
+#![tactic(auto)]
+
 // zip_with of two batches.
 pub mod inner;
 

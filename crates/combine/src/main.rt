@@ -1,3 +1,5 @@
+#![tactic(auto)]
+
 // Combines the columns of a job, which is read from standard input, by a code.
 //
 //     combine CODE < JOB                writes the combined runs, as a column of a job

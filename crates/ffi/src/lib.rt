@@ -1,3 +1,5 @@
+#![tactic(auto)]
+
 // The structs of the C interface, and the answers of the calls laid flat in them.
 ghost use Rattle.std.specs.Prelude.{◌≡◌};
 ghost use Rattle.ffi.specs.Reading as Reading;

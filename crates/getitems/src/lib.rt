@@ -1,3 +1,5 @@
+#![tactic(auto)]
+
 // Calls on a sequence that take intervals.
 pub mod inner;
 

@@ -1,3 +1,5 @@
+#![tactic(auto)]
+
 // plan_many, and how many columns there are.
 pub mod inner;
 

@@ -1,3 +1,5 @@
+#![tactic(auto)]
+
 pub mod inner;
 
 ghost use Rattle.column.specs.Paper.{WritesRuns};

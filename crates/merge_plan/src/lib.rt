@@ -1,3 +1,5 @@
+#![tactic(auto)]
+
 pub mod inner;
 
 ghost use Rattle.std.specs.Prelude.{[], ◌∷◌, ◌≡◌};

@@ -7,7 +7,7 @@ use Rattle.num.specs.Numbers.{eq_z}
 use Rattle.num.proofs.Tests.{eq_eq_z, ne_eq_z, by-test}
 
 pub back : (z : ℤ) → mag z < 2 ^ 63 → to_z w64 (of_z w64 z) ≡ z
-back z h = to_z-of_z (record { sfits = h })
+back z h = to_z-of_z {w = w64} (record { sfits = h })
 
 module _ {a b : ℤ} (f : SFits w64 a) (g : SFits w64 b) where
   pub bits-eq_z : of_z w64 a ≡ of_z w64 b → eq_z a b ≡ true

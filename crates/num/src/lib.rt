@@ -1,3 +1,5 @@
+#![tactic(auto)]
+
 ghost use Rattle.std.specs.Prelude.{◌≡◌, ◌+◌, ◌*◌, ◌^◌, min, ◌+ℤ◌, ◌-ℤ◌, ◌*ℤ◌, int_lt, unsigned_abs};
 ghost use Rattle.num.specs.Numbers.{eq_z, residue, signed, wrap, saturated, smaller_of, larger_of, midpoint, flag, operation, comparison};
 

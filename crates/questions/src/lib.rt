@@ -1,3 +1,5 @@
+#![tactic(auto)]
+
 // The questions of document 01, each answered for any arguments. Question 8, of keys, is in crate batch_keys.
 ghost use Rattle.std.specs.Prelude.{◌+◌, true, ◌&&◌, [], ◌∷◌, ◌≡◌, drop};
 ghost use Rattle.std.specs.Int.Signed.{lt_z};

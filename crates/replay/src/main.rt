@@ -1,3 +1,5 @@
+#![tactic(auto)]
+
 // Replays stored answers. Each line of standard input, up to 64 KiB in all, is a call with its arguments and what must come of it, in
 // decimal numbers. Each line that does not agree is written; then, for each call, how many cases there were and how many agreed.
 mod calls;

@@ -1,3 +1,5 @@
+#![tactic(auto)]
+
 // The calls for C: each hands on what the Rattle call answers, laid flat.
 ghost use Rattle.std.specs.Prelude.{◌*◌, ◌≡◌, length};
 ghost use Rattle.batch.specs.Batch.{given_batch, WritesBatch};

@@ -1,3 +1,5 @@
+#![tactic(auto)]
+
 // Numbers in lines of text, for the programs.
 ghost use Rattle.std.specs.Prelude.{◌<◌, ◌≤◌, length};
 ghost use Rattle.text.specs.Counts.{Counts};

@@ -1,3 +1,5 @@
+#![tactic(auto)]
+
 // zip_many, above the walk over many columns.
 pub mod inner;
 
