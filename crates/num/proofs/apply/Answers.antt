@@ -1,43 +1,63 @@
-use Rattle.std.proofs.Common.{rules, ◌≡◌, ◌+◌, ◌*◌, ◌^◌, min, ◌+ℤ◌, ◌-ℤ◌, ◌*ℤ◌, int_lt, unsigned_abs, ℕ, ◌-◌, ◌<◌, ◌≤◌, length, ◌/◌, ◌%◌, Bool, true, false, nat_eq, nat_lt, List, [], ◌∷◌, ◌++◌, slice_index_or, slice_set, bit_and, bit_or, Fits, w8, w32, w64, Bor, MutBor, ℤ, pos, ◌≤ℤ◌, ◌<ℤ◌, FitsSigned, to_z, of_z}
-use Rattle.num.specs.Numbers.{eq_z, residue, signed, wrap, saturated, smaller_of, larger_of, midpoint, flag, operation, comparison}
+use Rattle.std.proofs.Common.{◌+ℤ◌, ◌-ℤ◌, ◌*ℤ◌, sym, ◌∙◌, to_z-of_z, rules}
+use lib.Signed.{lt_z}
+use Rattle.num.specs.Numbers.{eq_z, wrap, smaller_of, larger_of, midpoint, flag, operation}
+use Rattle.num.proofs.Bits.{told-call}
+use Rattle.num.proofs.Operation.{operation-last}
 use Rattle.num.proofs.apply.Goals as goal
 
--- src/lib.rt:155:1
 pub returns-in-0 : goal.returns-in-0
-returns-in-0 c = ?
+unfolding operation
+returns-in-0 c =
+    let f = c.ranges in
+    rw c.in-0.is (told-call (λ x y. wrap (x +ℤ y)) f.x f.y c.wrapping_add.type_inv c.wrapping_add.ensures)
 
--- src/lib.rt:155:1
 pub returns-in-1 : goal.returns-in-1
-returns-in-1 c = ?
+unfolding operation
+returns-in-1 c =
+    let f = c.ranges in
+    rw c.in-1.is (told-call (λ x y. wrap (x -ℤ y)) f.x f.y c.wrapping_sub.type_inv c.wrapping_sub.ensures)
 
--- src/lib.rt:155:1
 pub returns-in-2 : goal.returns-in-2
-returns-in-2 c = ?
+unfolding operation
+returns-in-2 c =
+    let f = c.ranges in
+    rw c.in-2.is (told-call (λ x y. wrap (x *ℤ y)) f.x f.y c.wrapping_mul.type_inv c.wrapping_mul.ensures)
 
--- src/lib.rt:155:1
 pub returns-in-3 : goal.returns-in-3
-returns-in-3 c = ?
+unfolding operation
+returns-in-3 c =
+    let f = c.ranges in
+    rw c.in-3.is (told-call smaller_of f.x f.y c.smaller.type_inv c.smaller.ensures)
 
--- src/lib.rt:155:1
 pub returns-in-4 : goal.returns-in-4
-returns-in-4 c = ?
+unfolding operation
+returns-in-4 c =
+    let f = c.ranges in
+    rw c.in-4.is (told-call larger_of f.x f.y c.larger.type_inv c.larger.ensures)
 
--- src/lib.rt:155:1
 pub returns-in-5 : goal.returns-in-5
-returns-in-5 c = ?
+unfolding operation
+returns-in-5 c = rw c.in-5.is (to_z-of_z c.ranges.x)
 
--- src/lib.rt:155:1
 pub returns-in-6 : goal.returns-in-6
-returns-in-6 c = ?
+unfolding operation
+returns-in-6 c = rw c.in-6.is (to_z-of_z c.ranges.y)
 
--- src/lib.rt:155:1
 pub returns-in-7 : goal.returns-in-7
-returns-in-7 c = ?
+unfolding operation
+returns-in-7 c =
+    let f = c.ranges in
+    rw c.in-7.is (told-call (λ x y. flag (eq_z x y)) f.x f.y c.equal.type_inv c.equal.ensures)
 
--- src/lib.rt:155:1
 pub returns-in-8 : goal.returns-in-8
-returns-in-8 c = ?
+unfolding operation
+returns-in-8 c =
+    let f = c.ranges in
+    rw c.in-8.is (told-call (λ x y. flag (lt_z x y)) f.x f.y c.less.type_inv c.less.ensures)
 
--- src/lib.rt:155:1
 pub returns-in_default : goal.returns-in_default
-returns-in_default c = ?
+returns-in_default c =
+    let half = c.midpoint_toward_zero in
+    told-call midpoint c.ranges.x c.ranges.y half.type_inv half.ensures
+    ∙ sym (operation-last c.args.code c.args.x c.args.y (search rules))
+

@@ -1,15 +1,20 @@
-use Rattle.std.proofs.Common.{rules, ◌≡◌, ◌+◌, ◌*◌, ◌^◌, min, ◌+ℤ◌, ◌-ℤ◌, ◌*ℤ◌, int_lt, unsigned_abs, ℕ, ◌-◌, ◌<◌, ◌≤◌, length, ◌/◌, ◌%◌, Bool, true, false, nat_eq, nat_lt, List, [], ◌∷◌, ◌++◌, slice_index_or, slice_set, bit_and, bit_or, Fits, w8, w32, w64, Bor, MutBor, ℤ, pos, ◌≤ℤ◌, ◌<ℤ◌, FitsSigned, to_z, of_z}
-use Rattle.num.specs.Numbers.{eq_z, residue, signed, wrap, saturated, smaller_of, larger_of, midpoint, flag, operation, comparison}
+use Rattle.std.proofs.Common.{to_z-of_z}
+use Rattle.num.proofs.Midpoint.{down-sum, down_fits, midpoint-fits, midpoint-down, midpoint_up}
 use Rattle.num.proofs.midpoint_toward_zero.Goals as goal
 
--- src/lib.rt:150:16
 pub overflow_add-down : goal.overflow_add-down
-overflow_add-down c = ?
+overflow_add-down c = let f = c.ranges in rw (down-sum f.x f.y) (down_fits f.x f.y)
 
--- src/lib.rt:146:1
+pub overflow_add-result : goal.overflow_add-result
+overflow_add-result c =
+    let f = c.ranges in
+    rw (midpoint_up f.x f.y c.if-down-lt0.true) (midpoint-fits f.x f.y)
+
 pub returns-then-down-lt0 : goal.returns-then-down-lt0
-returns-then-down-lt0 c = ?
+returns-then-down-lt0 c =
+    let f = c.ranges in
+    rw (midpoint_up f.x f.y c.if-down-lt0.true) (to_z-of_z (midpoint-fits f.x f.y))
 
--- src/lib.rt:146:1
 pub returns-else-down-lt0 : goal.returns-else-down-lt0
-returns-else-down-lt0 c = ?
+returns-else-down-lt0 c = let f = c.ranges in midpoint-down f.x f.y c.if-down-lt0.false
+
