@@ -19,7 +19,7 @@ use Rattle.column.specs.Lists.{total}
 use Rattle.column.specs.Paper.{answers, paper}
 use Rattle.column.specs.Runs.{Filled}
 use Rattle.column.proofs.Buffer.{Written, write_start, write_next}
-use Rattle.column.proofs.Laying.{Laying, laying-start, laying-room, laying-next, laying-end}
+use Rattle.column.proofs.Laying.{Laying, laying_start, laying-room, laying-next, laying_end}
 use Rattle.batch.specs.Batch.{Entry, columns_of, WrittenBatch}
 use Rattle.batch.specs.Workers.{FilledBatch}
 
@@ -36,7 +36,7 @@ pub record LayingBatch (es : List Entry) (k₀ k x₀ x : List ℕ) (e₀ e v₀
   pub laying : Laying (columns_of es) x₀ x e₀ e v₀ v used n
 
 pub batch-start : (es : List Entry) (k x : List ℕ) (e v : List ℤ) → 0 < length x → LayingBatch es k k (set x 0 0) (set x 0 0) e e v v 0 0
-batch-start es k x e v h = record { keys = write_start key_of k; laying = laying-start x h (columns_of es) e v }
+batch-start es k x e v h = record { keys = write_start key_of k; laying = laying_start x h (columns_of es) e v }
 
 module _ {es : List Entry} {k₀ k x₀ x : List ℕ} {e₀ e v₀ v : List ℤ} {used n : ℕ} (s : LayingBatch es k₀ k x₀ x e₀ e v₀ v used n) (h : n < length es) where
   in_columns : n < length (columns_of es)
@@ -68,7 +68,7 @@ pub batch-end : {es : List Entry} {k₀ k x y : List ℕ} {e₀ e v₀ v : List 
     → FilledBatch es k₀ k x y e₀ e v₀ v used
 batch-end {es} {x = x} {n = n} hx s h =
     let all : take n es ≡ es = take_all n es h in
-    let f = laying-end x hx s.laying (rw length-map h) in
+    let f = laying_end x hx s.laying (rw length-map h) in
     record { count = f.count; keys = rw all at s.keys.entries; offsets = f.offsets; ends = f.ends; values = f.values }
 
 -- ---- what a worker laid flat, after a "yes" to every question, is what a call promises; and so is what was there, after a "no"

@@ -17,9 +17,6 @@ pub record Batch : Type 0 where
 abbrev pub batch : List ℕ → List ℕ → List ℤ → List ℤ → Batch
 batch ks os es vs = record { keys = ks; flat = flat os es vs }
 
-abbrev pub given_batch : Lent ℕ → Lent ℕ → Lent ℤ → Lent ℤ → Batch
-given_batch ks os es vs = batch (given ks) (given os) (given es) (given vs)
-
 -- a key with its sequence
 pub record Entry : Type 0 where
   pub key : ℕ

@@ -4,13 +4,12 @@ pub mod lookup;
 ghost use Rattle.std.specs.Prelude.{◌≤◌, [], ◌≡◌, length, get_or};
 ghost use Rattle.column.specs.Lists.{parts};
 ghost use Rattle.column.specs.Runs.{over};
-ghost use Rattle.column.specs.Lent.{given, after};
 
 use column::sequence;
 
 // The entries of the key at a position; none where there is no such position.
 pub fn part_at<'o, 'e>(offsets: &'o [usize], entries: &'e [i64], position: usize) -> &'e [i64]
-    ensures { result.now ≡ get_or (parts (given offsets) (given entries)) position [] }
+    ensures { result.now ≡ get_or (parts offsets.now entries.now) position [] }
 {
     if offsets.len() <= position {
         return &entries[..0];
@@ -26,7 +25,7 @@ pub fn part_at<'o, 'e>(offsets: &'o [usize], entries: &'e [i64], position: usize
 // The entries, copied to the front of a buffer.
 pub fn copy(entries: &[i64], out: &mut [i64])
     requires { length entries.now ≤ length out.old }
-    ensures { after out ≡ over (given entries) (given out) }
+    ensures { out.new ≡ over entries.now out.old }
 {
     let mut i: usize = 0;
     while i < entries.len() {

@@ -8,7 +8,7 @@ ghost use Rattle.std.specs.Prelude.{[], ◌∷◌, ◌≡◌};
 ghost use Rattle.column.specs.Asking.{shown_asked, first_no};
 ghost use Rattle.column.specs.Paper.{shown_checked};
 ghost use Rattle.column.specs.Questions.{room, both};
-ghost use Rattle.batch.specs.Batch.{lengths_asked, content_asked, batch_valid, given_batch};
+ghost use Rattle.batch.specs.Batch.{lengths_asked, content_asked, batch_valid, batch};
 ghost use Rattle.batch.specs.Calls.{WritesGot};
 ghost use Rattle.batch.specs.Calls as calls;
 
@@ -25,7 +25,7 @@ pub enum Got {
 
 // What 2 and what 3 of 2.
 pub fn ask_lengths(keys: &[u32], offsets: &[usize], ends: &[i64], values: &[i64]) -> Asked
-    ensures { shown_asked result ≡ first_no (lengths_asked (given_batch keys offsets ends values)) }
+    ensures { shown_asked result ≡ first_no (lengths_asked (batch keys.now offsets.now ends.now values.now)) }
 {
     questions::ask_lengths(2, offsets.len(), keys.len() + 1).and(questions::ask_lengths(
         3,
@@ -36,14 +36,14 @@ pub fn ask_lengths(keys: &[u32], offsets: &[usize], ends: &[i64], values: &[i64]
 
 // 3 and 4.
 pub fn ask_content(keys: &[u32], offsets: &[usize], ends: &[i64], values: &[i64]) -> Asked
-    ensures { shown_asked result ≡ first_no (content_asked (given_batch keys offsets ends values)) }
+    ensures { shown_asked result ≡ first_no (content_asked (batch keys.now offsets.now ends.now values.now)) }
 {
     questions::ask_offsets(offsets, ends.len()).and(questions::ask_sequences(offsets, ends))
 }
 
 // 2, 3 and 4.
 pub fn ask_batch(keys: &[u32], offsets: &[usize], ends: &[i64], values: &[i64]) -> Asked
-    ensures { shown_asked result ≡ batch_valid (given_batch keys offsets ends values) }
+    ensures { shown_asked result ≡ batch_valid (batch keys.now offsets.now ends.now values.now) }
 {
     ask_lengths(keys, offsets, ends, values).and(ask_content(keys, offsets, ends, values))
 }
@@ -68,7 +68,7 @@ pub fn ask_room(
 
 // A batch that may come from anywhere: only checked.
 pub fn from_parts(keys: &[u32], offsets: &[usize], ends: &[i64], values: &[i64]) -> Checked
-    ensures { shown_checked result ≡ calls.from_parts (given_batch keys offsets ends values) }
+    ensures { shown_checked result ≡ calls.from_parts (batch keys.now offsets.now ends.now values.now) }
 {
     let asked = ask_batch(keys, offsets, ends, values).and(batch_keys::ask_keys(keys));
     match asked {
@@ -87,7 +87,7 @@ pub fn get(
     out_ends: &mut [i64],
     out_values: &mut [i64],
 ) -> Got
-    ensures { WritesGot (calls.get (given_batch keys offsets ends values) key) out_ends out_values result }
+    ensures { WritesGot (calls.get (batch keys.now offsets.now ends.now values.now) key) out_ends out_values result }
 {
     let at = batch_index::inner::scan(keys, key);
     let found_ends = inner::part_at(offsets, ends, at);

@@ -2,7 +2,7 @@
 // place n is position n of the first, or, after its keys, position n less their number of the second.
 ghost use Rattle.std.specs.Prelude.{◌≡◌};
 ghost use Rattle.column.specs.Asking.{shown_asked, first_no};
-ghost use Rattle.batch.specs.Batch.{both_lengths, both_content, both_valid, given_batch};
+ghost use Rattle.batch.specs.Batch.{both_lengths, both_content, both_valid, batch};
 
 use column::answer::Asked;
 
@@ -28,7 +28,7 @@ fn ask_lengths(
     b_values: &[i64],
 ) -> Asked
     ensures { shown_asked result ≡ first_no
-        (both_lengths (given_batch a_keys a_offsets a_ends a_values) (given_batch b_keys b_offsets b_ends b_values)) }
+        (both_lengths (batch a_keys.now a_offsets.now a_ends.now a_values.now) (batch b_keys.now b_offsets.now b_ends.now b_values.now)) }
 {
     questions::ask_lengths(2, a_offsets.len(), a_keys.len() + 1)
         .and(questions::ask_lengths(2, b_offsets.len(), b_keys.len() + 1))
@@ -48,7 +48,7 @@ fn ask_content(
     b_values: &[i64],
 ) -> Asked
     ensures { shown_asked result ≡ first_no
-        (both_content (given_batch a_keys a_offsets a_ends a_values) (given_batch b_keys b_offsets b_ends b_values)) }
+        (both_content (batch a_keys.now a_offsets.now a_ends.now a_values.now) (batch b_keys.now b_offsets.now b_ends.now b_values.now)) }
 {
     questions::ask_offsets(a_offsets, a_ends.len())
         .and(questions::ask_offsets(b_offsets, b_ends.len()))
@@ -68,7 +68,7 @@ pub fn ask_batches(
     b_values: &[i64],
 ) -> Asked
     ensures { shown_asked
-        result ≡ both_valid (given_batch a_keys a_offsets a_ends a_values) (given_batch b_keys b_offsets b_ends b_values) }
+        result ≡ both_valid (batch a_keys.now a_offsets.now a_ends.now a_values.now) (batch b_keys.now b_offsets.now b_ends.now b_values.now) }
 {
     ask_lengths(
         a_keys, a_offsets, a_ends, a_values, b_keys, b_offsets, b_ends, b_values,

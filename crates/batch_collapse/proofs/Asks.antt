@@ -96,10 +96,10 @@ module _ (ks os : List ℕ) (es vs : List ℤ) (new_keys : List ℕ) (fill : Fil
         let y = all_yes (collapse_asked (batch ks os es vs) new_keys code ∷ groups ∷ space ∷ []) h in
         let r = rooms-told (length ks) (length es) (length k) (length x) (length e) (length v) (length s) (length t) y.1.1.0 in
         record {
-          room-keys = r.for_keys;
-          room-offsets = r.for_offsets;
-          room-ends = r.for_ends;
-          room-values = r.for_values;
+          room_keys = r.for_keys;
+          room_offsets = r.for_offsets;
+          room_ends = r.for_ends;
+          room_values = r.for_values;
           scratch_ends = r.for_scratch_ends;
           scratch_values = r.for_scratch_values;
         }

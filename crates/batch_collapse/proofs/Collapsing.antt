@@ -67,28 +67,28 @@ module _ (op : ℤ → ℤ → ℤ) (fill : Fill) (ks os : List ℕ) (es vs : Li
     pub scratch_values : Free (2 * length es) t₀ t
 
   module _ {together : Bool} (g : Grouped (batch ks os es vs) new_keys together) where
-    all-few : group_runs entries (once new_keys) ≤ length es
+    all_few : group_runs entries (once new_keys) ≤ length es
     unfolding once
-    all-few = omega (arith, groups-few new_keys (columns (flat os es vs)) (once new_keys) (once_no_doubles [] new_keys), all_runs ks os es vs new_keys g)
+    all_few = omega (arith, groups-few new_keys (columns (flat os es vs)) (once new_keys) (once_no_doubles [] new_keys), all_runs ks os es vs new_keys g)
 
     group_runs_lem : (key : ℕ) → length (collapse_runs op fill (members entries key)) ≤ member_runs entries key
     group_runs_lem key = collapse-few op fill (members entries key) (members-all Valid key new_keys (columns (flat os es vs))
         (all_valid ks os es vs new_keys g))
 
-    results-few : (groups : List ℕ) → total (map length (columns_of (map (collapse_key op fill entries) groups))) ≤ group_runs entries groups
-    results-few [] = omega arith
-    results-few (k ∷ groups) = omega (arith, group_runs_lem k, results-few groups)
+    results_few : (groups : List ℕ) → total (map length (columns_of (map (collapse_key op fill entries) groups))) ≤ group_runs entries groups
+    results_few [] = omega arith
+    results_few (k ∷ groups) = omega (arith, group_runs_lem k, results_few groups)
 
-    results-many : length results ≤ length ks
+    results_many : length results ≤ length ks
     unfolding once
-    results-many = omega (arith, length-map (once new_keys) (collapse_key op fill entries), once-few [] new_keys, g.renamed)
+    results_many = omega (arith, length-map (once new_keys) (collapse_key op fill entries), once-few [] new_keys, g.renamed)
 
     module _ (k₀ x₀ : List ℕ) (e₀ v₀ s₀ t₀ : List ℤ) (room : CollapseRoom (batch ks os es vs) k₀ x₀ e₀ v₀ s₀ t₀) where
       pub collapsing-start : {r : ℕ} → NextGroup new_keys 0 r → Collapsing k₀ k₀ (set x₀ 0 0) (set x₀ 0 0) e₀ e₀ v₀ v₀ s₀ s₀ t₀ t₀ 0 0 r
       collapsing-start t = record {
         groups = grouping_start new_keys t;
-        laying = batch-start results k₀ x₀ e₀ v₀ (omega (arith, room.room-offsets));
-        left = omega (arith, all-few);
+        laying = batch-start results k₀ x₀ e₀ v₀ (omega (arith, room.room_offsets));
+        left = omega (arith, all_few);
         scratch_ends = free_start (2 * length es) s₀;
         scratch_values = free_start (2 * length es) t₀;
       }
@@ -105,8 +105,8 @@ module _ (op : ℤ → ℤ → ℤ) (fill : Fill) (ks os : List ℕ) (es vs : Li
           pub collapsing-room : (used + member_runs entries (get_or new_keys first 0) ≤ length e) × (used + member_runs entries
               (get_or new_keys first 0) ≤ length v)
           collapsing-room = (
-            omega (arith, group-left, c.left, room.room-ends, c.laying.laying.long-ends),
-            omega (arith, group-left, c.left, room.room-values, c.laying.laying.long-values),
+            omega (arith, group-left, c.left, room.room_ends, c.laying.laying.long_ends),
+            omega (arith, group-left, c.left, room.room_values, c.laying.laying.long_values),
           )
 
           pub collapsing-fold : FoldRoom (batch ks os es vs) new_keys first (take (length e - used) (drop used e)) (take (length v - used)
@@ -114,8 +114,8 @@ module _ (op : ℤ → ℤ → ℤ) (fill : Fill) (ks os : List ℕ) (es vs : Li
           collapsing-fold = record {
             within = h;
             alone = c.groups.single h;
-            room-ends = rw rest-length (omega (arith, collapsing-room.0));
-            room-values = rw rest-length (omega (arith, collapsing-room.1));
+            room_ends = rw rest-length (omega (arith, collapsing-room.0));
+            room_values = rw rest-length (omega (arith, collapsing-room.1));
             scratch_ends = omega (arith, room.scratch_ends, c.scratch_ends.long);
             scratch_values = omega (arith, room.scratch_values, c.scratch_values.long);
           }
@@ -145,9 +145,9 @@ module _ (op : ℤ → ℤ → ℤ) (fill : Fill) (ks os : List ℕ) (es vs : Li
                 record {
                   groups = grouping-next new_keys c.groups h t;
                   laying = batch-next c.laying w (ek ∙ sym (ap (λ (y : Entry). y.key) at-group)) g
-                      (omega (arith, results-few (once new_keys), all-few, room.room-ends))
-                      (omega (arith, results-few (once new_keys), all-few, room.room-values))
-                      (rw length-set (omega (arith, results-many, room.room-offsets))) (omega (arith, results-many, room.room-keys));
+                      (omega (arith, results_few (once new_keys), all_few, room.room_ends))
+                      (omega (arith, results_few (once new_keys), all_few, room.room_values))
+                      (rw length-set (omega (arith, results_many, room.room_offsets))) (omega (arith, results_many, room.room_keys));
                   left = omega (arith, f.filled.count, group_runs_lem (get_or new_keys first 0), group-left, c.left);
                   scratch_ends = free_next c.scratch_ends f.scratch_ends;
                   scratch_values = free_next c.scratch_values f.scratch_values;
@@ -159,7 +159,7 @@ module _ (op : ℤ → ℤ → ℤ) (fill : Fill) (ks os : List ℕ) (es vs : Li
             let a : length results ≤ n = omega (arith, length-map (once new_keys) (collapse_key op fill entries), group_all new_keys c.groups h) in
             record {
               filled = record {
-                filled = batch-end (omega (arith, room.room-offsets)) c.laying a;
+                filled = batch-end (omega (arith, room.room_offsets)) c.laying a;
                 many = omega (arith, c.laying.laying.within, length-map results (λ (y : Entry). y.runs));
               };
               scratch_ends = c.scratch_ends;

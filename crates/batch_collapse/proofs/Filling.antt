@@ -27,7 +27,7 @@ use Rattle.batch_index.specs.Workers.{doubled, NextPosition}
 use Rattle.batch.specs.Batch.{Entry, entries_from}
 use Rattle.batch_collapse.specs.Calls.{filled_from, filled_group, filled_groups, members}
 use Rattle.batch_collapse.proofs.Few.{merged-long, combined-long}
-use Rattle.batch_collapse.proofs.Members.{members_at, AtMember, at_next, member_at, members-first, members-next, members-end}
+use Rattle.batch_collapse.proofs.Members.{members_at, AtMember, at_next, member_at, members_first, members-next, members_end}
 
 -- ---- with a fill
 
@@ -122,7 +122,7 @@ module _ (op : ℤ → ℤ → ℤ) (ks : List ℕ) (cs : List Runs) (l : length
     member = at_next (get_or ks first 0) ks cs l first s refl;
     sofar = encode (dense (get_or cs first []));
     long = merged-long (get_or cs first []) v;
-    left = rw (members-first (get_or ks first 0) ks cs l first h t refl s);
+    left = rw (members_first (get_or ks first 0) ks cs l first h t refl s);
   }
 
   module _ (key : ℕ) (first : Runs) (at : ℕ) (s : Asking op key ks cs first at) where
@@ -151,4 +151,4 @@ module _ (op : ℤ → ℤ → ℤ) (ks : List ℕ) (cs : List Runs) (l : length
 
     pub asking_end : length ks ≤ at → none ≡ filled_group op Missing (members (entries_from ks cs) key)
     unfolding filled_from
-    asking_end h = sym (s.left ∙ ap (filled_from op Missing s.sofar) (members-end key ks cs l at h))
+    asking_end h = sym (s.left ∙ ap (filled_from op Missing s.sofar) (members_end key ks cs l at h))

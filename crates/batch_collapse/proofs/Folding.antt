@@ -36,8 +36,8 @@ use Rattle.batch_collapse.proofs.Members.{
   at_next,
   member_at,
   members-next,
-  members-end,
-  members-first,
+  members_end,
+  members_first,
   members-all,
   members-few,
 }
@@ -79,8 +79,8 @@ module _ (op : ℤ → ℤ → ℤ) (f : ℤ) {pe pv : List ℤ} {count : ℕ} {
     front_ends : take r e' ≡ ends_of both
     front_ends = front _ e e' d.ends r (d.count ∙ sym (length-ends both))
 
-    front-values : take r v' ≡ values_of both
-    front-values = front _ v v' d.values r (d.count ∙ sym (length-values both))
+    front_values : take r v' ≡ values_of both
+    front_values = front _ v v' d.values r (d.count ∙ sym (length-values both))
 
     pub member-room : (r ≡ length (take r e')) × (r ≡ length (take r v')) × (r ≤ length e') × (r ≤ length v') × (length (take r e') ≤ length s)
         × (length (take r v') ≤ length t)
@@ -88,15 +88,15 @@ module _ (op : ℤ → ℤ → ℤ) (f : ℤ) {pe pv : List ℤ} {count : ℕ} {
         let q = z.zippable in
         let c : length (take count s) ≡ count = length-take-le count s (omega (arith, z.scratch_ends)) in
         let a : length (take r e') ≡ length both = ap length front_ends ∙ length-ends both in
-        let b : length (take r v') ≡ length both = ap length front-values ∙ length-values both in (
+        let b : length (take r v') ≡ length both = ap length front_values ∙ length-values both in (
           d.count ∙ sym a,
           d.count ∙ sym b,
-          rw (long _ e e' d.ends (rw length-ends (omega (arith, both-few, c, q.room-ends)))) (omega (arith, both-few, c, q.room-ends, d.count)),
-          rw (long _ v v' d.values (rw length-values (omega (arith, both-few, c, q.room-values)))) (omega (
+          rw (long _ e e' d.ends (rw length-ends (omega (arith, both-few, c, q.room_ends)))) (omega (arith, both-few, c, q.room_ends, d.count)),
+          rw (long _ v v' d.values (rw length-values (omega (arith, both-few, c, q.room_values)))) (omega (
             arith,
             both-few,
             c,
-            q.room-values,
+            q.room_values,
             d.count,
           )),
           omega (arith, a, both-few, z.scratch_ends),
@@ -110,7 +110,7 @@ module _ (op : ℤ → ℤ → ℤ) (f : ℤ) {pe pv : List ℤ} {count : ℕ} {
         count = d.count;
         ends = a ∙ ap (λ (l : List ℤ). over l s) front_ends;
         values = b ∙ ap (λ
-            (l : List ℤ). over l t) front-values;
+            (l : List ℤ). over l t) front_values;
       };
     }
 
@@ -134,8 +134,8 @@ module _ (ks os : List ℕ) (es vs : List ℤ) where
     })
 
     -- the members of a key have no more runs than the batch
-    pub most-few : (key : ℕ) → member_runs (renamed (batch ks os es vs) nk) key ≤ length es
-    most-few key = omega (arith, members-few nk (columns (flat os es vs)) key, all_runs ks os es vs nk g)
+    pub most_few : (key : ℕ) → member_runs (renamed (batch ks os es vs) nk) key ≤ length es
+    most_few key = omega (arith, members-few nk (columns (flat os es vs)) key, all_runs ks os es vs nk g)
 
     pub group_few : (op : ℤ → ℤ → ℤ) (fill : Fill) (key : ℕ) → length (collapse_runs op fill (members (renamed (batch ks os es vs) nk) key))
         ≤ member_runs (renamed (batch ks os es vs) nk) key
@@ -164,8 +164,8 @@ module _ (ks os : List ℕ) (es vs : List ℤ) (nk : List ℕ) (first : ℕ) whe
   room-kept q le lv ls lt = record {
     within = q.within;
     alone = q.alone;
-    room-ends = rw le q.room-ends;
-    room-values = rw lv q.room-values;
+    room_ends = rw le q.room_ends;
+    room_values = rw lv q.room_values;
     scratch_ends = rw ls q.scratch_ends;
     scratch_values = rw lt q.scratch_values;
   }
@@ -174,11 +174,11 @@ module _ (ks os : List ℕ) (es vs : List ℤ) (nk : List ℕ) (first : ℕ) whe
 
   module _ {together : Bool} (g : Grouped (batch ks os es vs) nk together) where
     low : most ≤ length es
-    low = most-few ks os es vs nk g key
+    low = most_few ks os es vs nk g key
 
     module _ {e v s t : List ℤ} (q : FoldRoom (batch ks os es vs) nk first e v s t) {next : ℕ} (m : NextPosition key nk (first + 1) next) where
       from_first_lem : all ≡ column_at (batch ks os es vs) first ∷ left next
-      from_first_lem = members-first key nk (columns (flat os es vs)) (new_many ks os es vs nk g) first q.within q.alone refl m
+      from_first_lem = members_first key nk (columns (flat os es vs)) (new_many ks os es vs nk g) first q.within q.alone refl m
 
       first-few : length (column_at (batch ks os es vs) first) + total (map length (left next)) ≡ most
       first-few = sym (ap (λ (ms : List Runs). total (map length ms)) from_first_lem)
@@ -194,7 +194,7 @@ module _ (ks os : List ℕ) (es vs : List ℤ) (nk : List ℕ) (first : ℕ) whe
         )
 
         pub first_out : (ends_valid pe ≡ none) × (length pe ≡ length pv) × (length pe ≤ length e) × (length pe ≤ length v)
-        first_out = (p.valid, p.paired, omega (arith, first-few, p.count, q.room-ends), omega (arith, first-few, p.count, q.room-values))
+        first_out = (p.valid, p.paired, omega (arith, first-few, p.count, q.room_ends), omega (arith, first-few, p.count, q.room_values))
 
         first_runs : length (encode (dense (runs_of pe pv))) + total (map length (left next)) ≤ most
         first_runs = rw p.runs (omega (
@@ -232,7 +232,7 @@ module _ (ks os : List ℕ) (es vs : List ℤ) (nk : List ℕ) (first : ℕ) whe
             → FilledGroup (collapse_runs op (Value f) all) (2 * length es) e e' v v' s s t t r
         unfolding collapse_runs collapse_from
         alone-filled h d =
-            rw (from_first_lem g q m, members-end key nk (columns (flat os es vs)) (new_many ks os es vs nk g) at h, ← p.runs)
+            rw (from_first_lem g q m, members_end key nk (columns (flat os es vs)) (new_many ks os es vs nk g) at h, ← p.runs)
             (record { filled = d; scratch_ends = record { long = refl; later = refl }; scratch_values = record { long = refl; later = refl } })
 
         module _ {s₁ t₁ : List ℤ} {n : ℕ} (d : Filled (encode (dense (runs_of pe pv))) s s₁ t t₁ n) where
@@ -250,13 +250,13 @@ module _ (ks os : List ℕ) (es vs : List ℤ) (nk : List ℕ) (first : ℕ) whe
                 folded = record {
                   count = d.count;
                   front_ends = front _ s s₁ d.ends n (d.count ∙ sym (length-ends _));
-                  front-values = front _ t t₁ d.values n (d.count ∙ sym (length-values _));
-                  back-ends = refl;
-                  back-values = refl;
-                  rest-ends = refl;
-                  rest-values = refl;
-                  long-ends = refl;
-                  long-values = refl;
+                  front_values = front _ t t₁ d.values n (d.count ∙ sym (length-values _));
+                  back_ends = refl;
+                  back_values = refl;
+                  rest_ends = refl;
+                  rest_values = refl;
+                  long_ends = refl;
+                  long_values = refl;
                   long_scratch_ends = refl;
                   long_scratch_values = refl;
                 };
@@ -267,18 +267,18 @@ module _ (ks os : List ℕ) (es vs : List ℤ) (nk : List ℕ) (first : ℕ) whe
           unfolding collapse_from
           fold_end {to = to} i h =
               let o = i.folded in
-              let end = members-end key nk (columns (flat os es vs)) (new_many ks os es vs nk g) to h in
+              let end = members_end key nk (columns (flat os es vs)) (new_many ks os es vs nk g) to h in
               let whole : collapse_runs op (Value f) all ≡ i.sofar = i.rest ∙ ap (collapse_from op (Value f) i.sofar) end in
               rw whole (record {
                 count = o.count;
                 front_ends = o.front_ends;
-                front-values = o.front-values;
-                back-ends = o.back-ends ∙ back _ s s₁ d.ends (length es) (rw length-ends (omega (arith, first_runs g q m p, low g)));
-                back-values = o.back-values ∙ back _ t t₁ d.values (length es) (rw length-values (omega (arith, first_runs g q m p, low g)));
-                rest-ends = o.rest-ends;
-                rest-values = o.rest-values;
-                long-ends = o.long-ends;
-                long-values = o.long-values;
+                front_values = o.front_values;
+                back_ends = o.back_ends ∙ back _ s s₁ d.ends (length es) (rw length-ends (omega (arith, first_runs g q m p, low g)));
+                back_values = o.back_values ∙ back _ t t₁ d.values (length es) (rw length-values (omega (arith, first_runs g q m p, low g)));
+                rest_ends = o.rest_ends;
+                rest_values = o.rest_values;
+                long_ends = o.long_ends;
+                long_values = o.long_values;
                 long_scratch_ends = o.long_scratch_ends ∙ (first-long g q m p d).0;
                 long_scratch_values = o.long_scratch_values ∙ (first-long g q m p d).1;
               })
@@ -295,10 +295,10 @@ module _ (ks os : List ℕ) (es vs : List ℤ) (nk : List ℕ) (first : ℕ) whe
               zippable = record {
                 valid_a = rw i.folded.front_ends (valid-ends i.sofar i.valid);
                 valid_b = p.valid;
-                paired_a = c ∙ sym (ap length i.folded.front-values ∙ length-values i.sofar);
+                paired_a = c ∙ sym (ap length i.folded.front_values ∙ length-values i.sofar);
                 paired_b = p.paired;
-                room-ends = omega (arith, here-few, p.count, i.room.room-ends);
-                room-values = omega (arith, here-few, p.count, i.room.room-values);
+                room_ends = omega (arith, here-few, p.count, i.room.room_ends);
+                room_values = omega (arith, here-few, p.count, i.room.room_values);
               };
               scratch_ends = omega (arith, here-few, p.count, low g, i.room.scratch_ends, i.folded.count);
               scratch_values = omega (arith, here-few, p.count, low g, i.room.scratch_values, i.folded.count);
@@ -314,7 +314,7 @@ module _ (ks os : List ℕ) (es vs : List ℤ) (nk : List ℕ) (first : ℕ) whe
         fold_more {e'} {v'} {s'} {t'} {r} {at'} d₀ m =
             let cs = columns (flat os es vs) in
             let o = i.folded in
-            let d : FoldedMember next e e' v v' s s' t t' r = rw (o.front_ends, o.front-values, runs-flat i.sofar, p.runs) at d₀ in
+            let d : FoldedMember next e e' v v' s s' t t' r = rw (o.front_ends, o.front_values, runs-flat i.sofar, p.runs) at d₀ in
             let here = i.place.here h in
             let on : left at ≡ column_at (batch ks os es vs) at ∷ left at' = members-next key nk cs (new_many ks os es vs nk g) at m h here in
             let k : length i.sofar + (length (column_at (batch ks os es vs) at) + total (map length (left at'))) ≤ most = rw on at i.few in
@@ -325,8 +325,8 @@ module _ (ks os : List ℕ) (es vs : List ℤ) (nk : List ℕ) (first : ℕ) whe
               two-few op (Value f) (Value f) i.sofar (column_at (batch ks os es vs) at) i.valid (column-valid ks os es vs
                   g.valid at),
             ) in
-            let le : length e' ≡ length e = long _ e e' d.through.ends (rw length-ends (omega (arith, i.room.room-ends))) in
-            let lv : length v' ≡ length v = long _ v v' d.through.values (rw length-values (omega (arith, i.room.room-values))) in
+            let le : length e' ≡ length e = long _ e e' d.through.ends (rw length-ends (omega (arith, i.room.room_ends))) in
+            let lv : length v' ≡ length v = long _ v v' d.through.values (rw length-values (omega (arith, i.room.room_values))) in
             let ls : length s' ≡ length s = long _ s s' d.filled.ends (rw length-ends (omega (arith, low g, i.room.scratch_ends))) in
             let lt : length t' ≡ length t = long _ t t' d.filled.values (rw length-values (omega (arith, low g, i.room.scratch_values))) in
             record {
@@ -339,13 +339,13 @@ module _ (ks os : List ℕ) (es vs : List ℤ) (nk : List ℕ) (first : ℕ) whe
               folded = record {
                 count = d.filled.count;
                 front_ends = front _ s s' d.filled.ends r (d.filled.count ∙ sym (length-ends next));
-                front-values = front _ t t' d.filled.values r (d.filled.count ∙ sym (length-values next));
-                back-ends = back _ s s' d.filled.ends (length es) (rw length-ends (omega (arith, low g))) ∙ o.back-ends;
-                back-values = back _ t t' d.filled.values (length es) (rw length-values (omega (arith, low g))) ∙ o.back-values;
-                rest-ends = back _ e e' d.through.ends most (rw length-ends (omega arith)) ∙ o.rest-ends;
-                rest-values = back _ v v' d.through.values most (rw length-values (omega arith)) ∙ o.rest-values;
-                long-ends = le ∙ o.long-ends;
-                long-values = lv ∙ o.long-values;
+                front_values = front _ t t' d.filled.values r (d.filled.count ∙ sym (length-values next));
+                back_ends = back _ s s' d.filled.ends (length es) (rw length-ends (omega (arith, low g))) ∙ o.back_ends;
+                back_values = back _ t t' d.filled.values (length es) (rw length-values (omega (arith, low g))) ∙ o.back_values;
+                rest_ends = back _ e e' d.through.ends most (rw length-ends (omega arith)) ∙ o.rest_ends;
+                rest_values = back _ v v' d.through.values most (rw length-values (omega arith)) ∙ o.rest_values;
+                long_ends = le ∙ o.long_ends;
+                long_values = lv ∙ o.long_values;
                 long_scratch_ends = ls ∙ o.long_scratch_ends;
                 long_scratch_values = lt ∙ o.long_scratch_values;
               };

@@ -35,13 +35,13 @@ module _ (ks : List ℕ) where
       ∙ skip (n + 1) d (omega arith) (λ i a b. f i (omega arith) (omega arith))
       ∙ ap (once_at ks) e
 
-  next-once : {n r : ℕ} → NextGroup ks n r → once_at ks n ≡ once_at ks r
-  next-once {n} {r} s =
+  next_once : {n r : ℕ} → NextGroup ks n r → once_at ks n ≡ once_at ks r
+  next_once {n} {r} s =
       let e : n + (r - n) ≡ r = omega (arith, s.after) in
       skip n (r - n) (omega (arith, s.within)) (λ i a b. s.before i a (omega arith)) ∙ ap (once_at ks) e
 
   pub grouping_start : {r : ℕ} → NextGroup ks 0 r → Grouping ks 0 r
-  grouping_start s = record { within = s.within; single = s.here; rest = once-start ks ∙ next-once s }
+  grouping_start s = record { within = s.within; single = s.here; rest = once-start ks ∙ next_once s }
 
   module _ {n first : ℕ} (s : Grouping ks n first) where
     module _ (h : first < length ks) where
@@ -66,7 +66,7 @@ module _ (ks : List ℕ) where
       grouping-next t =
           let b = both in
           let e : drop (suc n) (once ks) ≡ once_at ks (first + 1) = cc in
-          record { within = t.within; single = t.here; rest = ap (λ (m : ℕ). drop m (once ks)) (add-one n) ∙ e ∙ next-once t }
+          record { within = t.within; single = t.here; rest = ap (λ (m : ℕ). drop m (once ks)) (add-one n) ∙ e ∙ next_once t }
 
     pub group_all : length ks ≤ first → length (once ks) ≤ n
     group_all h = omega (arith, ap length (s.rest ∙ once-end ks first h), length-drop n (once ks))

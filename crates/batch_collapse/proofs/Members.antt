@@ -62,15 +62,15 @@ module _ (key : ℕ) (ks : List ℕ) (cs : List Runs) (l : length ks ≡ length 
     pub members-next : at < length ks → get_or ks at 0 ≡ key → members_at key ks cs at ≡ get_or cs at [] ∷ members_at key ks cs r
     members-next h e = member_at at h e ∙ ap {B = List Runs} (λ ms. get_or cs at [] ∷ ms) (next_at (rw e at s))
 
-  pub members-end : (at : ℕ) → length ks ≤ at → members_at key ks cs at ≡ []
+  pub members_end : (at : ℕ) → length ks ≤ at → members_at key ks cs at ≡ []
   unfolding entries_from members
-  members-end at h = rw (drop_of_length-le ks h)
+  members_end at h = rw (drop_of_length-le ks h)
 
   -- the first member
-  pub members-first : (first : ℕ) {r : ℕ} → first < length ks → doubled ks first ≡ false → get_or ks first 0 ≡ key
+  pub members_first : (first : ℕ) {r : ℕ} → first < length ks → doubled ks first ≡ false → get_or ks first 0 ≡ key
       → NextPosition (get_or ks first 0) ks (first + 1) r
       → members (entries_from ks cs) key ≡ get_or cs first [] ∷ members_at key ks cs r
-  members-first first h t e s =
+  members_first first h t e s =
       let z : 0 + first ≡ first = omega arith in
       others 0 first (omega arith) (λ i a b. ne_eqb key (get_or ks i 0) (λ q. among_not (get_or ks first 0) ks first i t (omega arith)
       (omega arith) (e ∙ q)))
@@ -138,7 +138,7 @@ module _ (ks : List ℕ) (cs : List Runs) (l : length ks ≡ length cs) where
       → Summing (get_or ks first 0) ks cs runs r
   summing_start first h t s e = record {
     member = at_next (get_or ks first 0) ks cs l first s refl;
-    sum = rw (members-first (get_or ks first 0) ks cs l first h t refl s) (omega arith);
+    sum = rw (members_first (get_or ks first 0) ks cs l first h t refl s) (omega arith);
   }
 
   module _ (key at : ℕ) {runs : ℕ} (s : Summing key ks cs runs at) where
@@ -159,4 +159,4 @@ module _ (ks : List ℕ) (cs : List Runs) (l : length ks ≡ length cs) where
       }
 
     pub summing_end : length ks ≤ at → runs ≡ member_runs (entries_from ks cs) key
-    summing_end h = omega (arith, s.sum, ap (λ (ms : List Runs). total (map length ms)) (members-end key ks cs l at h))
+    summing_end h = omega (arith, s.sum, ap (λ (ms : List Runs). total (map length ms)) (members_end key ks cs l at h))

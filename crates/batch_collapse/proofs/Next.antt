@@ -23,8 +23,8 @@ pub record Past (P : ℕ → Type 0) (n limit i : ℕ) : Type 0 where
   pub each : (j : ℕ) → n ≤ j → j < i → P j
 
 module _ (P : ℕ → Type 0) where
-  pub past-start : {n limit : ℕ} → n ≤ limit → Past P n limit n
-  past-start h = record { after = omega arith; within = h; each = λ j k l. let z : ⊥ = omega arith in absurd z }
+  pub past_start : {n limit : ℕ} → n ≤ limit → Past P n limit n
+  past_start h = record { after = omega arith; within = h; each = λ j k l. let z : ⊥ = omega arith in absurd z }
 
   pub past_next : {n limit i : ℕ} → Past P n limit i → i < limit → P i → Past P n limit (i + 1)
   past_next {n} {i = i} s h p = record {

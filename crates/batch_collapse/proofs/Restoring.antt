@@ -16,7 +16,7 @@ use Rattle.column.proofs.Rest.{rest-lent, rest_home}
 use Rattle.batch.specs.Batch.{batch}
 use Rattle.batch_collapse.specs.Calls.{collapse_runs, members, renamed}
 use Rattle.batch_collapse.specs.Workers.{Grouped, member_runs, FoldRoom, Folded, FilledGroup}
-use Rattle.batch_collapse.proofs.Folding.{most-few, group_few, room-kept}
+use Rattle.batch_collapse.proofs.Folding.{most_few, group_few, room-kept}
 
 -- the first n of a buffer, written over what came after it
 over-kept : (n : ℕ) (x₀ x : List ℤ) → n ≤ length x₀ → drop n x ≡ drop n x₀ → over (take n x₀) x ≡ x₀
@@ -83,24 +83,24 @@ module _ (ks os : List ℕ) (es vs : List ℤ) (nk : List ℕ) (first : ℕ) {to
     {e v s t : List ℤ} (q : FoldRoom (batch ks os es vs) nk first e v s t)
     {runs : ℕ} (er : runs ≡ member_runs (renamed (batch ks os es vs) nk) (get_or nk first 0)) where
   low : runs ≤ length es
-  low = rw er (most-few ks os es vs nk g (get_or nk first 0))
+  low = rw er (most_few ks os es vs nk g (get_or nk first 0))
 
   pub aside_room : ((runs ≤ length e) × (length es + runs ≤ length s)) × ((runs ≤ length v) × (length es + runs ≤ length t))
   aside_room = (
-    (omega (arith, er, q.room-ends), omega (arith, low, q.scratch_ends)),
-    (omega (arith, er, q.room-values), omega (arith, low, q.scratch_values)),
+    (omega (arith, er, q.room_ends), omega (arith, low, q.scratch_ends)),
+    (omega (arith, er, q.room_values), omega (arith, low, q.scratch_values)),
   )
 
   module _ {s₁ t₁ : List ℤ} (ae : s₁ ≡ take (length es) s ++ over (take runs e) (drop (length es) s))
       (av : t₁ ≡ take (length es) t ++ over (take runs v) (drop (length es) t)) where
-    long-ends : length s₁ ≡ length s
-    long-ends = aside_long (length es) runs e e s s₁ s low aside_room.0.0 q.scratch_ends ae
+    long_ends : length s₁ ≡ length s
+    long_ends = aside_long (length es) runs e e s s₁ s low aside_room.0.0 q.scratch_ends ae
 
-    long-values : length t₁ ≡ length t
-    long-values = aside_long (length es) runs v v t t₁ t low aside_room.1.0 q.scratch_values av
+    long_values : length t₁ ≡ length t
+    long_values = aside_long (length es) runs v v t t₁ t low aside_room.1.0 q.scratch_values av
 
     pub aside_kept : FoldRoom (batch ks os es vs) nk first e v s₁ t₁
-    aside_kept = room-kept ks os es vs nk first q refl refl long-ends long-values
+    aside_kept = room-kept ks os es vs nk first q refl refl long_ends long_values
 
     module _ (op : ℤ → ℤ → ℤ) (f : ℤ) {e₂ v₂ s₂ t₂ : List ℤ} {r : ℕ}
         (d : Folded (collapse_runs op (Value f) (members (renamed (batch ks os es vs) nk) (get_or nk first 0))) (length es)
@@ -109,30 +109,30 @@ module _ (ks os : List ℕ) (es vs : List ℤ) (nk : List ℕ) (first : ℕ) {to
           (runs ≤ length v₂) × (r ≤ runs))
       back-room =
           let few : r ≤ runs = omega (arith, d.count, er, group_few ks os es vs nk g op (Value f) (get_or nk first 0)) in (
-            (omega (arith, aside_room.0.1, d.long_scratch_ends, long-ends), omega (arith, aside_room.0.0, d.long-ends), few),
-            (omega (arith, aside_room.1.1, d.long_scratch_values, long-values), omega (arith, aside_room.1.0, d.long-values), few),
+            (omega (arith, aside_room.0.1, d.long_scratch_ends, long_ends), omega (arith, aside_room.0.0, d.long_ends), few),
+            (omega (arith, aside_room.1.1, d.long_scratch_values, long_values), omega (arith, aside_room.1.0, d.long_values), few),
           )
 
       pub group-filled : {e₃ v₃ : List ℤ} → e₃ ≡ over (take r s₂) (over (take runs (drop (length es) s₂)) e₂)
           → v₃ ≡ over (take r t₂) (over (take runs (drop (length es) t₂)) v₂)
           → FilledGroup (collapse_runs op (Value f) (members (renamed (batch ks os es vs) nk) (get_or nk first 0))) (2 * length es) e e₃ v v₃ s s₂ t t₂ r
       group-filled be bv =
-          let re : drop runs e₂ ≡ drop runs e = rw er d.rest-ends in
-          let rv : drop runs v₂ ≡ drop runs v = rw er d.rest-values in
+          let re : drop runs e₂ ≡ drop runs e = rw er d.rest_ends in
+          let rv : drop runs v₂ ≡ drop runs v = rw er d.rest_values in
           record {
             filled = record {
               count = d.count;
               ends = be ∙ ap₂ over d.front_ends (aside_back (length es) runs e e₂ s s₁ s₂ low aside_room.0.0 q.scratch_ends ae
-                  d.back-ends re);
-              values = bv ∙ ap₂ over d.front-values
-                  (aside_back (length es) runs v v₂ t t₁ t₂ low aside_room.1.0 q.scratch_values av d.back-values rv);
+                  d.back_ends re);
+              values = bv ∙ ap₂ over d.front_values
+                  (aside_back (length es) runs v v₂ t t₁ t₂ low aside_room.1.0 q.scratch_values av d.back_values rv);
             };
             scratch_ends = record {
-              long = d.long_scratch_ends ∙ long-ends;
-              later = aside_later (length es) runs e e₂ s s₁ s₂ low aside_room.0.0 q.scratch_ends ae d.back-ends;
+              long = d.long_scratch_ends ∙ long_ends;
+              later = aside_later (length es) runs e e₂ s s₁ s₂ low aside_room.0.0 q.scratch_ends ae d.back_ends;
             };
             scratch_values = record {
-              long = d.long_scratch_values ∙ long-values;
-              later = aside_later (length es) runs v v₂ t t₁ t₂ low aside_room.1.0 q.scratch_values av d.back-values;
+              long = d.long_scratch_values ∙ long_values;
+              later = aside_later (length es) runs v v₂ t t₁ t₂ low aside_room.1.0 q.scratch_values av d.back_values;
             };
           }

@@ -25,11 +25,11 @@ pub record Level (ks : List ℕ) (n : ℕ) : Type 0 where
   pub level : (i : ℕ) → i < n → 0 < i → get_or ks (i - 1) 0 ≤ get_or ks i 0
 
 module _ (ks : List ℕ) where
-  pub level-start : Level ks 1
-  level-start = record { past = omega arith; level = λ i h k. let z : ⊥ = omega arith in absurd z }
+  pub level_start : Level ks 1
+  level_start = record { past = omega arith; level = λ i h k. let z : ⊥ = omega arith in absurd z }
 
-  pub level-next : (n : ℕ) → Level ks n → get_or ks (n - 1) 0 ≤ get_or ks n 0 → Level ks (n + 1)
-  level-next n s h = record { past = omega arith; level = below_more (λ i. 0 < i → get_or ks (i - 1) 0 ≤ get_or ks i 0) n s.level (λ k. h) }
+  pub level_next : (n : ℕ) → Level ks n → get_or ks (n - 1) 0 ≤ get_or ks n 0 → Level ks (n + 1)
+  level_next n s h = record { past = omega arith; level = below_more (λ i. 0 < i → get_or ks (i - 1) 0 ≤ get_or ks i 0) n s.level (λ k. h) }
 
   -- a key is not above one after it
   rises : (n : ℕ) → Level ks n → (i d : ℕ) → i + d < n → get_or ks i 0 ≤ get_or ks (i + d) 0
@@ -39,8 +39,8 @@ module _ (ks : List ℕ) where
       let l : get_or ks (i + d) 0 ≤ get_or ks (i + suc d) 0 = rw e at (s.level (i + suc d) h (omega arith)) in
       omega (arith, rises n s i d (omega arith))
 
-  pub level-end : (n : ℕ) → Level ks n → length ks ≤ n → Together ks
-  level-end n s l i p h =
+  pub level_end : (n : ℕ) → Level ks n → length ks ≤ n → Together ks
+  level_end n s l i p h =
       by-test (eqb (get_or ks i 0) (get_or ks (i - 1) 0))
       (λ t. among_at (get_or ks i 0) ks i (i - 1) (omega arith) (omega arith) (eqb-true (get_or ks i 0) (get_or ks (i - 1) 0) t) ∙ sym t)
       (λ t. among_none (get_or ks i 0) ks i (omega arith)
@@ -50,8 +50,8 @@ module _ (ks : List ℕ) where
       ∙ sym t)
 
   -- keys none of which is given twice
-  pub single-together : {r : ℕ} → FirstDouble ks r → r ≡ length ks → Together ks
-  single-together f e i p h =
+  pub single_together : {r : ℕ} → FirstDouble ks r → r ≡ length ks → Together ks
+  single_together f e i p h =
       let n = f.before i (omega arith) in
       n ∙ sym (ne_eqb (get_or ks i 0) (get_or ks (i - 1) 0) (λ k. among_not (get_or ks i 0) ks i (i - 1) n (omega arith) (omega arith) k))
 

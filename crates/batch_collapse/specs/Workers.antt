@@ -64,8 +64,8 @@ pub record FoldedMember (rs : Runs) (e e' v v' s s' t t' : List ℤ) (r : ℕ) :
 pub record FoldRoom (b : Batch) (new_keys : List ℕ) (first : ℕ) (e v s t : List ℤ) : Type 0 where
   pub within : first < length new_keys
   pub alone : doubled new_keys first ≡ false
-  pub room-ends : member_runs (renamed b new_keys) (get_or new_keys first 0) ≤ length e
-  pub room-values : member_runs (renamed b new_keys) (get_or new_keys first 0) ≤ length v
+  pub room_ends : member_runs (renamed b new_keys) (get_or new_keys first 0) ≤ length e
+  pub room_values : member_runs (renamed b new_keys) (get_or new_keys first 0) ≤ length v
   pub scratch_ends : 2 * length b.flat.ends ≤ length s
   pub scratch_values : 2 * length b.flat.ends ≤ length t
 
@@ -73,13 +73,13 @@ pub record FoldRoom (b : Batch) (new_keys : List ℕ) (first : ℕ) (e v s t : L
 pub record Folded (rs : Runs) (n m : ℕ) (e e' v v' s s' t t' : List ℤ) (r : ℕ) : Type 0 where
   pub count : r ≡ length rs
   pub front_ends : take r s' ≡ ends_of rs
-  pub front-values : take r t' ≡ values_of rs
-  pub back-ends : drop n s' ≡ drop n s
-  pub back-values : drop n t' ≡ drop n t
-  pub rest-ends : drop m e' ≡ drop m e
-  pub rest-values : drop m v' ≡ drop m v
-  pub long-ends : length e' ≡ length e
-  pub long-values : length v' ≡ length v
+  pub front_values : take r t' ≡ values_of rs
+  pub back_ends : drop n s' ≡ drop n s
+  pub back_values : drop n t' ≡ drop n t
+  pub rest_ends : drop m e' ≡ drop m e
+  pub rest_values : drop m v' ≡ drop m v
+  pub long_ends : length e' ≡ length e
+  pub long_values : length v' ≡ length v
   pub long_scratch_ends : length s' ≡ length s
   pub long_scratch_values : length t' ≡ length t
 
@@ -97,10 +97,10 @@ pub record FilledGroup (rs : Runs) (n : ℕ) (e e' v v' s s' t t' : List ℤ) (r
 -- ---- all groups
 
 pub record CollapseRoom (b : Batch) (k x : List ℕ) (e v s t : List ℤ) : Type 0 where
-  pub room-keys : length b.keys ≤ length k
-  pub room-offsets : length b.keys + 1 ≤ length x
-  pub room-ends : length b.flat.ends ≤ length e
-  pub room-values : length b.flat.ends ≤ length v
+  pub room_keys : length b.keys ≤ length k
+  pub room_offsets : length b.keys + 1 ≤ length x
+  pub room_ends : length b.flat.ends ≤ length e
+  pub room_values : length b.flat.ends ≤ length v
   pub scratch_ends : 2 * length b.flat.ends ≤ length s
   pub scratch_values : 2 * length b.flat.ends ≤ length t
 

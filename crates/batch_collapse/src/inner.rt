@@ -4,15 +4,14 @@ ghost use Rattle.num.specs.Numbers.{operation};
 ghost use Rattle.column.specs.declared.answer.Fill.TheVariants.{Value, Missing};
 ghost use Rattle.column.specs.Asking.{shown_asked};
 ghost use Rattle.column.specs.Combine.{combined};
-ghost use Rattle.column.specs.Runs.{sequence, over, given_sequence};
+ghost use Rattle.column.specs.Runs.{sequence, over};
 ghost use Rattle.batch_index.specs.Workers.{doubled, NextPosition, Linked, LinkLent, Chains, Listed};
 ghost use Rattle.ops.specs.Calls.{sides};
-ghost use Rattle.batch.specs.Batch.{batch, given_batch};
+ghost use Rattle.batch.specs.Batch.{batch};
 ghost use Rattle.batch_keys.specs.Calls.{once};
 ghost use Rattle.batch_collapse.specs.Calls.{collapse_runs, filled_group, members, renamed, filled_groups, collapse_key};
 ghost use Rattle.batch_collapse.specs.Workers.{Together, NextGroup, Chained, AtGroup, Grouped, member_runs, Foldable};
 ghost use Rattle.batch_collapse.specs.Workers.{FoldedMember, FoldRoom, Folded, FilledGroup, CollapseRoom, FilledGroups};
-ghost use Rattle.column.specs.Lent.{given, after};
 
 use batch::inner::{copy, part_at};
 use batch_index::inner::links;
@@ -29,7 +28,7 @@ pub struct Group {
 
 // Whether no key is below the one before it.
 fn never_fall(keys: &[u32]) -> bool
-    ensures { result ≡ true → Together (given keys) }
+    ensures { result ≡ true → Together keys.now }
 {
     let mut i: usize = 1;
     while i < keys.len() {
@@ -45,7 +44,7 @@ fn never_fall(keys: &[u32]) -> bool
 
 // Whether it is known that equal keys stand together: the keys never fall, or none is given twice.
 pub fn stand_together(keys: &[u32]) -> bool
-    ensures { result ≡ true → Together (given keys) }
+    ensures { result ≡ true → Together keys.now }
 {
     if never_fall(keys) {
         return true;
@@ -55,7 +54,7 @@ pub fn stand_together(keys: &[u32]) -> bool
 
 // Whether the new keys are linked: they do not stand together, and are not so few that a scan is quicker.
 pub fn links_pay(keys: &[u32], together: bool) -> bool
-    ensures { result ≡ true → length (given keys) < 2 ^ 32 }
+    ensures { result ≡ true → length keys.now < 2 ^ 32 }
 {
     if together {
         return false;
@@ -69,7 +68,7 @@ pub fn links_pay(keys: &[u32], together: bool) -> bool
 // Whether the key at a position stands before it too.
 fn stands_before(keys: &[u32], together: bool, i: usize) -> bool
     requires { (together ≡ true → Together keys.now) × (i < length keys.now) }
-    ensures { result ≡ doubled (given keys) i }
+    ensures { result ≡ doubled keys.now i }
 {
     if i == 0 {
         return false;
@@ -84,7 +83,7 @@ fn stands_before(keys: &[u32], together: bool, i: usize) -> bool
 // The same, by the first entry of the key if it is linked.
 fn is_again(keys: &[u32], together: bool, links: Links, entry: usize, i: usize) -> bool
     requires { (together ≡ true → Together keys.now) × (i < length keys.now) × (links.linked ≡ true → leb 2048 entry ≡ doubled keys.now i) }
-    ensures { result ≡ doubled (given keys) i }
+    ensures { result ≡ doubled keys.now i }
 {
     if links.linked {
         return links::CAPACITY <= entry;
@@ -111,7 +110,7 @@ fn next_group(
 ) -> Group
     requires { (together ≡ true → Together keys.now) × (from ≤ length keys.now) × (links.from ≤ from)
         × Linked keys.now first.old next.old positions.old links × LinkLent keys.now first.old next.old positions.old }
-    ensures { NextGroup (given keys) from result.first.at × AtGroup (given keys) (after first) (after next) (after positions) result }
+    ensures { NextGroup keys.now from result.first.at × AtGroup keys.now first.new next.new positions.new result }
 {
     let mut links = links;
     let mut i = from;
@@ -129,7 +128,7 @@ fn next_group(
 // The next position of the key at `last`, after that.
 fn next_equal(keys: &[u32], together: bool, last: usize) -> usize
     requires { (together ≡ true → Together keys.now) × (last < length keys.now) }
-    ensures { NextPosition (get_or (given keys) last 0) (given keys) (last + 1) result }
+    ensures { NextPosition (get_or keys.now last 0) keys.now (last + 1) result }
 {
     let key = keys[last];
     let next = last + 1;
@@ -155,8 +154,8 @@ fn next_member(
 ) -> Member
     requires { (together ≡ true → Together keys.now) × (last.at < length keys.now) × Chains keys.now next.now positions.now links
         × Listed keys.now positions.now links last }
-    ensures { NextPosition (get_or (given keys) last.at 0) (given keys) (last.at + 1) result.at
-        × Listed (given keys) (given positions) links result }
+    ensures { NextPosition (get_or keys.now last.at 0) keys.now (last.at + 1) result.at
+        × Listed keys.now positions.now links result }
 {
     if links.linked {
         return links::next_entry(keys, links, next, positions, last.entry);
@@ -184,7 +183,7 @@ fn ask_group(
         × (group.first.at < length new_keys.now) × (doubled new_keys.now group.first.at ≡ false)
         × Chained new_keys.now next.now positions.now group }
     ensures { shown_asked result ≡ filled_group (operation code)
-        Missing (members (renamed (given_batch keys offsets ends values) (given new_keys)) (get_or (given new_keys) group.first.at 0)) }
+        Missing (members (renamed (batch keys.now offsets.now ends.now values.now) new_keys.now) (get_or new_keys.now group.first.at 0)) }
 {
     let links = group.links;
     let first = group.first.at;
@@ -219,7 +218,7 @@ fn ask_all_groups(
     requires { Grouped (batch keys.now offsets.now ends.now values.now) new_keys.now together
         × LinkLent new_keys.now first.old next.old positions.old }
     ensures { shown_asked result ≡ filled_groups
-        (operation code) Missing (renamed (given_batch keys offsets ends values) (given new_keys)) (once (given new_keys)) }
+        (operation code) Missing (renamed (batch keys.now offsets.now ends.now values.now) new_keys.now) (once new_keys.now) }
 {
     let mut n: usize = 0;
     let mut group = next_group(
@@ -280,7 +279,7 @@ pub fn ask_groups(
     requires { Grouped (batch keys.now offsets.now ends.now values.now) new_keys.now together
         × LinkLent new_keys.now first.old next.old positions.old }
     ensures { shown_asked result ≡
-        filled_groups (operation code) fill (renamed (given_batch keys offsets ends values) (given new_keys)) (once (given new_keys)) }
+        filled_groups (operation code) fill (renamed (batch keys.now offsets.now ends.now values.now) new_keys.now) (once new_keys.now) }
 {
     match fill {
         Fill::Value(_) => Asked::Yes,
@@ -305,7 +304,7 @@ fn group_runs(
     requires { Grouped (batch keys.now offsets.now ends.now values.now) new_keys.now together
         × (group.first.at < length new_keys.now) × (doubled new_keys.now group.first.at ≡ false)
         × Chained new_keys.now next.now positions.now group }
-    ensures { result ≡ member_runs (renamed (given_batch keys offsets ends values) (given new_keys)) (get_or (given new_keys) group.first.at 0) }
+    ensures { result ≡ member_runs (renamed (batch keys.now offsets.now ends.now values.now) new_keys.now) (get_or new_keys.now group.first.at 0) }
 {
     let links = group.links;
     let first = group.first.at;
@@ -335,9 +334,9 @@ fn fold_member(
         (sequence ends.now values.now) count out_ends.old out_values.old scratch_ends.old scratch_values.old }
     ensures { FoldedMember
         (combined (operation code)
-        (sides (sequence (take count (given scratch_ends)) (take count (given scratch_values))) (given_sequence ends values) (Value fill)
-        (Value fill))) (given out_ends) (after out_ends) (given out_values)
-        (after out_values) (given scratch_ends) (after scratch_ends) (given scratch_values) (after scratch_values) result }
+        (sides (sequence (take count scratch_ends.old) (take count scratch_values.old)) (sequence ends.now values.now) (Value fill)
+        (Value fill))) out_ends.old out_ends.new out_values.old
+        out_values.new scratch_ends.old scratch_ends.new scratch_values.old scratch_values.new result }
 {
     let runs = ops::inner::zip_with(
         &scratch_ends[..count],
@@ -379,11 +378,11 @@ fn fold_group(
         × Chained new_keys.now next.now positions.now group }
     ensures { Folded
         (collapse_runs (operation code) (Value fill)
-        (members (renamed (given_batch keys offsets ends values) (given new_keys)) (get_or (given new_keys) group.first.at 0)))
-        (length (given ends))
-        (member_runs (renamed (given_batch keys offsets ends values) (given new_keys)) (get_or (given new_keys) group.first.at 0)) (given out_ends)
-        (after out_ends) (given out_values)
-        (after out_values) (given scratch_ends) (after scratch_ends) (given scratch_values) (after scratch_values) result }
+        (members (renamed (batch keys.now offsets.now ends.now values.now) new_keys.now) (get_or new_keys.now group.first.at 0)))
+        (length ends.now)
+        (member_runs (renamed (batch keys.now offsets.now ends.now values.now) new_keys.now) (get_or new_keys.now group.first.at 0)) out_ends.old
+        out_ends.new out_values.old
+        out_values.new scratch_ends.old scratch_ends.new scratch_values.old scratch_values.new result }
 {
     let links = group.links;
     let first = group.first.at;
@@ -415,7 +414,7 @@ fn fold_group(
 // The first entries of a buffer, copied after the first n of a scratch buffer.
 fn put_aside(entries: &[i64], runs: usize, scratch: &mut [i64], n: usize)
     requires { (runs ≤ length entries.now) × (n + runs ≤ length scratch.old) }
-    ensures { after scratch ≡ take n (given scratch) ++ over (take runs (given entries)) (drop n (given scratch)) }
+    ensures { scratch.new ≡ take n scratch.old ++ over (take runs entries.now) (drop n scratch.old) }
 {
     copy(&entries[..runs], &mut scratch[n..]);
 }
@@ -423,7 +422,7 @@ fn put_aside(entries: &[i64], runs: usize, scratch: &mut [i64], n: usize)
 // The entries that were put aside, copied back, and over them the first of the scratch buffer.
 fn put_back(scratch: &[i64], n: usize, runs: usize, count: usize, out: &mut [i64])
     requires { (n + runs ≤ length scratch.now) × (runs ≤ length out.old) × (count ≤ runs) }
-    ensures { after out ≡ over (take count (given scratch)) (over (take runs (drop n (given scratch))) (given out)) }
+    ensures { out.new ≡ over (take count scratch.now) (over (take runs (drop n scratch.now)) out.old) }
 {
     copy(&scratch[n..n + runs], out);
     copy(&scratch[..count], out);
@@ -453,9 +452,9 @@ fn collapse_group(
         × Chained new_keys.now next.now positions.now group }
     ensures { FilledGroup
         (collapse_runs (operation code) (Value fill)
-        (members (renamed (given_batch keys offsets ends values) (given new_keys)) (get_or (given new_keys) group.first.at 0)))
-        (2 * length (given ends)) (given out_ends) (after out_ends) (given out_values)
-        (after out_values) (given scratch_ends) (after scratch_ends) (given scratch_values) (after scratch_values) result }
+        (members (renamed (batch keys.now offsets.now ends.now values.now) new_keys.now) (get_or new_keys.now group.first.at 0)))
+        (2 * length ends.now) out_ends.old out_ends.new out_values.old
+        out_values.new scratch_ends.old scratch_ends.new scratch_values.old scratch_values.new result }
 {
     let first = group.first.at;
     let second = next_member(
@@ -527,10 +526,10 @@ pub fn collapse(
         out_keys.old out_offsets.old out_ends.old out_values.old scratch_ends.old scratch_values.old
         × LinkLent new_keys.now first.old next.old positions.old }
     ensures { FilledGroups
-        (map (collapse_key (operation code) (Value fill) (renamed (given_batch keys offsets ends values) (given new_keys)))
-        (once (given new_keys))) (2 * length (given ends)) (given out_keys) (after out_keys) (given out_offsets)
-        (after out_offsets) (given out_ends) (after out_ends) (given out_values)
-        (after out_values) (given scratch_ends) (after scratch_ends) (given scratch_values) (after scratch_values) result }
+        (map (collapse_key (operation code) (Value fill) (renamed (batch keys.now offsets.now ends.now values.now) new_keys.now))
+        (once new_keys.now)) (2 * length ends.now) out_keys.old out_keys.new out_offsets.old
+        out_offsets.new out_ends.old out_ends.new out_values.old
+        out_values.new scratch_ends.old scratch_ends.new scratch_values.old scratch_values.new result }
 {
     out_offsets[0] = 0;
     let mut used: usize = 0;

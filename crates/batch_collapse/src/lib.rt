@@ -8,11 +8,10 @@ ghost use Rattle.std.proofs.Math.Option.{none};
 ghost use Rattle.column.specs.Asking.{shown_asked};
 ghost use Rattle.column.specs.Questions.{room, both};
 ghost use Rattle.batch_index.specs.Workers.{LinkLent};
-ghost use Rattle.batch.specs.Batch.{batch, given_batch};
+ghost use Rattle.batch.specs.Batch.{batch};
 ghost use Rattle.batch_collapse.specs.Calls.{WritesCollapse};
 ghost use Rattle.batch_collapse.specs.Calls as calls;
 ghost use Rattle.batch_collapse.specs.Workers.{Together};
-ghost use Rattle.column.specs.Lent.{given};
 
 use batch_index::inner::links;
 use column::answer::{Asked, Batched, Fill};
@@ -25,7 +24,7 @@ fn collapse_asks(
     new_keys: &[u32],
     code: u8,
 ) -> Asked
-    ensures { shown_asked result ≡ calls.collapse_asked (given_batch keys offsets ends values) (given new_keys) code }
+    ensures { shown_asked result ≡ calls.collapse_asked (batch keys.now offsets.now ends.now values.now) new_keys.now code }
 {
     questions::ask_code(0, 9, code)
         .and(batch::ask_lengths(keys, offsets, ends, values))
@@ -84,8 +83,8 @@ fn collapse_by(
 ) -> Batched
     requires { (calls.collapse_asked (batch keys.now offsets.now ends.now values.now) new_keys.now code ≡ none)
         × (together ≡ true → Together new_keys.now) × LinkLent new_keys.now first.old next.old positions.old }
-    ensures { WritesCollapse (calls.collapse (given_batch keys offsets ends values) (given new_keys) fill code)
-        (2 * length (given ends)) out_keys out_offsets out_ends out_values scratch_ends scratch_values result }
+    ensures { WritesCollapse (calls.collapse (batch keys.now offsets.now ends.now values.now) new_keys.now fill code)
+        (2 * length ends.now) out_keys out_offsets out_ends out_values scratch_ends scratch_values result }
 {
     let fits = inner::ask_groups(
         keys,
@@ -155,8 +154,8 @@ pub fn collapse(
     scratch_ends: &mut [i64],
     scratch_values: &mut [i64],
 ) -> Batched
-    ensures { WritesCollapse (calls.collapse (given_batch keys offsets ends values) (given new_keys) fill code)
-        (2 * length (given ends)) out_keys out_offsets out_ends out_values scratch_ends scratch_values result }
+    ensures { WritesCollapse (calls.collapse (batch keys.now offsets.now ends.now values.now) new_keys.now fill code)
+        (2 * length ends.now) out_keys out_offsets out_ends out_values scratch_ends scratch_values result }
 {
     let asked = collapse_asks(keys, offsets, ends, values, new_keys, code);
     match asked {

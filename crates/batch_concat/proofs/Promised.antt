@@ -60,10 +60,10 @@ module _ (ka oa : List ℕ) (ea va : List ℤ) (kb ob : List ℕ) (eb vb : List 
           first = t.0;
           second = t.1;
           fitting = z.1.0;
-          room-keys = m.for_keys;
-          room-offsets = m.for_offsets;
-          room-ends = m.for_ends;
-          room-values = m.for_values;
+          room_keys = m.for_keys;
+          room_offsets = m.for_offsets;
+          room_ends = m.for_ends;
+          room_values = m.for_values;
         }
 
     pub concat-written : {k' x' : List ℕ} {e' v' : List ℤ} {r : RleBatch} → q ≡ none → FilledCounts result k k' x x' e e' v v' r

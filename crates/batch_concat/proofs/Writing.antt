@@ -82,7 +82,7 @@ module _ (ka oa : List ℕ) (ea va : List ℤ) (kb ob : List ℕ) (eb vb : List 
     pub write_start : {j : Joined} → NextKept (key_at ka kb) (length ka + length kb) 0 j → Writing k₀ k₀ (set x₀ 0 0) (set x₀ 0 0) e₀ e₀ v₀ v₀ 0 0 j
     unfolding fit_keys
     write_start k = record {
-      laying = batch-start result k₀ x₀ e₀ v₀ (omega (arith, p.room-offsets));
+      laying = batch-start result k₀ x₀ e₀ v₀ (omega (arith, p.room_offsets));
       follows = follow-start ka kb k;
       room = omega (arith, all_runs);
       fitting = p.fitting;
@@ -98,7 +98,7 @@ module _ (ka oa : List ℕ) (ea va : List ℤ) (kb ob : List ℕ) (eb vb : List 
 
         -- there is room for the key and the offset after it
         pub write-within : (n < length k₀) × (n + 1 < length x₀)
-        write-within = (omega (arith, within, once-short ka kb, p.room-keys), omega (arith, within, once-short ka kb, p.room-offsets))
+        write-within = (omega (arith, within, once-short ka kb, p.room_keys), omega (arith, within, once-short ka kb, p.room_offsets))
 
         -- the key's position in the second, or that of its end
         pub write-b : j.b ≤ length kb
@@ -135,8 +135,8 @@ module _ (ka oa : List ℕ) (ea va : List ℤ) (kb ob : List ℕ) (eb vb : List 
           -- and for the runs
           pub write-room : (used + (length pa + length pb) ≤ length e) × (used + (length pa + length pb) ≤ length v)
           write-room = (
-            omega (arith, next-room, count-a, count-b, p.room-ends, s.laying.laying.long-ends),
-            omega (arith, next-room, count-a, count-b, p.room-values, s.laying.laying.long-values),
+            omega (arith, next-room, count-a, count-b, p.room_ends, s.laying.laying.long_ends),
+            omega (arith, next-room, count-a, count-b, p.room_values, s.laying.laying.long_values),
           )
 
           pub write-joinable : JoinableTwo pa qa pb qb (take (length e - used) (drop used e)) (take (length v - used) (drop used v))
@@ -146,8 +146,8 @@ module _ (ka oa : List ℕ) (ea va : List ℤ) (kb ob : List ℕ) (eb vb : List 
             paired_a = rw (epa, eqa) (parts-paired ka oa ea va p.first j.a);
             paired_b = rw (epb, eqb) (parts-paired kb ob eb vb p.second j.b);
             fitting = rw (found-a, found-b) at (fits_told (length_of (find key l) + length_of (find key r)) next-fitting.0);
-            room-ends = rw rest-length (omega (arith, write-room.0));
-            room-values = rw rest-length (omega (arith, write-room.1));
+            room_ends = rw rest-length (omega (arith, write-room.0));
+            room_values = rw rest-length (omega (arith, write-room.1));
           }
 
           module _ {e₂ v₂ : List ℤ} {m : ℕ}
@@ -168,9 +168,9 @@ module _ (ka oa : List ℕ) (ea va : List ℤ) (kb ob : List ℕ) (eb vb : List 
             write_next k = record {
               laying = batch-next s.laying (rw length-map within) (follow-key ka kb s.follows h ∙ ap (λ (t : Entry). t.key) (sym entry))
                   (rw runs_at_lem at f)
-                  (omega (arith, all_results, p.room-ends)) (omega (arith, all_results, p.room-values))
-                  (rw (length-set x₀ 0 0) (omega (arith, many, p.room-offsets)))
-                  (omega (arith, many, p.room-keys));
+                  (omega (arith, all_results, p.room_ends)) (omega (arith, all_results, p.room_values))
+                  (rw (length-set x₀ 0 0) (omega (arith, many, p.room_offsets)))
+                  (omega (arith, many, p.room_keys));
               follows = follow-next ka kb s.follows h k;
               room = omega (arith, next-room, write-used, count-a, count-b);
               fitting = next-fitting.1;
@@ -181,6 +181,6 @@ module _ (ka oa : List ℕ) (ea va : List ℤ) (kb ob : List ℕ) (eb vb : List 
           let z = follow-end ka kb s.follows h in
           let m : length result ≡ length ks = length-map ks (concat_key l r) in
           record {
-            filled = batch-end (omega (arith, p.room-offsets)) s.laying (omega arith);
+            filled = batch-end (omega (arith, p.room_offsets)) s.laying (omega arith);
             many = omega (arith, s.laying.laying.within, length-map result (λ (t : Entry). t.runs));
           }

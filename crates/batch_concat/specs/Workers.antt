@@ -20,7 +20,7 @@ pub record ConcatRoom (a b : Batch) (k x : List ℕ) (e v : List ℤ) : Type 0 w
   pub first : ValidBatch a
   pub second : ValidBatch b
   pub fitting : fit_keys (entries a) (entries b) (once (a.keys ++ b.keys)) ≡ none
-  pub room-keys : length a.keys + length b.keys ≤ length k
-  pub room-offsets : length a.keys + length b.keys + 1 ≤ length x
-  pub room-ends : length a.flat.ends + length b.flat.ends ≤ length e
-  pub room-values : length a.flat.ends + length b.flat.ends ≤ length v
+  pub room_keys : length a.keys + length b.keys ≤ length k
+  pub room_offsets : length a.keys + length b.keys + 1 ≤ length x
+  pub room_ends : length a.flat.ends + length b.flat.ends ≤ length e
+  pub room_values : length a.flat.ends + length b.flat.ends ≤ length v

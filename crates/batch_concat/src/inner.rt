@@ -2,12 +2,11 @@
 ghost use Rattle.std.specs.Prelude.{◌+◌, ◌≤◌, ◌<◌, true, ◌&&◌, ◌++◌, map, ◌≡◌, length};
 ghost use Rattle.column.specs.Asking.{shown_asked};
 ghost use Rattle.batch_keys.specs.Workers.{block_size};
-ghost use Rattle.batch.specs.Batch.{batch, entries, given_batch};
+ghost use Rattle.batch.specs.Batch.{batch, entries};
 ghost use Rattle.batch.specs.Workers.{ValidBatch, NextKept, KnownKeys, KeptOther, FillsCounts};
 ghost use Rattle.batch_keys.specs.Calls.{once};
 ghost use Rattle.batch_concat.specs.Calls.{concat_key, fit_keys};
 ghost use Rattle.batch_concat.specs.Workers.{key_at, ConcatRoom};
-ghost use Rattle.column.specs.Lent.{given, after};
 
 use batch::inner::lookup::Lookup;
 use batch::inner::part_at;
@@ -35,8 +34,8 @@ fn key_at(
 ) -> Joined
     requires { KnownKeys a_keys.now b_keys.now lookup × (at < length a_keys.now + length b_keys.now)
         × KeptOther a_keys.now b_keys.now lookup.indexed block.old at }
-    ensures { (result ≡ key_at (given a_keys) (given b_keys) at)
-        × KeptOther (given a_keys) (given b_keys) lookup.indexed (after block) (at + 1) }
+    ensures { (result ≡ key_at a_keys.now b_keys.now at)
+        × KeptOther a_keys.now b_keys.now lookup.indexed block.new (at + 1) }
 {
     let a_order = lookup.a;
     let b_order = lookup.b;
@@ -75,9 +74,9 @@ fn next_key(
 ) -> Joined
     requires { KnownKeys a_keys.now b_keys.now lookup × (from ≤ length a_keys.now + length b_keys.now)
         × KeptOther a_keys.now b_keys.now lookup.indexed block.old from }
-    ensures { NextKept (key_at (given a_keys) (given b_keys)) (length (given a_keys) + length (given b_keys)) from result ×
-        (result.at < length (given a_keys)
-        + length (given b_keys) → KeptOther (given a_keys) (given b_keys) lookup.indexed (after block) (result.at + 1)) }
+    ensures { NextKept (key_at a_keys.now b_keys.now) (length a_keys.now + length b_keys.now) from result ×
+        (result.at < length a_keys.now
+        + length b_keys.now → KeptOther a_keys.now b_keys.now lookup.indexed block.new (result.at + 1)) }
 {
     let places = a_keys.len() + b_keys.len();
     let mut at = from;
@@ -113,8 +112,8 @@ pub fn ask_joined(
     requires { ValidBatch (batch a_keys.now a_offsets.now a_ends.now a_values.now)
         × ValidBatch (batch b_keys.now b_offsets.now b_ends.now b_values.now)
         × KnownKeys a_keys.now b_keys.now lookup × (lookup.indexed ≡ true → length block.old ≡ block_size) }
-    ensures { shown_asked result ≡ fit_keys (entries (given_batch a_keys a_offsets a_ends a_values))
-        (entries (given_batch b_keys b_offsets b_ends b_values)) (once (given a_keys ++ given b_keys)) }
+    ensures { shown_asked result ≡ fit_keys (entries (batch a_keys.now a_offsets.now a_ends.now a_values.now))
+        (entries (batch b_keys.now b_offsets.now b_ends.now b_values.now)) (once (a_keys.now ++ b_keys.now)) }
 {
     let places = a_keys.len() + b_keys.len();
     let mut joined = next_key(a_keys, b_keys, lookup, 0, 0, &mut *block);
@@ -155,8 +154,8 @@ pub fn concat_keys(
         out_keys.old out_offsets.old out_ends.old out_values.old
         × KnownKeys a_keys.now b_keys.now lookup × (lookup.indexed ≡ true → length block.old ≡ block_size) }
     ensures { FillsCounts
-        (map (concat_key (entries (given_batch a_keys a_offsets a_ends a_values))
-        (entries (given_batch b_keys b_offsets b_ends b_values))) (once (given a_keys ++ given b_keys)))
+        (map (concat_key (entries (batch a_keys.now a_offsets.now a_ends.now a_values.now))
+        (entries (batch b_keys.now b_offsets.now b_ends.now b_values.now))) (once (a_keys.now ++ b_keys.now)))
         out_keys out_offsets out_ends out_values result }
 {
     let places = a_keys.len() + b_keys.len();

@@ -6,7 +6,7 @@ pub mod inner;
 ghost use Rattle.std.specs.Prelude.{true, ◌≡◌, length};
 ghost use Rattle.std.proofs.Math.Option.{none};
 ghost use Rattle.batch_keys.specs.Workers.{block_size};
-ghost use Rattle.batch.specs.Batch.{batch, WritesBatch, both_valid, given_batch};
+ghost use Rattle.batch.specs.Batch.{batch, WritesBatch, both_valid};
 ghost use Rattle.batch.specs.Workers.{KnownKeys};
 ghost use Rattle.batch_concat.specs.Calls as calls;
 
@@ -34,7 +34,7 @@ fn concat_by(
         (batch b_keys.now b_offsets.now b_ends.now b_values.now) ≡ none)
         × KnownKeys a_keys.now b_keys.now lookup × (lookup.indexed ≡ true → length block.old ≡ block_size) }
     ensures { WritesBatch
-        (calls.concat (given_batch a_keys a_offsets a_ends a_values) (given_batch b_keys b_offsets b_ends b_values))
+        (calls.concat (batch a_keys.now a_offsets.now a_ends.now a_values.now) (batch b_keys.now b_offsets.now b_ends.now b_values.now))
         out_keys out_offsets out_ends out_values result }
 {
     let keys = a_keys.len() + b_keys.len();
@@ -99,7 +99,7 @@ pub fn concat(
     out_values: &mut [i64],
 ) -> Batched
     ensures { WritesBatch
-        (calls.concat (given_batch a_keys a_offsets a_ends a_values) (given_batch b_keys b_offsets b_ends b_values))
+        (calls.concat (batch a_keys.now a_offsets.now a_ends.now a_values.now) (batch b_keys.now b_offsets.now b_ends.now b_values.now))
         out_keys out_offsets out_ends out_values result }
 {
     let asked = batch::two::ask_batches(

@@ -66,7 +66,7 @@ module _ (ks os : List ℕ) (es vs : List ℤ) (gs : List ℕ) (ss ts : List ℤ
           (sym (room-each ((length ss + 1) ∷ both n) (length x ∷ length e ∷ length v ∷ [])) ∙ h) in
           record {
             intervals = items-told yes;
-            room-offsets = room-told 0 (length ss + 1) (length x) r.0;
-            room-ends = room-told 1 n (length e) r.1.0;
-            room-values = room-told 2 n (length v) r.1.1.0;
+            room_offsets = room-told 0 (length ss + 1) (length x) r.0;
+            room_ends = room-told 1 n (length e) r.1.0;
+            room_values = room-told 2 n (length v) r.1.1.0;
           }

@@ -20,7 +20,7 @@ use Rattle.slice.specs.declared.inner.search.TouchedRuns.{TouchedRuns}
 use Rattle.slice.specs.Workers.{touched_by, cut_runs, Touches}
 use Rattle.column.specs.Workers.{FilledFlat}
 use Rattle.slice.proofs.Asks.{slice-filled}
-use Rattle.column.proofs.Laying.{Laying, laying-start, laying-room, laying-next, laying-end}
+use Rattle.column.proofs.Laying.{Laying, laying_start, laying-room, laying-next, laying_end}
 use Rattle.slice.proofs.Touching.{touches, touched_count}
 use Rattle.batch.specs.Batch.{batch, entries}
 use Rattle.batch_intervals.specs.Calls.{item_runs}
@@ -86,7 +86,7 @@ module _ {ks os : List ℕ} {es vs : List ℤ} {gs : List ℕ} {ss ts : List ℤ
     Laid y e v used i = Laying (item_runs gs ss ts (entries (batch ks os es vs))) (set x 0 0) y e₀ e v₀ v used i
 
     pub laid_start : Laid (set x 0 0) e₀ v₀ 0 0
-    laid_start = laying-start x (omega (arith, q.room-offsets)) (item_runs gs ss ts (entries (batch ks os es vs))) e₀ v₀
+    laid_start = laying_start x (omega (arith, q.room_offsets)) (item_runs gs ss ts (entries (batch ks os es vs))) e₀ v₀
 
     module _ {y : List ℕ} {e v : List ℤ} {used i : ℕ} (s : Laid y e v used i) where
       module _ (h : i < length ss) where
@@ -96,13 +96,13 @@ module _ {ks os : List ℕ} {es vs : List ℤ} {gs : List ℕ} {ss ts : List ℤ
         -- there is room for the next
         pub laid-room : (used + length (get_or (item_runs gs ss ts (entries (batch ks os es vs))) i []) ≤ length e)
             × (used + length (get_or (item_runs gs ss ts (entries (batch ks os es vs))) i []) ≤ length v)
-        laid-room = let r = laying-room s in-items in (rw s.long-ends (r (length e₀) q.room-ends), rw s.long-values (r (length v₀) q.room-values))
+        laid-room = let r = laying-room s in-items in (rw s.long_ends (r (length e₀) q.room_ends), rw s.long_values (r (length v₀) q.room_values))
 
         pub laid_next : {e₂ v₂ : List ℤ} {n : ℕ}
             → Filled (get_or (item_runs gs ss ts (entries (batch ks os es vs))) i []) (take (length e - used) (drop used e))
             e₂ (take (length v - used) (drop used v)) v₂ n
             → Laid (set y (i + 1) (used + n)) (put_mid used (length e - used) e e₂) (put_mid used (length v - used) v v₂) (used + n) (i + 1)
-        laid_next f = laying-next s in-items f q.room-ends q.room-values (rw (items-many q.intervals, length-set) (omega (arith, q.room-offsets)))
+        laid_next f = laying-next s in-items f q.room_ends q.room_values (rw (items-many q.intervals, length-set) (omega (arith, q.room_offsets)))
 
       pub laid_end : length ss ≤ i → FilledFlat (item_runs gs ss ts (entries (batch ks os es vs))) x y e₀ e v₀ v used
-      laid_end h = laying-end x (omega (arith, q.room-offsets)) s (rw (items-many q.intervals) h)
+      laid_end h = laying_end x (omega (arith, q.room_offsets)) s (rw (items-many q.intervals) h)

@@ -4,11 +4,10 @@ ghost use Rattle.num.specs.Numbers.{saturated};
 ghost use Rattle.column.specs.Lists.{total};
 ghost use Rattle.batch_keys.specs.Workers.{Known, Blocks};
 ghost use Rattle.column.specs.Workers.{FillsFlat};
-ghost use Rattle.batch.specs.Batch.{batch, entries, given_batch};
+ghost use Rattle.batch.specs.Batch.{batch, entries};
 ghost use Rattle.batch_intervals.specs.Calls.{item_runs};
 ghost use Rattle.batch_intervals.specs.Workers.{Intervals};
 ghost use Rattle.batch_getitems.specs.Workers.{Gettable};
-ghost use Rattle.column.specs.Lent.{given};
 
 use batch::inner::part_at;
 use batch_keys::Order;
@@ -30,7 +29,7 @@ fn count_items_by(
     requires { Intervals (batch keys.now offsets.now ends.now values.now) get_keys.now starts.now stops.now
         × Known order keys.now × (indexed ≡ true → Blocks keys.now block.old) }
     ensures { result ≡ saturated
-        (total (map length (item_runs (given get_keys) (given starts) (given stops) (entries (given_batch keys offsets ends values))))) }
+        (total (map length (item_runs get_keys.now starts.now stops.now (entries (batch keys.now offsets.now ends.now values.now))))) }
 {
     let mut total: usize = 0;
     let mut at: usize = 0;
@@ -60,7 +59,7 @@ pub fn count_items(
     requires { Intervals (batch keys.now offsets.now ends.now values.now) get_keys.now starts.now stops.now
         × Known order keys.now }
     ensures { result ≡ saturated
-        (total (map length (item_runs (given get_keys) (given starts) (given stops) (entries (given_batch keys offsets ends values))))) }
+        (total (map length (item_runs get_keys.now starts.now stops.now (entries (batch keys.now offsets.now ends.now values.now))))) }
 {
     if batch_keys::inner::index_pays(order, keys.len(), get_keys.len()) {
         let mut block = [0u32; batch_keys::inner::BLOCK];
@@ -93,7 +92,7 @@ fn getitems_by(
     requires { Gettable (batch keys.now offsets.now ends.now values.now) get_keys.now starts.now stops.now
         out_offsets.old out_ends.old out_values.old
         × Known order keys.now × (indexed ≡ true → Blocks keys.now block.old) }
-    ensures { FillsFlat (item_runs (given get_keys) (given starts) (given stops) (entries (given_batch keys offsets ends values)))
+    ensures { FillsFlat (item_runs get_keys.now starts.now stops.now (entries (batch keys.now offsets.now ends.now values.now)))
         out_offsets out_ends out_values result }
 {
     out_offsets[0] = 0;
@@ -135,7 +134,7 @@ pub fn getitems(
 ) -> usize
     requires { Gettable (batch keys.now offsets.now ends.now values.now) get_keys.now starts.now stops.now
         out_offsets.old out_ends.old out_values.old × Known order keys.now }
-    ensures { FillsFlat (item_runs (given get_keys) (given starts) (given stops) (entries (given_batch keys offsets ends values)))
+    ensures { FillsFlat (item_runs get_keys.now starts.now stops.now (entries (batch keys.now offsets.now ends.now values.now)))
         out_offsets out_ends out_values result }
 {
     if batch_keys::inner::index_pays(order, keys.len(), get_keys.len()) {

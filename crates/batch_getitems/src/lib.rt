@@ -6,9 +6,8 @@ pub mod inner;
 ghost use Rattle.std.specs.Prelude.{◌≡◌};
 ghost use Rattle.column.specs.Asking.{shown_asked};
 ghost use Rattle.column.specs.Flat.{WritesFlat};
-ghost use Rattle.batch.specs.Batch.{given_batch};
+ghost use Rattle.batch.specs.Batch.{batch};
 ghost use Rattle.batch_getitems.specs.Calls as calls;
-ghost use Rattle.column.specs.Lent.{given};
 
 use column::answer::{Asked, Batched, RleBatch};
 
@@ -22,7 +21,7 @@ fn getitems_asks(
     starts: &[i64],
     stops: &[i64],
 ) -> Asked
-    ensures { shown_asked result ≡ calls.getitems_asked (given_batch keys offsets ends values) (given get_keys) (given starts) (given stops) }
+    ensures { shown_asked result ≡ calls.getitems_asked (batch keys.now offsets.now ends.now values.now) get_keys.now starts.now stops.now }
 {
     batch::ask_batch(keys, offsets, ends, values)
         .and(questions::ask_lengths(8, starts.len(), stops.len()))
@@ -43,7 +42,7 @@ pub fn getitems(
     out_ends: &mut [i64],
     out_values: &mut [i64],
 ) -> Batched
-    ensures { WritesFlat (calls.getitems (given_batch keys offsets ends values) (given get_keys) (given starts) (given stops))
+    ensures { WritesFlat (calls.getitems (batch keys.now offsets.now ends.now values.now) get_keys.now starts.now stops.now)
         out_offsets out_ends out_values result }
 {
     let asked = getitems_asks(keys, offsets, ends, values, get_keys, starts, stops);

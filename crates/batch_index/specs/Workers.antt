@@ -61,7 +61,7 @@ looked_up table filter ks key = cond (in_filter filter (mixed key)) (probed 32 t
 
 pub record Sized (table filter : List ℕ) : Type 0 where
   pub slots : 0 < length table
-  pub few-slots : length table < 2 ^ 32
+  pub few_slots : length table < 2 ^ 32
   pub words : 0 < length filter
   pub few_words : length filter < 2 ^ 26
 

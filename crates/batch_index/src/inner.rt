@@ -7,7 +7,6 @@ pub mod wanted;
 ghost use Rattle.std.specs.Prelude.{◌+◌, ◌≤◌, ◌<◌, ◌^◌, true, cond, ◌≡◌, eqb, length};
 ghost use Rattle.batch_index.specs.Calls.{lowest};
 ghost use Rattle.batch_index.specs.Workers.{Others, Skipped, NextPosition};
-ghost use Rattle.column.specs.Lent.{given};
 
 // As many keys are compared at once.
 const STRIDE: usize = 32;
@@ -23,7 +22,7 @@ fn count_if_other(count: u32, x: u32, y: u32) -> u32
 // Whether the keys from `from` up to `to` are all known to be others. It counts, as that becomes vector instructions.
 fn all_others(keys: &[u32], from: usize, to: usize, key: u32) -> bool
     requires { (from ≤ to) × (to ≤ length keys.now) × (to ≤ from + 32) }
-    ensures { result ≡ true → Others key (given keys) from to }
+    ensures { result ≡ true → Others key keys.now from to }
 {
     let mut count: u32 = 0;
     let mut i = from;
@@ -37,7 +36,7 @@ fn all_others(keys: &[u32], from: usize, to: usize, key: u32) -> bool
 // How far from `from` on all keys are known to be others, a stride at a time.
 fn skip_others(keys: &[u32], from: usize, key: u32) -> usize
     requires { from ≤ length keys.now }
-    ensures { Skipped key (given keys) from result }
+    ensures { Skipped key keys.now from result }
 {
     let mut i = from;
     while keys.len() - i >= STRIDE {
@@ -53,7 +52,7 @@ fn skip_others(keys: &[u32], from: usize, key: u32) -> usize
 // The lowest position of a key from `from` on, or how many keys there are.
 pub fn scan_from(keys: &[u32], from: usize, key: u32) -> usize
     requires { from ≤ length keys.now }
-    ensures { NextPosition key (given keys) from result }
+    ensures { NextPosition key keys.now from result }
 {
     let mut i = skip_others(keys, from, key);
     while i < keys.len() {
@@ -66,7 +65,7 @@ pub fn scan_from(keys: &[u32], from: usize, key: u32) -> usize
 }
 
 pub fn scan(keys: &[u32], key: u32) -> usize
-    ensures { result ≡ lowest key (given keys) }
+    ensures { result ≡ lowest key keys.now }
 {
     scan_from(keys, 0, key)
 }

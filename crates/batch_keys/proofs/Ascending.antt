@@ -83,8 +83,8 @@ module _ (key : ℕ) (ks : List ℕ) (t : ascends ks ≡ true) where
   ascends_le i j h k = by-test (ltb i j) (λ s. omega (arith, ascends_at ks i j t (ltb-true i j s) k))
       (λ s. let e : i ≡ j = omega (arith, ltb-false i j s) in rw e (omega arith))
 
-  pub halved-start : Halved key ks 0 (length ks)
-  halved-start = record { inside = omega arith; below = λ j h. let z : ⊥ = omega arith in absurd z; above = λ j h k. let z : ⊥ = omega arith in absurd z }
+  pub halved_start : Halved key ks 0 (length ks)
+  halved_start = record { inside = omega arith; below = λ j h. let z : ⊥ = omega arith in absurd z; above = λ j h k. let z : ⊥ = omega arith in absurd z }
 
   module _ {low size : ℕ} (s : Halved key ks low size) where
     pub halved-inside : 0 < size → low + (size - size / 2) - 1 < length ks

@@ -2,14 +2,13 @@
 ghost use Rattle.std.specs.Prelude.{◌+◌, ◌<◌, ◌^◌, true, ◌&&◌, cond, ◌≡◌, eqb, ltb, length, get_or};
 ghost use Rattle.batch_index.specs.Calls.{lowest};
 ghost use Rattle.batch_keys.specs.Workers.{ascends, Known, block_size, BlockEnd, BlockFound, Kept};
-ghost use Rattle.column.specs.Lent.{given, after};
 
 use crate::Order;
 use batch_index::inner::widened;
 
 // Whether the key stands at a position.
 fn stands_at(keys: &[u32], position: usize, key: u32) -> bool
-    ensures { result ≡ ltb position (length (given keys)) && eqb (get_or (given keys) position 0) key }
+    ensures { result ≡ ltb position (length keys.now) && eqb (get_or keys.now position 0) key }
 {
     if position < keys.len() {
         keys[position] == key
@@ -29,7 +28,7 @@ fn low_after(low: usize, step: usize, below: bool) -> usize
 // By halving, among keys that ascend. Of `size` keys the half is left either way.
 fn halve(keys: &[u32], key: u32) -> usize
     requires { ascends keys.now ≡ true }
-    ensures { result ≡ lowest key (given keys) }
+    ensures { result ≡ lowest key keys.now }
 {
     let mut low: usize = 0;
     let mut size = keys.len();
@@ -48,7 +47,7 @@ fn halve(keys: &[u32], key: u32) -> usize
 
 // What is known of keys by looking at each and the one before it.
 pub fn quick_order(keys: &[u32]) -> Order
-    ensures { Known result (given keys) }
+    ensures { Known result keys.now }
 {
     if crate::ascends(keys) {
         Order::Ascending
@@ -59,7 +58,7 @@ pub fn quick_order(keys: &[u32]) -> Order
 
 // What is known of keys by looking at all of them.
 pub fn order_of(keys: &[u32]) -> Order
-    ensures { Known result (given keys) }
+    ensures { Known result keys.now }
 {
     if crate::ascends(keys) {
         return Order::Ascending;
@@ -73,7 +72,7 @@ pub fn order_of(keys: &[u32]) -> Order
 // As what is known of the keys allows. Where none is given twice, the key is looked for at `near` first.
 pub fn find(keys: &[u32], order: Order, near: usize, key: u32) -> usize
     requires { Known order keys.now }
-    ensures { result ≡ lowest key (given keys) }
+    ensures { result ≡ lowest key keys.now }
 {
     match order {
         Order::Ascending => {
@@ -131,7 +130,7 @@ fn block_end(i: usize, wanted: usize) -> usize
 // Finds the wanted keys of the block at i; the lowest position of the first.
 fn find_block(keys: &[u32], wanted: &[u32], i: usize, block: &mut [u32]) -> usize
     requires { (length keys.now < 2 ^ 32) × (i < length wanted.now) × (length block.old ≡ block_size) }
-    ensures { BlockFound (given keys) (given wanted) i (after block) result }
+    ensures { BlockFound keys.now wanted.now i block.new result }
 {
     let end = block_end(i, wanted.len());
     batch_index::inner::wanted::find_all(keys, &wanted[i..end], &mut *block);
@@ -149,7 +148,7 @@ pub fn find_next(
     block: &mut [u32],
 ) -> usize
     requires { Known order keys.now × (i < length wanted.now) × Kept keys.now wanted.now indexed block.old i }
-    ensures { (result ≡ lowest (get_or (given wanted) i 0) (given keys)) × Kept (given keys) (given wanted) indexed (after block) (i + 1) }
+    ensures { (result ≡ lowest (get_or wanted.now i 0) keys.now) × Kept keys.now wanted.now indexed block.new (i + 1) }
 {
     if indexed {
         let slot = i % BLOCK;

@@ -10,7 +10,6 @@ ghost use Rattle.column.specs.Questions.{distinct_keys};
 ghost use Rattle.batch_index.specs.Workers.{FirstDouble};
 ghost use Rattle.batch_keys.specs.Calls as calls;
 ghost use Rattle.batch_keys.specs.Workers.{ascends};
-ghost use Rattle.column.specs.Lent.{given};
 
 use column::answer::{Asked, Found};
 use column::error::{Error, InKey, Refusal};
@@ -25,7 +24,7 @@ pub enum Order {
 
 // Whether each key is above the one before it.
 fn ascends(keys: &[u32]) -> bool
-    ensures { result ≡ ascends (given keys) }
+    ensures { result ≡ ascends keys.now }
 {
     let mut i: usize = 1;
     while i < keys.len() {
@@ -41,7 +40,7 @@ fn ascends(keys: &[u32]) -> bool
 
 // The lowest position of a key that stands before it too, or how many keys there are.
 pub fn first_duplicate(keys: &[u32]) -> usize
-    ensures { FirstDouble (given keys) result }
+    ensures { FirstDouble keys.now result }
 {
     if ascends(keys) {
         return keys.len();
@@ -51,7 +50,7 @@ pub fn first_duplicate(keys: &[u32]) -> usize
 
 // 8
 pub fn ask_keys(keys: &[u32]) -> Asked
-    ensures { shown_asked result ≡ distinct_keys (given keys) }
+    ensures { shown_asked result ≡ distinct_keys keys.now }
 {
     let position = first_duplicate(keys);
     if position < keys.len() {
@@ -66,7 +65,7 @@ pub fn ask_keys(keys: &[u32]) -> Asked
 
 // The lowest position of a key.
 pub fn position(keys: &[u32], key: u32) -> Found
-    ensures { shown_found result ≡ calls.position (given keys) key }
+    ensures { shown_found result ≡ calls.position keys.now key }
 {
     let at = batch_index::inner::scan(keys, key);
     if at < keys.len() {

@@ -55,9 +55,9 @@ mapped-few Reversed rs v = omega (arith, reverse-count rs)
 mapped-few (Slice start end) rs v = omega (arith, slice-few start end rs v)
 
 -- there is room for the runs that a slice touches where there is for all
-pub slice-touches : (start end : ℤ) (es vs e v : List ℤ) {t : TouchedRuns} → (ends_valid es ≡ none → t ≡ touched_by start end es)
+pub slice_touches : (start end : ℤ) (es vs e v : List ℤ) {t : TouchedRuns} → (ends_valid es ≡ none → t ≡ touched_by start end es)
     → ends_valid es ≡ none → length es ≡ length vs → length es ≤ length e → length es ≤ length v → Touches t es vs e v
-slice-touches start end es vs e v et valid l re rv =
+slice_touches start end es vs e v et valid l re rv =
     let i = touched_inside start end es valid in
     rw (et valid) (touches start end es vs e v valid l (omega arith) (omega arith))
 
@@ -95,8 +95,8 @@ module _ (m : Mapping) (ks os : List ℕ) (es vs : List ℤ) (w : ValidBatch (ba
   abbrev made : List Entry
   made = results m (batch ks os es vs)
 
-  results-many : length made ≡ length ks
-  results-many = rw length-map (entries-many ks os es vs w)
+  results_many : length made ≡ length ks
+  results_many = rw length-map (entries-many ks os es vs w)
 
   made-columns : columns_of made ≡ map (mapped m) (columns (flat os es vs))
   made-columns = columns_on (mapped m) (entries (batch ks os es vs)) ∙ ap (map (mapped m)) (entries-columns ks os es vs w)
@@ -124,18 +124,18 @@ module _ {m : Mapping} {ks os : List ℕ} {es vs : List ℤ} {k₀ x : List ℕ}
   Mapped k y e v used n = LayingBatch (results m (batch ks os es vs)) k₀ k (set x 0 0) y e₀ e v₀ v used n
 
   pub map-start : Mapped k₀ (set x 0 0) e₀ v₀ 0 0
-  map-start = batch-start (results m (batch ks os es vs)) k₀ x e₀ v₀ (omega (arith, q.room-offsets))
+  map-start = batch-start (results m (batch ks os es vs)) k₀ x e₀ v₀ (omega (arith, q.room_offsets))
 
   all-ends : total (map length (columns_of (results m (batch ks os es vs)))) ≤ length e₀
-  all-ends = omega (arith, made-total m ks os es vs q.batch, q.room-ends)
+  all-ends = omega (arith, made-total m ks os es vs q.batch, q.room_ends)
 
   all-values : total (map length (columns_of (results m (batch ks os es vs)))) ≤ length v₀
-  all-values = omega (arith, made-total m ks os es vs q.batch, q.room-values)
+  all-values = omega (arith, made-total m ks os es vs q.batch, q.room_values)
 
   module _ {k y : List ℕ} {e v : List ℤ} {used n : ℕ} (s : Mapped k y e v used n) where
     module _ (h : n < length ks) where
       in-results : n < length (results m (batch ks os es vs))
-      in-results = rw (results-many m ks os es vs q.batch) h
+      in-results = rw (results_many m ks os es vs q.batch) h
 
       -- there is room for all that may be left of the next sequence
       next-room : used + (length (get_or (parts os es) n []) + more m) ≤ length es + more m * length ks
@@ -149,7 +149,7 @@ module _ {m : Mapping} {ks os : List ℕ} {es vs : List ℤ} {k₀ x : List ℕ}
           rw (u, sym (column-count ks os es vs q.batch n)) (rw (columns-total ks os es vs q.batch, columns-many ks os es vs q.batch) at f)
 
       pub map-room : (used + (length (get_or (parts os es) n []) + more m) ≤ length e) × (used + (length (get_or (parts os es) n []) + more m) ≤ length v)
-      map-room = (omega (arith, next-room, q.room-ends, s.laying.long-ends), omega (arith, next-room, q.room-values, s.laying.long-values))
+      map-room = (omega (arith, next-room, q.room_ends, s.laying.long_ends), omega (arith, next-room, q.room_values, s.laying.long_values))
 
       pub map-asked : {pe pv : List ℤ} → pe ≡ get_or (parts os es) n [] → pv ≡ get_or (parts os vs) n []
           → (ends_valid pe ≡ none) × (length pe ≡ length pv)
@@ -167,17 +167,17 @@ module _ {m : Mapping} {ks os : List ℕ} {es vs : List ℤ} {k₀ x : List ℕ}
         wrote = rw (ee, ev, made-runs m ks os es vs q.batch n h) at f
 
         pub map-used : used + r ≤ length e
-        map-used = omega (arith, wrote.count, batch-next-room s in-results (length e₀) all-ends, s.laying.long-ends)
+        map-used = omega (arith, wrote.count, batch-next-room s in-results (length e₀) all-ends, s.laying.long_ends)
 
         pub map_next : {key : ℕ} → key ≡ get_or ks n 0
             → Mapped (set k n key) (set y (n + 1) (used + r)) (put_mid used (length e - used) e e₂) (put_mid used (length v - used) v v₂) (used + r) (n + 1)
         map_next ek =
-            let l = results-many m ks os es vs q.batch in
+            let l = results_many m ks os es vs q.batch in
             batch-next s in-results (ek ∙ made-key m ks os es vs q.batch n) wrote all-ends all-values
-            (rw (l, length-set) (omega (arith, q.room-offsets))) (rw l q.room-keys)
+            (rw (l, length-set) (omega (arith, q.room_offsets))) (rw l q.room_keys)
 
     pub map-end : length ks ≤ n → FilledBatch (results m (batch ks os es vs)) k₀ k x y e₀ e v₀ v used
-    map-end h = batch-end (omega (arith, q.room-offsets)) s (rw (results-many m ks os es vs q.batch) h)
+    map-end h = batch-end (omega (arith, q.room_offsets)) s (rw (results_many m ks os es vs q.batch) h)
 
 -- ---- the calls
 
@@ -211,14 +211,14 @@ module _ (m : Mapping) (ks os : List ℕ) (es vs : List ℤ) (k x : List ℕ) (e
   pub each-told : Mappable m (batch ks os es vs) k x e v
   each-told = record {
     batch = told.0;
-    room-keys = told.1.for_keys;
-    room-offsets = told.1.for_offsets;
-    room-ends = told.1.for_ends;
-    room-values = told.1.for_values;
+    room_keys = told.1.for_keys;
+    room_offsets = told.1.for_offsets;
+    room_ends = told.1.for_ends;
+    room_values = told.1.for_values;
   }
 
   pub each-written : {k' x' : List ℕ} {e' v' : List ℤ} {n : ℕ} → FilledBatch (results m (batch ks os es vs)) k k' x x' e e' v v' n
       → WrittenBatch (map_each m (batch ks os es vs) (length k ∷ length x ∷ length e ∷ length v ∷ []))
       (Batched.Batch (record { keys = length ks; runs = n })) k k' x x' e e' v v'
   unfolding map_each
-  each-written f = batch-written (results m (batch ks os es vs)) yes (sym (results-many m ks os es vs told.0)) f
+  each-written f = batch-written (results m (batch ks os es vs)) yes (sym (results_many m ks os es vs told.0)) f

@@ -30,7 +30,7 @@ map_each m b buffers = each_asked b (length b.flat.ends + more m * length b.keys
 -- a valid batch, and room for its keys and for what is done to them
 pub record Mappable (m : Mapping) (b : Batch) (k x : List ℕ) (e v : List ℤ) : Type 0 where
   pub batch : ValidBatch b
-  pub room-keys : length b.keys ≤ length k
-  pub room-offsets : length b.keys + 1 ≤ length x
-  pub room-ends : length b.flat.ends + more m * length b.keys ≤ length e
-  pub room-values : length b.flat.ends + more m * length b.keys ≤ length v
+  pub room_keys : length b.keys ≤ length k
+  pub room_offsets : length b.keys + 1 ≤ length x
+  pub room_ends : length b.flat.ends + more m * length b.keys ≤ length e
+  pub room_values : length b.flat.ends + more m * length b.keys ≤ length v

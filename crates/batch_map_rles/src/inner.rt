@@ -3,11 +3,10 @@ ghost use Rattle.std.specs.Prelude.{◌+◌, ◌≤◌, ◌≡◌, length};
 ghost use Rattle.std.proofs.Math.Option.{none};
 ghost use Rattle.column.specs.Questions.{ends_valid};
 ghost use Rattle.column.specs.Runs.{runs_of, Fills};
-ghost use Rattle.batch.specs.Batch.{batch, entries, given_batch};
+ghost use Rattle.batch.specs.Batch.{batch, entries};
 ghost use Rattle.batch.specs.Workers.{FillsBatch};
 ghost use Rattle.batch_map_rles.specs.Calls.{on_each};
 ghost use Rattle.batch_map_rles.specs.Workers.{mapped, more, Mappable};
-ghost use Rattle.column.specs.Lent.{given};
 
 use batch::inner::part_at;
 
@@ -28,7 +27,7 @@ fn map_runs(
 ) -> usize
     requires { (ends_valid ends.now ≡ none) × (length ends.now ≡ length values.now)
         × (length ends.now + more mapping ≤ length out_ends.old) × (length ends.now + more mapping ≤ length out_values.old) }
-    ensures { Fills (mapped mapping (runs_of (given ends) (given values))) out_ends out_values result }
+    ensures { Fills (mapped mapping (runs_of ends.now values.now)) out_ends out_values result }
 {
     match mapping {
         Mapping::Shift { distance, fill } => {
@@ -57,7 +56,7 @@ pub fn map_rles(
     requires { Mappable mapping (batch keys.now offsets.now ends.now values.now)
         out_keys.old out_offsets.old out_ends.old out_values.old }
     ensures { FillsBatch
-        (on_each (mapped mapping) (entries (given_batch keys offsets ends values))) out_keys out_offsets out_ends out_values result }
+        (on_each (mapped mapping) (entries (batch keys.now offsets.now ends.now values.now))) out_keys out_offsets out_ends out_values result }
 {
     out_offsets[0] = 0;
     let mut used: usize = 0;

@@ -5,10 +5,9 @@ pub mod inner;
 
 ghost use Rattle.std.specs.Prelude.{◌+◌, ◌*◌, [], ◌∷◌, ◌≡◌, length};
 ghost use Rattle.column.specs.Asking.{shown_asked};
-ghost use Rattle.batch.specs.Batch.{WritesBatch, given_batch};
+ghost use Rattle.batch.specs.Batch.{WritesBatch, batch};
 ghost use Rattle.batch_map_rles.specs.Calls as calls;
 ghost use Rattle.batch_map_rles.specs.Workers.{more, map_each};
-ghost use Rattle.column.specs.Lent.{given};
 
 use crate::inner::Mapping;
 use column::answer::{Asked, Batched, RleBatch};
@@ -26,7 +25,7 @@ fn each_asks(
     out_values: usize,
 ) -> Asked
     ensures { shown_asked
-        result ≡ calls.each_asked (given_batch keys offsets ends values) runs (out_keys ∷ out_offsets ∷ out_ends ∷ out_values ∷ []) }
+        result ≡ calls.each_asked (batch keys.now offsets.now ends.now values.now) runs (out_keys ∷ out_offsets ∷ out_ends ∷ out_values ∷ []) }
 {
     batch::ask_batch(keys, offsets, ends, values).and(batch::ask_room(
         keys.len(),
@@ -41,7 +40,7 @@ fn each_asks(
 
 // So many runs are left at most.
 fn most_runs(mapping: Mapping, keys: &[u32], ends: &[i64]) -> usize
-    ensures { result ≡ length (given ends) + more mapping * length (given keys) }
+    ensures { result ≡ length ends.now + more mapping * length keys.now }
 {
     match mapping {
         Mapping::Shift { distance, fill } => ends.len() + keys.len(),
@@ -62,7 +61,7 @@ fn map_each(
     out_ends: &mut [i64],
     out_values: &mut [i64],
 ) -> Batched
-    ensures { WritesBatch (map_each mapping (given_batch keys offsets ends values)) out_keys out_offsets out_ends out_values result }
+    ensures { WritesBatch (map_each mapping (batch keys.now offsets.now ends.now values.now)) out_keys out_offsets out_ends out_values result }
 {
     let asked = each_asks(
         keys,
@@ -110,7 +109,7 @@ pub fn shift(
     out_ends: &mut [i64],
     out_values: &mut [i64],
 ) -> Batched
-    ensures { WritesBatch (calls.shift (given_batch keys offsets ends values) distance fill) out_keys out_offsets out_ends out_values result }
+    ensures { WritesBatch (calls.shift (batch keys.now offsets.now ends.now values.now) distance fill) out_keys out_offsets out_ends out_values result }
 {
     map_each(
         keys,
@@ -136,7 +135,7 @@ pub fn reversed(
     out_ends: &mut [i64],
     out_values: &mut [i64],
 ) -> Batched
-    ensures { WritesBatch (calls.reversed (given_batch keys offsets ends values)) out_keys out_offsets out_ends out_values result }
+    ensures { WritesBatch (calls.reversed (batch keys.now offsets.now ends.now values.now)) out_keys out_offsets out_ends out_values result }
 {
     map_each(
         keys,
@@ -165,7 +164,7 @@ pub fn map_rles_slice(
     out_values: &mut [i64],
 ) -> Batched
     ensures { WritesBatch
-        (calls.map_rles_slice (given_batch keys offsets ends values) start end) out_keys out_offsets out_ends out_values result }
+        (calls.map_rles_slice (batch keys.now offsets.now ends.now values.now) start end) out_keys out_offsets out_ends out_values result }
 {
     map_each(
         keys,

@@ -35,6 +35,6 @@ module _ (ks os : List ℕ) (es vs : List ℤ) (gs : List ℕ) (ss ts : List ℤ
           keyed = agree-told 7 (length gs) (length ss) y.1.1.0;
           paired = agree-told 8 (length ss) (length ts) y.1.1.1.0;
         };
-        room-kinds = r.0;
-        room-bits = r.1;
+        room_kinds = r.0;
+        room_bits = r.1;
       }

@@ -6,5 +6,5 @@ use Rattle.batch_intervals.specs.Workers.{Intervals}
 -- intervals, and room for the reductions of their slices
 pub record Reducible (b : Batch) (keys : List ℕ) (starts stops : List ℤ) (k w : List ℕ) : Type 0 where
   pub intervals : Intervals b keys starts stops
-  pub room-kinds : length starts ≤ length k
-  pub room-bits : length starts ≤ length w
+  pub room_kinds : length starts ≤ length k
+  pub room_bits : length starts ≤ length w

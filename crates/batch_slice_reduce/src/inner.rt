@@ -3,10 +3,9 @@ ghost use Rattle.std.specs.Prelude.{true, map, ◌≡◌};
 ghost use Rattle.batch_keys.specs.Workers.{Known, Blocks};
 ghost use Rattle.reduce.specs.Calls.{reduction};
 ghost use Rattle.reduce.specs.Workers.{FilledReductions};
-ghost use Rattle.batch.specs.Batch.{batch, entries, given_batch};
+ghost use Rattle.batch.specs.Batch.{batch, entries};
 ghost use Rattle.batch_intervals.specs.Calls.{item_runs};
 ghost use Rattle.batch_slice_reduce.specs.Workers.{Reducible};
-ghost use Rattle.column.specs.Lent.{given, after};
 
 use batch::inner::part_at;
 use batch_keys::Order;
@@ -32,8 +31,8 @@ fn slice_reduce_by(
         out_kinds.old out_bits.old × Known order keys.now × (indexed ≡ true → Blocks keys.now block.old) }
     ensures { FilledReductions
         (map (reduction code ddof)
-        (item_runs (given get_keys) (given starts) (given stops) (entries (given_batch keys offsets ends values))))
-        (given out_kinds) (after out_kinds) (given out_bits) (after out_bits) result }
+        (item_runs get_keys.now starts.now stops.now (entries (batch keys.now offsets.now ends.now values.now))))
+        out_kinds.old out_kinds.new out_bits.old out_bits.new result }
 {
     let mut at: usize = 0;
     let mut i: usize = 0;
@@ -75,8 +74,8 @@ pub fn slice_reduce(
         out_kinds.old out_bits.old × Known order keys.now }
     ensures { FilledReductions
         (map (reduction code ddof)
-        (item_runs (given get_keys) (given starts) (given stops) (entries (given_batch keys offsets ends values))))
-        (given out_kinds) (after out_kinds) (given out_bits) (after out_bits) result }
+        (item_runs get_keys.now starts.now stops.now (entries (batch keys.now offsets.now ends.now values.now))))
+        out_kinds.old out_kinds.new out_bits.old out_bits.new result }
 {
     if batch_keys::inner::index_pays(order, keys.len(), get_keys.len()) {
         let mut block = [0u32; batch_keys::inner::BLOCK];

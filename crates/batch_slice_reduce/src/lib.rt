@@ -6,9 +6,8 @@ pub mod inner;
 ghost use Rattle.std.specs.Prelude.{[], ◌∷◌, ◌≡◌};
 ghost use Rattle.column.specs.Asking.{shown_asked};
 ghost use Rattle.reduce.specs.Calls.{WritesReductions};
-ghost use Rattle.batch.specs.Batch.{given_batch};
+ghost use Rattle.batch.specs.Batch.{batch};
 ghost use Rattle.batch_slice_reduce.specs.Calls as calls;
-ghost use Rattle.column.specs.Lent.{given};
 
 use column::answer::{Asked, Counted};
 
@@ -25,7 +24,7 @@ fn slice_reduce_asks(
     out_bits: usize,
 ) -> Asked
     ensures { shown_asked result ≡ calls.slice_reduce_asked
-        (given_batch keys offsets ends values) (given get_keys) (given starts) (given stops) code (out_kinds ∷ out_bits ∷ []) }
+        (batch keys.now offsets.now ends.now values.now) get_keys.now starts.now stops.now code (out_kinds ∷ out_bits ∷ []) }
 {
     questions::ask_code(0, 2, code)
         .and(batch::ask_lengths(keys, offsets, ends, values))
@@ -51,7 +50,7 @@ pub fn slice_reduce(
     out_bits: &mut [u64],
 ) -> Counted
     ensures { WritesReductions
-        (calls.slice_reduce (given_batch keys offsets ends values) (given get_keys) (given starts) (given stops) code ddof)
+        (calls.slice_reduce (batch keys.now offsets.now ends.now values.now) get_keys.now starts.now stops.now code ddof)
         out_kinds out_bits result }
 {
     let asked = slice_reduce_asks(

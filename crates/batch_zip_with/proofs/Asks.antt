@@ -58,7 +58,7 @@ module _ (a b : Batch) (how code : ℕ) where
         let w = zip-valid y.0 in
         let r = batch-room (length a.keys + length b.keys) (total (map pair_runs (all_pairs how a b))) (length k) (length x) (length e) (length v)
         y.1.1.0 in
-        record { first = w.0; second = w.1; room-keys = r.for_keys; room-offsets = r.for_offsets; room-ends = r.for_ends; room-values = r.for_values }
+        record { first = w.0; second = w.1; room_keys = r.for_keys; room_offsets = r.for_offsets; room_ends = r.for_ends; room_values = r.for_values }
 
     -- a fill that is missing shows nowhere: the result is that of its value
     pub zip-written : {x y : ℤ} → x ≡ value_of fa → y ≡ value_of fb → {k k' o o' : List ℕ} {e e' v v' : List ℤ} {r : RleBatch}

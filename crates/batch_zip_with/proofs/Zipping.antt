@@ -50,8 +50,8 @@ module _ (how : ℕ) (a b : Batch) (op : ℤ → ℤ → ℤ) (fa fb : ℤ) wher
         (column-valid b.keys b.flat.offsets b.flat.ends b.flat.values z.second j.b)
 
     -- the results have no more runs than the pairs
-    all-few : total (map length (columns_of zipped)) ≤ total (map pair_runs (all_pairs how a b))
-    all-few =
+    all_few : total (map length (columns_of zipped)) ≤ total (map pair_runs (all_pairs how a b))
+    all_few =
         let e : map length (columns_of zipped) ≡ map (λ (p : Pair). length (zip p).runs) (all_pairs how a b) = simp map-map in
         rw (e, pairs-rest how a b z.first z.second)
         (from-total (place_in how a b) (pair_of a b) (λ (p : Pair). length (zip p).runs) pair_runs few (places_in how a b - 0) 0)
@@ -59,7 +59,7 @@ module _ (how : ℕ) (a b : Batch) (op : ℤ → ℤ → ℤ) (fa fb : ℤ) wher
     pub zipping_start : {j : Joined} → NextKept (place_in how a b) (places_in how a b) 0 j → Zipping k₀ k₀ (set y 0 0) (set y 0 0) e₀ e₀ v₀ v₀ 0 0 j
     zipping_start s = record {
       stands = standing-start (place_in how a b) (pair_of a b) (places_in how a b) (all_pairs how a b) (pairs-rest how a b z.first z.second) s;
-      laying = batch-start zipped k₀ y e₀ v₀ (omega (arith, z.room-offsets));
+      laying = batch-start zipped k₀ y e₀ v₀ (omega (arith, z.room_offsets));
       left = omega arith;
     }
 
@@ -69,7 +69,7 @@ module _ (how : ℕ) (a b : Batch) (op : ℤ → ℤ → ℤ) (fa fb : ℤ) wher
           let d = ap length (standing-end (place_in how a b) (pair_of a b) (places_in how a b) (all_pairs how a b) s.stands h) in
           let l : length zipped ≤ n = omega (arith, d, length-drop n (all_pairs how a b), length-map (all_pairs how a b) zip) in
           record {
-            filled = batch-end (omega (arith, z.room-offsets)) s.laying l;
+            filled = batch-end (omega (arith, z.room_offsets)) s.laying l;
             many = omega (arith, s.laying.laying.within, length-map zipped (λ (e : Entry). e.runs));
           }
 
@@ -96,14 +96,14 @@ module _ (how : ℕ) (a b : Batch) (op : ℤ → ℤ → ℤ) (fa fb : ℤ) wher
 
         pub zipping-room : (used + pair_runs (pair_of a b j) ≤ length e) × (used + pair_runs (pair_of a b j) ≤ length v)
         zipping-room = (
-          omega (arith, left-next, z.room-ends, s.laying.laying.long-ends),
-          omega (arith, left-next, z.room-values, s.laying.laying.long-values),
+          omega (arith, left-next, z.room_ends, s.laying.laying.long_ends),
+          omega (arith, left-next, z.room_values, s.laying.laying.long_values),
         )
 
         pub zipping-places : (n < length k) × (n + 1 < length x)
         zipping-places = (
-          omega (arith, in-zipped, all_in, z.room-keys, s.laying.keys.long),
-          omega (arith, in-zipped, all_in, z.room-offsets, s.laying.laying.long-offsets, length-set y 0 0),
+          omega (arith, in-zipped, all_in, z.room_keys, s.laying.keys.long),
+          omega (arith, in-zipped, all_in, z.room_offsets, s.laying.laying.long_offsets, length-set y 0 0),
         )
 
         -- the sequences of the next pair, as the code reads them
@@ -122,8 +122,8 @@ module _ (how : ℕ) (a b : Batch) (op : ℤ → ℤ → ℤ) (fa fb : ℤ) wher
             valid_b = rw eb (part-valid b.keys b.flat.offsets b.flat.ends b.flat.values z.second j.b);
             paired_a = rw (ea, ew) (parts-paired a.keys a.flat.offsets a.flat.ends a.flat.values z.first j.a);
             paired_b = rw (eb, eu) (parts-paired b.keys b.flat.offsets b.flat.ends b.flat.values z.second j.b);
-            room-ends = rw rest-length (omega (arith, long, zipping-room.0));
-            room-values = rw rest-length (omega (arith, long, zipping-room.1));
+            room_ends = rw rest-length (omega (arith, long, zipping-room.0));
+            room_values = rw rest-length (omega (arith, long, zipping-room.1));
           }
 
           module _ {m : ℕ} {e₂ v₂ : List ℤ}
@@ -143,8 +143,8 @@ module _ (how : ℕ) (a b : Batch) (op : ℤ → ℤ → ℤ) (fa fb : ℤ) wher
                 v₀ (put_mid used (length v - used) v v₂) (used + m) (n + 1) j'
             zipping-next ek ei t = record {
               stands = standing-next (place_in how a b) (pair_of a b) (places_in how a b) (all_pairs how a b) s.stands h ei t;
-              laying = batch-next s.laying in-zipped (ek ∙ ap (λ (i : Entry). i.key) (sym entry)) filled (omega (arith, all-few, z.room-ends))
-                  (omega (arith, all-few, z.room-values))
-                  (omega (arith, all_in, z.room-offsets, length-set y 0 0)) (omega (arith, all_in, z.room-keys));
+              laying = batch-next s.laying in-zipped (ek ∙ ap (λ (i : Entry). i.key) (sym entry)) filled (omega (arith, all_few, z.room_ends))
+                  (omega (arith, all_few, z.room_values))
+                  (omega (arith, all_in, z.room_offsets, length-set y 0 0)) (omega (arith, all_in, z.room_keys));
               left = omega (arith, left-next, few j, filled.count, ap (λ (i : Entry). length i.runs) entry);
             }

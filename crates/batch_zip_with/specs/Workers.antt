@@ -33,7 +33,7 @@ pub record AsksPairs (fa fb : Fill) (ps : List Pair) (r : PairsAsked) : Type 0 w
 pub record ZipRoom (a b : Batch) (ps : List Pair) (k x : List ℕ) (e v : List ℤ) : Type 0 where
   pub first : ValidBatch a
   pub second : ValidBatch b
-  pub room-keys : length a.keys + length b.keys ≤ length k
-  pub room-offsets : length a.keys + length b.keys + 1 ≤ length x
-  pub room-ends : total (map pair_runs ps) ≤ length e
-  pub room-values : total (map pair_runs ps) ≤ length v
+  pub room_keys : length a.keys + length b.keys ≤ length k
+  pub room_offsets : length a.keys + length b.keys + 1 ≤ length x
+  pub room_ends : total (map pair_runs ps) ≤ length e
+  pub room_values : total (map pair_runs ps) ≤ length v

@@ -3,11 +3,10 @@ ghost use Rattle.std.specs.Prelude.{◌+◌, ◌≤◌, ◌<◌, ◌^◌, true, 
 ghost use Rattle.num.specs.Numbers.{operation};
 ghost use Rattle.column.specs.declared.answer.Fill.TheVariants.{Value};
 ghost use Rattle.batch_keys.specs.Workers.{block_size};
-ghost use Rattle.batch.specs.Batch.{batch, entries, given_batch};
+ghost use Rattle.batch.specs.Batch.{batch, entries};
 ghost use Rattle.batch.specs.Workers.{ValidBatch, NextKept, KnownKeys, KeptOther, FillsCounts};
 ghost use Rattle.batch_zip_with.specs.Calls.{keeps_left, keeps_right, pairs, zip_pair};
 ghost use Rattle.batch_zip_with.specs.Workers.{places_of, pair_at, AsksPairs, ZipRoom};
-ghost use Rattle.column.specs.Lent.{given, after};
 
 use batch::inner::lookup::{Lookup, find_other};
 use batch::inner::part_at;
@@ -65,8 +64,8 @@ fn pair_at(
 ) -> Joined
     requires { KnownKeys a_keys.now b_keys.now lookup × (at < length a_keys.now + length b_keys.now)
         × KeptOther a_keys.now b_keys.now lookup.indexed block.old at }
-    ensures { (result ≡ pair_at how (given a_keys) (given b_keys) at)
-        × KeptOther (given a_keys) (given b_keys) lookup.indexed (after block) (at + 1) }
+    ensures { (result ≡ pair_at how a_keys.now b_keys.now at)
+        × KeptOther a_keys.now b_keys.now lookup.indexed block.new (at + 1) }
 {
     let other = find_other(a_keys, b_keys, lookup, at, near, block);
     if at < a_keys.len() {
@@ -122,10 +121,10 @@ fn next_pair(
 ) -> Joined
     requires { KnownKeys a_keys.now b_keys.now lookup × (from ≤ places_of how (length a_keys.now) (length b_keys.now))
         × KeptOther a_keys.now b_keys.now lookup.indexed block.old from }
-    ensures { NextKept (pair_at how (given a_keys) (given b_keys))
-        (places_of how (length (given a_keys)) (length (given b_keys))) from result ×
-        (result.at < places_of how (length (given a_keys))
-        (length (given b_keys)) → KeptOther (given a_keys) (given b_keys) lookup.indexed (after block) (result.at + 1)) }
+    ensures { NextKept (pair_at how a_keys.now b_keys.now)
+        (places_of how (length a_keys.now) (length b_keys.now)) from result ×
+        (result.at < places_of how (length a_keys.now)
+        (length b_keys.now) → KeptOther a_keys.now b_keys.now lookup.indexed block.new (result.at + 1)) }
 {
     let places = places(how, a_keys.len(), b_keys.len());
     let mut near = first_near;
@@ -173,8 +172,8 @@ pub fn ask_pairs(
         × ValidBatch (batch b_keys.now b_offsets.now b_ends.now b_values.now)
         × KnownKeys a_keys.now b_keys.now lookup × (lookup.indexed ≡ true → length block.old ≡ block_size) }
     ensures { AsksPairs fill_a fill_b
-        (pairs how (entries (given_batch a_keys a_offsets a_ends a_values))
-        (entries (given_batch b_keys b_offsets b_ends b_values))) result }
+        (pairs how (entries (batch a_keys.now a_offsets.now a_ends.now a_values.now))
+        (entries (batch b_keys.now b_offsets.now b_ends.now b_values.now))) result }
 {
     let places = places(how, a_keys.len(), b_keys.len());
     let mut asked = Asked::Yes;
@@ -230,8 +229,8 @@ pub fn zip_pairs(
         × KnownKeys a_keys.now b_keys.now lookup × (lookup.indexed ≡ true → length block.old ≡ block_size) }
     ensures { FillsCounts
         (map (zip_pair (operation code) (Value fill_a) (Value fill_b))
-        (pairs how (entries (given_batch a_keys a_offsets a_ends a_values))
-        (entries (given_batch b_keys b_offsets b_ends b_values)))) out_keys out_offsets out_ends out_values result }
+        (pairs how (entries (batch a_keys.now a_offsets.now a_ends.now a_values.now))
+        (entries (batch b_keys.now b_offsets.now b_ends.now b_values.now)))) out_keys out_offsets out_ends out_values result }
 {
     let places = places(how, a_keys.len(), b_keys.len());
     out_offsets[0] = 0;

@@ -7,7 +7,7 @@ ghost use Rattle.std.specs.Prelude.{true, ◌≡◌, length};
 ghost use Rattle.std.proofs.Math.Option.{none};
 ghost use Rattle.column.specs.Asking.{shown_asked};
 ghost use Rattle.batch_keys.specs.Workers.{block_size};
-ghost use Rattle.batch.specs.Batch.{batch, WritesBatch, given_batch};
+ghost use Rattle.batch.specs.Batch.{batch, WritesBatch};
 ghost use Rattle.batch.specs.Workers.{KnownKeys};
 ghost use Rattle.batch_zip_with.specs.Calls as calls;
 
@@ -27,7 +27,7 @@ fn zip_asks(
     code: u8,
 ) -> Asked
     ensures { shown_asked result ≡ calls.zip_asked
-        (given_batch a_keys a_offsets a_ends a_values) (given_batch b_keys b_offsets b_ends b_values) how code }
+        (batch a_keys.now a_offsets.now a_ends.now a_values.now) (batch b_keys.now b_offsets.now b_ends.now b_values.now) how code }
 {
     questions::ask_code(0, 3, how)
         .and(questions::ask_code(0, 9, code))
@@ -61,7 +61,7 @@ fn zip_with_by(
         (batch b_keys.now b_offsets.now b_ends.now b_values.now) how code ≡ none)
         × KnownKeys a_keys.now b_keys.now lookup × (lookup.indexed ≡ true → length block.old ≡ block_size) }
     ensures { WritesBatch
-        (calls.zip_with (given_batch a_keys a_offsets a_ends a_values) (given_batch b_keys b_offsets b_ends b_values)
+        (calls.zip_with (batch a_keys.now a_offsets.now a_ends.now a_values.now) (batch b_keys.now b_offsets.now b_ends.now b_values.now)
         how fill_a fill_b code) out_keys out_offsets out_ends out_values result }
 {
     let pairs = inner::ask_pairs(
@@ -138,7 +138,7 @@ pub fn zip_with(
     out_values: &mut [i64],
 ) -> Batched
     ensures { WritesBatch
-        (calls.zip_with (given_batch a_keys a_offsets a_ends a_values) (given_batch b_keys b_offsets b_ends b_values)
+        (calls.zip_with (batch a_keys.now a_offsets.now a_ends.now a_values.now) (batch b_keys.now b_offsets.now b_ends.now b_values.now)
         how fill_a fill_b code) out_keys out_offsets out_ends out_values result }
 {
     let asked = zip_asks(

@@ -106,9 +106,9 @@ module _ (s o : ℕ) (es vs e₁ v₁ : List ℤ) (w₁ : Writer) where
             let g = a.pushed done first e₀ v₀ b in
             let at = merge_at g x next_start in
             let n = count-firsts done in (
-              omega (arith, g.at_last, b.room-ends),
-              omega (arith, g.long-ends, b.merging.long-ends, b.room-ends),
-              omega (arith, g.long-values, b.merging.long-values, b.room-values),
+              omega (arith, g.at_last, b.room_ends),
+              omega (arith, g.long_ends, b.merging.long_ends, b.room_ends),
+              omega (arith, g.long_values, b.merging.long_values, b.room_values),
             )
 
       pub append-next : {z : ℤ} {e' v' : List ℤ} {next : Writer} → PushedMerged w z x e e' v v' next → z ≡ pos (to_nat (get_or es r (pos 0)) - s + o)
@@ -117,8 +117,8 @@ module _ (s o : ℕ) (es vs e₁ v₁ : List ℤ) (w₁ : Writer) where
         within = omega arith;
         pushed = λ done first e₀ v₀ b. let n = count-firsts done in
             merge_more (a.pushed done first e₀ v₀ b) x (next_start b) (to_nat (get_or es r (pos 0)) - s + o) d ez
-            (push_next s o done es vs r h m.paired ∙ rw ex) (omega (arith, b.merging.long-ends, b.room-ends))
-            (omega (arith, b.merging.long-values, b.room-values));
+            (push_next s o done es vs r h m.paired ∙ rw ex) (omega (arith, b.merging.long_ends, b.room_ends))
+            (omega (arith, b.merging.long_values, b.room_values));
       }
 
     pub append-end : length es ≤ r → Appended s o es vs e₁ e v₁ v w₁ w

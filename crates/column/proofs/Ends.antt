@@ -48,8 +48,8 @@ natural-from p (e ∷ es) zero r h = r.0
 natural-from p (e ∷ es) (suc i) r h = natural-from (to_nat e) es i r.2 (omega arith)
 
 -- each of them is a natural number
-pub natural-end : (es : List ℤ) (i : ℕ) → ends_valid es ≡ none → i < length es → get_or es i (pos 0) ≡ pos (to_nat (get_or es i (pos 0)))
-natural-end es i h l = natural-from 0 es i (rising es h) l
+pub natural_end : (es : List ℤ) (i : ℕ) → ends_valid es ≡ none → i < length es → get_or es i (pos 0) ≡ pos (to_nat (get_or es i (pos 0)))
+natural_end es i h l = natural-from 0 es i (rising es h) l
 
 -- the ends of runs that rise are valid
 ends-yes : (i p : ℕ) (rs : Runs) → Rising p rs → ends_from i (pos p) (ends_of rs) ≡ none

@@ -68,35 +68,35 @@ pub record Laying (cs : List Runs) (x₀ x : List ℕ) (e₀ e v₀ v : List ℤ
   pub within : i ≤ length cs
   pub offsets : x ≡ over (flat_offsets (take i cs)) x₀
   pub filled : Filled (every_runs (take i cs)) e₀ e v₀ v used
-  pub long-offsets : length x ≡ length x₀
-  pub long-ends : length e ≡ length e₀
-  pub long-values : length v ≡ length v₀
+  pub long_offsets : length x ≡ length x₀
+  pub long_ends : length e ≡ length e₀
+  pub long_values : length v ≡ length v₀
 
 -- the first offset is written before the others
 module _ (x : List ℕ) (h : 0 < length x) where
-  first-offset : set x 0 0 ≡ over (0 ∷ []) x
+  first_offset : set x 0 0 ≡ over (0 ∷ []) x
   unfolding over
-  first-offset = over-next [] x 0 0 refl h
+  first_offset = over-next [] x 0 0 refl h
 
-  pub laying-start : (cs : List Runs) (e₀ v₀ : List ℤ) → Laying cs (set x 0 0) (set x 0 0) e₀ e₀ v₀ v₀ 0 0
+  pub laying_start : (cs : List Runs) (e₀ v₀ : List ℤ) → Laying cs (set x 0 0) (set x 0 0) e₀ e₀ v₀ v₀ 0 0
   unfolding over ends_of values_of offsets_from
-  laying-start cs e₀ v₀ = record {
+  laying_start cs e₀ v₀ = record {
     within = omega arith;
-    offsets = first-offset ∙ sym (over-over (0 ∷ []) (0 ∷ []) x (omega arith)) ∙ ap (over (0 ∷ [])) (sym first-offset);
+    offsets = first_offset ∙ sym (over-over (0 ∷ []) (0 ∷ []) x (omega arith)) ∙ ap (over (0 ∷ [])) (sym first_offset);
     filled = record { count = refl; ends = refl; values = refl };
-    long-offsets = refl;
-    long-ends = refl;
-    long-values = refl;
+    long_offsets = refl;
+    long_ends = refl;
+    long_values = refl;
   }
 
-  pub laying-end : {cs : List Runs} {y : List ℕ} {e₀ e v₀ v : List ℤ} {used i : ℕ} → Laying cs (set x 0 0) y e₀ e v₀ v used i → length cs ≤ i
+  pub laying_end : {cs : List Runs} {y : List ℕ} {e₀ e v₀ v : List ℤ} {used i : ℕ} → Laying cs (set x 0 0) y e₀ e v₀ v used i → length cs ≤ i
       → FilledFlat cs x y e₀ e v₀ v used
-  laying-end {cs} {e₀ = e₀} {e} {v₀} {v} {used} {i} s k =
+  laying_end {cs} {e₀ = e₀} {e} {v₀} {v} {used} {i} s k =
       let all : take i cs ≡ cs = take_all i cs k in
       let f : Filled (every_runs cs) e₀ e v₀ v used = rw all at s.filled in
       record {
         count = f.count ∙ length-all cs;
-        offsets = rw all at s.offsets ∙ ap (over (flat_offsets cs)) first-offset ∙ over-over (flat_offsets cs) (0 ∷ []) x (omega arith);
+        offsets = rw all at s.offsets ∙ ap (over (flat_offsets cs)) first_offset ∙ over-over (flat_offsets cs) (0 ∷ []) x (omega arith);
         ends = rw flat-ends f.ends;
         values = rw flat-values f.values;
       }
@@ -122,7 +122,7 @@ module _ {cs : List Runs} {x₀ x : List ℕ} {e₀ e v₀ v : List ℤ} {used i
         let rv = laying-room (length v₀) kv in
         let m : Filled (every_runs (take (i + 1) cs)) e₀ (put_mid used (length e - used) e e₂) v₀ (put_mid used (length v - used) v v₂) (used + n) =
         rw (one_more, all-behind (take i cs) c)
-        (fill-behind (every_runs (take i cs)) c e₀ e e₂ v₀ v v₂ used n s.filled f (omega (arith, s.long-ends)) (omega (arith, s.long-values))) in
+        (fill-behind (every_runs (take i cs)) c e₀ e e₂ v₀ v v₂ used n s.filled f (omega (arith, s.long_ends)) (omega (arith, s.long_values))) in
         let at : i + 1 ≡ length (flat_offsets (take i cs)) = omega (arith, length-offsets 0 (take i cs), length-take-le i cs (omega arith)) in
         let o : 0 + length (every_runs (take i cs)) + length c ≡ used + n = omega (arith, s.filled.count, f.count) in
         record {
@@ -130,9 +130,9 @@ module _ {cs : List Runs} {x₀ x : List ℕ} {e₀ e v₀ v : List ℤ} {used i
           offsets = rw s.offsets (over-next (flat_offsets (take i cs)) x₀ (i + 1) (used + n) at (omega arith)
               ∙ ap (λ (l : List ℕ). over (0 ∷ l) x₀) (sym (rw (one_more, offsets-behind 0 (take i cs) c, o))));
           filled = m;
-          long-offsets = rw length-set s.long-offsets;
-          long-ends = ap length m.ends ∙ length_over (ends_of (every_runs (take (i + 1) cs))) e₀ (rw length-ends (omega (arith, together)));
-          long-values = ap length m.values ∙ length_over (values_of (every_runs (take (i + 1) cs))) v₀ (rw length-values (omega (arith, together)));
+          long_offsets = rw length-set s.long_offsets;
+          long_ends = ap length m.ends ∙ length_over (ends_of (every_runs (take (i + 1) cs))) e₀ (rw length-ends (omega (arith, together)));
+          long_values = ap length m.values ∙ length_over (values_of (every_runs (take (i + 1) cs))) v₀ (rw length-values (omega (arith, together)));
         }
 
 -- ---- what a worker laid flat, after a "yes" to every question, is what a call promises; and so is what was there, after a "no"

@@ -16,7 +16,7 @@ use Rattle.column.proofs.Sequences.{length-ends, length-values}
 
 pub merge_start : (first : ℤ) (e₀ v₀ : List ℤ) → Merging [] first e₀ v₀ e₀ v₀ (record { at = 0; last = first })
 unfolding ends_of values_of over last_of
-merge_start first e₀ v₀ = record { ends = refl; values = refl; long-ends = refl; long-values = refl; at_last = refl; last-value = refl }
+merge_start first e₀ v₀ = record { ends = refl; values = refl; long_ends = refl; long_values = refl; at_last = refl; last_value = refl }
 
 -- no runs: nothing is written
 pub fill_none : (e₀ v₀ : List ℤ) → Filled [] e₀ e₀ v₀ v₀ 0
@@ -30,7 +30,7 @@ module _ {rs : Runs} {first : ℤ} {e₀ v₀ e v : List ℤ} {w : Writer} (m : 
   -- x is the next value
   module _ (x : ℤ) (start : length rs ≡ 0 → first ≡ x) where
     merge_place : next_place w x ≡ place rs x
-    merge_place = rw (m.last-value, m.at_last) (sym (place-last first rs x start))
+    merge_place = rw (m.last_value, m.at_last) (sym (place-last first rs x start))
 
     -- its run goes at most as far as there are runs
     pub merge_at : next_place w x ≤ length rs
@@ -50,8 +50,8 @@ module _ {rs : Runs} {first : ℤ} {e₀ v₀ e v : List ℤ} {w : Writer} (m : 
           values = d.values ∙ rw (m.values, merge_place)
               (over_store (values_of rs) v₀ (place rs x) x (rw (length-values rs) low) (rw (length-values rs) high) (omega arith)
               ∙ ap (λ (l : List ℤ). over l v₀) (sym (values_push rs p x)));
-          long-ends = ap length d.ends ∙ rw length-set m.long-ends;
-          long-values = ap length d.values ∙ rw length-set m.long-values;
+          long_ends = ap length d.ends ∙ rw length-set m.long_ends;
+          long_values = ap length d.values ∙ rw length-set m.long_values;
           at_last = d.place ∙ rw merge_place (omega (arith, length_push rs p x));
-          last-value = d.last ∙ sym (last_push first rs p x);
+          last_value = d.last ∙ sym (last_push first rs p x);
         })

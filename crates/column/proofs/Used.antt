@@ -58,10 +58,10 @@ module _ (n : ℕ) (e v : List ℤ) (in-ends : n ≤ length e) (in_values : n �
     used-merging first a l = record {
       ends = over-ends;
       values = over-values;
-      long-ends = refl;
-      long-values = refl;
+      long_ends = refl;
+      long_values = refl;
       at_last = a ∙ ap (λ (k : ℕ). k - 1) (sym used-count);
-      last-value = l;
+      last_value = l;
     }
 
   -- the last value of those entries

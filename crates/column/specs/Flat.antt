@@ -17,9 +17,6 @@ pub record Flat : Type 0 where
 abbrev pub flat : List ℕ → List ℤ → List ℤ → Flat
 flat os es vs = record { offsets = os; ends = es; values = vs }
 
-abbrev pub given_flat : Lent ℕ → Lent ℤ → Lent ℤ → Flat
-given_flat os es vs = flat (given os) (given es) (given vs)
-
 -- as many as there are offsets but the first
 abbrev pub count : Flat → ℕ
 count f = length f.offsets - 1

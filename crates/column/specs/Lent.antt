@@ -1,10 +1,10 @@
--- A list that a call is lent, to be read or to be written.
+-- A list that a call is lent to be written.
 use Rattle.std.specs.Prelude.{List}
-use Rattle.std.specs.Borrow.{Bor}
+use Rattle.std.specs.Borrow.{MutBor}
 use denote.Triple.Both.{Both}
 
 abbrev pub Lent : Type 0 → Type 0
-Lent A = Both (Bor (List A)) (Bor (List A))
+Lent A = Both (MutBor (List A)) (MutBor (List A))
 
 -- what it held when the call began
 abbrev pub given : {A : Type 0} → Lent A → List A

@@ -11,9 +11,6 @@ pub record Sequence : Type 0 where
 abbrev pub sequence : List ℤ → List ℤ → Sequence
 sequence es vs = record { ends = es; values = vs }
 
-abbrev pub given_sequence : Lent ℤ → Lent ℤ → Sequence
-given_sequence es vs = sequence (given es) (given vs)
-
 -- a run: its end, and its value
 pub record Run : Type 0 where
   pub end : ℕ

@@ -47,10 +47,10 @@ last_of v (r ∷ rs) = last_of r.value rs
 pub record Merging (rs : Runs) (first : ℤ) (e₀ v₀ e v : List ℤ) (w : Writer) : Type 0 where
   pub ends : e ≡ over (ends_of rs) e₀
   pub values : v ≡ over (values_of rs) v₀
-  pub long-ends : length e ≡ length e₀
-  pub long-values : length v ≡ length v₀
+  pub long_ends : length e ≡ length e₀
+  pub long_values : length v ≡ length v₀
   pub at_last : w.at ≡ length rs - 1
-  pub last-value : w.last ≡ last_of first rs
+  pub last_value : w.last ≡ last_of first rs
 
 -- the runs, each pushed onto those before it
 unfoldable pub push_all : Runs → Runs → Runs
@@ -70,8 +70,8 @@ RisingEnds p (e ∷ es) = (e ≡ pos (to_nat e)) × (p < to_nat e) × RisingEnds
 pub record Behind (done : Runs) (first : ℤ) (e₀ v₀ e v : List ℤ) (w : Writer) (es vs : List ℤ) : Type 0 where
   pub merging : Merging done first e₀ v₀ e v w
   pub started : length done ≡ 0 → 0 < length es → first ≡ get_or vs 0 (pos 0)
-  pub room-ends : length done + length es ≤ length e
-  pub room-values : length done + length es ≤ length v
+  pub room_ends : length done + length es ≤ length e
+  pub room_values : length done + length es ≤ length v
 
 -- ends from `start` on that stay i64 at `offset`, with a value each
 pub record Movable (start offset : ℕ) (es vs : List ℤ) : Type 0 where

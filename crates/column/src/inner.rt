@@ -2,7 +2,6 @@
 ghost use Rattle.std.specs.Prelude.{◌+◌, ◌<◌, ◌^◌, ◌≡◌, length};
 ghost use Rattle.num.specs.Numbers.{eq_z};
 ghost use Rattle.column.specs.Workers.{place_after, next_place, PushedMerged, Appendable, Appended};
-ghost use Rattle.column.specs.Lent.{given, after};
 
 // The last run that was written: its place and its value. Before the first run they are 0 and that run's own value.
 #[derive(Drop)]
@@ -28,7 +27,7 @@ pub fn push_merged(
 ) -> Writer
     requires { (writer.at + 1 < 2 ^ 64)
         × (next_place writer value < length out_ends.old) × (next_place writer value < length out_values.old) }
-    ensures { PushedMerged writer end value (given out_ends) (after out_ends) (given out_values) (after out_values) result }
+    ensures { PushedMerged writer end value out_ends.old out_ends.new out_values.old out_values.new result }
 {
     let at = place_after(writer.at, writer.last, value);
     out_ends[at] = end;
@@ -48,7 +47,7 @@ pub fn append_merged(
 ) -> Writer
     requires { Appendable start offset ends.now values.now out_ends.old out_values.old writer }
     ensures { Appended start
-        offset (given ends) (given values) (given out_ends) (after out_ends) (given out_values) (after out_values) writer result }
+        offset ends.now values.now out_ends.old out_ends.new out_values.old out_values.new writer result }
 {
     let mut next = writer;
     let mut r: usize = 0;

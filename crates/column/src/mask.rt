@@ -1,11 +1,10 @@
 // The bytes of a mask: which is not 0 or 1, and how many are 1.
 ghost use Rattle.std.specs.Prelude.{◌+◌, ◌<◌, ◌^◌, cond, ◌≡◌, eqb};
 ghost use Rattle.column.specs.Workers.{first_unlisted, mask_ones};
-ghost use Rattle.column.specs.Lent.{given};
 
 // The lowest index of a byte above 1, or the length.
 pub fn first_unlisted(mask: &[u8]) -> usize
-    ensures { result ≡ first_unlisted (given mask) }
+    ensures { result ≡ first_unlisted mask.now }
 {
     let mut i = 0;
     while i < mask.len() {
@@ -27,7 +26,7 @@ fn count_if_one(count: usize, byte: u8) -> usize
 
 // How many bytes are 1. The choice has no branch, so that the loop becomes vector instructions.
 pub fn mask_ones(mask: &[u8]) -> usize
-    ensures { result ≡ mask_ones (given mask) }
+    ensures { result ≡ mask_ones mask.now }
 {
     let mut count: usize = 0;
     let mut i: usize = 0;

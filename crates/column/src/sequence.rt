@@ -2,7 +2,6 @@
 ghost use Rattle.std.specs.Prelude.{◌≡◌, get_or};
 ghost use Rattle.column.specs.Lists.{part};
 ghost use Rattle.column.specs.Runs.{end_before, to_nat, length_of_ends};
-ghost use Rattle.column.specs.Lent.{given};
 
 // A number that is not negative, as a count; a negative one counts as 0.
 pub fn to_nat(x: i64) -> usize
@@ -13,7 +12,7 @@ pub fn to_nat(x: i64) -> usize
 
 // The length of a sequence: its last end, or 0.
 pub fn length(ends: &[i64]) -> i64
-    ensures { result ≡ length_of_ends (given ends) }
+    ensures { result ≡ length_of_ends ends.now }
 {
     let n = ends.len();
     if n == 0 { 0 } else { ends[n - 1] }
@@ -21,7 +20,7 @@ pub fn length(ends: &[i64]) -> i64
 
 // The entry at an index, or another number past the last.
 pub fn entry_or(entries: &[i64], index: usize, otherwise: i64) -> i64
-    ensures { result ≡ get_or (given entries) index otherwise }
+    ensures { result ≡ get_or entries.now index otherwise }
 {
     if index < entries.len() {
         entries[index]
@@ -32,7 +31,7 @@ pub fn entry_or(entries: &[i64], index: usize, otherwise: i64) -> i64
 
 // The end before an index, 0 before the first.
 pub fn end_before(ends: &[i64], index: usize) -> i64
-    ensures { result ≡ end_before (given ends) index }
+    ensures { result ≡ end_before ends.now index }
 {
     if index == 0 {
         0
@@ -43,7 +42,7 @@ pub fn end_before(ends: &[i64], index: usize) -> i64
 
 // The entries from one index up to another, as far as there are any.
 pub fn part(entries: &[i64], from: usize, to: usize) -> &[i64]
-    ensures { result.now ≡ part from to (given entries) }
+    ensures { result.now ≡ part from to entries.now }
 {
     let n = entries.len();
     if n < from {

@@ -209,7 +209,7 @@ module _ (fa fb : Fill) where
         joins-pairs : (xs : List Pair) → All (PairWithin n) xs → JoinsUpByKey lends (map (zip_pair op fa fb) xs) (map (part xs) (spans points))
         joins-pairs xs v = record {
           keys = same_keys xs (spans points);
-          each-key = λ k h. rw (map-map (runs_at k) (part xs) (spans points)) (each-pair (lends (joins k)) (enough (joins k)) xs v k h);
+          each_key = λ k h. rw (map-map (runs_at k) (part xs) (spans points)) (each-pair (lends (joins k)) (enough (joins k)) xs v k h);
         }
 
         cut-pairs : (q : Question) (xs : List Pair) → All (PairWithin n) xs

@@ -116,7 +116,7 @@ module _ (lends : Call → List ℕ → List ℕ) where
   -- "in a batch this holds key by key, with equal keys in the same order"
   pub record JoinsUpByKey (whole : List Entry) (parts : List (List Entry)) : Type 0 where
     pub keys : map keys_of parts ≡ map (λ (part : List Entry). keys_of whole) parts
-    pub each-key : (k : ℕ) → k < length whole → JoinsUp (lends (joins k)) (runs_at k whole) (map (runs_at k) parts)
+    pub each_key : (k : ℕ) → k < length whole → JoinsUp (lends (joins k)) (runs_at k whole) (map (runs_at k) parts)
 
   -- ---- the claim, "for two_way, many_way and keyed batch combination, with every operation, whichever fills are given or missing"
 

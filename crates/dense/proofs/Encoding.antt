@@ -63,7 +63,7 @@ pub encoded_none : (xs e₀ v₀ : List ℤ) {first : ℤ} → first ≡ get_or 
 unfolding encode encode_from
 encoded_none xs e₀ v₀ e =
     let m = merge_start (get_or xs 0 (pos 0)) e₀ v₀ in
-    record { ends = m.ends; values = m.values; at_last = refl; last-value = e }
+    record { ends = m.ends; values = m.values; at_last = refl; last_value = e }
 
 pub encoded_at : {xs e₀ v₀ e v : List ℤ} {w : Writer} {i : ℕ} → Encoded xs e₀ e v₀ v w i → i ≤ length xs → w.at ≤ i
 encoded_at {xs} {i = i} d k = omega (arith, few xs i k, d.at_last)
@@ -76,14 +76,14 @@ module _ {xs e₀ v₀ e v : List ℤ} {w : Writer} {i : ℕ} (d : Encoded xs e�
       record {
         ends = d.ends;
         values = d.values;
-        long-ends = ap length d.ends ∙ length_over _ e₀ (omega (arith, length-ends (encode (take i xs))));
-        long-values = ap length d.values ∙ length_over _ v₀ (omega (arith, length-values (encode (take i xs))));
+        long_ends = ap length d.ends ∙ length_over _ e₀ (omega (arith, length-ends (encode (take i xs))));
+        long_values = ap length d.values ∙ length_over _ v₀ (omega (arith, length-values (encode (take i xs))));
         at_last = d.at_last;
-        last-value = d.last-value ∙ sym (encode-last xs i k);
+        last_value = d.last_value ∙ sym (encode-last xs i k);
       }
 
   pub encoded_long : (length e ≡ length e₀) × (length v ≡ length v₀)
-  encoded_long = (merging.long-ends, merging.long-values)
+  encoded_long = (merging.long_ends, merging.long_values)
 
   pub encoded_end : length xs ≤ i → 0 < length xs → Filled (encode xs) e₀ e v₀ v (w.at + 1)
   encoded_end h some = let all : take i xs ≡ xs = take_all i xs h in merge_end (rw all at merging) (encode-pos xs some)
@@ -93,9 +93,9 @@ module _ {xs e₀ v₀ e v : List ℤ} {w : Writer} {i : ℕ} (d : Encoded xs e�
   encodable j h n = record {
     ordered = h;
     within = n;
-    room-ends = omega (arith, encoded_long.0);
-    room-values = omega (arith, encoded_long.1);
-    written = record { ends = over-again _ e₀ d.ends; values = over-again _ v₀ d.values; at_last = d.at_last; last-value = d.last-value };
+    room_ends = omega (arith, encoded_long.0);
+    room_values = omega (arith, encoded_long.1);
+    written = record { ends = over-again _ e₀ d.ends; values = over-again _ v₀ d.values; at_last = d.at_last; last_value = d.last_value };
   }
 
   pub encoded_on : {e' v' : List ℤ} {w' : Writer} {j : ℕ} → Encoded xs e e' v v' w' j → i ≤ j → j ≤ length xs → Encoded xs e₀ e' v₀ v' w' j
@@ -106,7 +106,7 @@ module _ {xs e₀ v₀ e v : List ℤ} {w : Writer} {i : ℕ} (d : Encoded xs e�
         ends = over_on _ e₀ d.ends _ d'.ends (simp length-ends m);
         values = over_on _ v₀ d.values _ d'.values (simp length-values m);
         at_last = d'.at_last;
-        last-value = d'.last-value;
+        last_value = d'.last_value;
       }
 
   -- a stretch of the value x from i up to j
@@ -127,7 +127,7 @@ module _ {xs e₀ v₀ e v : List ℤ} {w : Writer} {i : ℕ} (d : Encoded xs e�
     encoded_stretch p ez =
         let l = few xs i k in
         let m = merge_more merging x start j p ez (encode-stretch xs i j x h k s) (omega arith) (omega arith) in
-        record { ends = m.ends; values = m.values; at_last = m.at_last; last-value = m.last-value ∙ encode-last xs j n }
+        record { ends = m.ends; values = m.values; at_last = m.at_last; last_value = m.last_value ∙ encode-last xs j n }
 
   -- one value
   module _ (h : i < length xs) {x : ℤ} (ex : x ≡ get_or xs i (pos 0)) where

@@ -12,12 +12,12 @@ pub record Encoded (xs e e' v v' : List ℤ) (w : Writer) (i : ℕ) : Type 0 whe
   pub ends : e' ≡ over (ends_of (encode (take i xs))) e
   pub values : v' ≡ over (values_of (encode (take i xs))) v
   pub at_last : w.at ≡ length (encode (take i xs)) - 1
-  pub last-value : w.last ≡ get_or xs (i - 1) (pos 0)
+  pub last_value : w.last ≡ get_or xs (i - 1) (pos 0)
 
 -- the first i of xs are written, and there is room to go on up to j
 pub record Encodable (xs e v : List ℤ) (w : Writer) (i j : ℕ) : Type 0 where
   pub ordered : i ≤ j
   pub within : j ≤ length xs
-  pub room-ends : length xs ≤ length e
-  pub room-values : length xs ≤ length v
+  pub room_ends : length xs ≤ length e
+  pub room_values : length xs ≤ length v
   pub written : Encoded xs e e v v w i

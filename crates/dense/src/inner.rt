@@ -5,7 +5,6 @@ ghost use Rattle.num.specs.Numbers.{eq_z};
 ghost use Rattle.column.specs.Questions.{ends_valid};
 ghost use Rattle.column.specs.Runs.{runs_of, dense, encode, over, Fills};
 ghost use Rattle.dense.specs.Workers.{Constant, Encoded, Encodable};
-ghost use Rattle.column.specs.Lent.{given, after};
 
 use column::inner::Writer;
 
@@ -23,7 +22,7 @@ fn count_if_equal(count: usize, x: i64, y: i64) -> usize
 // It counts, as that becomes vector instructions, where a conjunction becomes a branch for each value.
 fn all_equal(values: &[i64], from: usize, to: usize, value: i64) -> bool
     requires { (from ≤ to) × (to ≤ length values.now) }
-    ensures { result ≡ true → Constant (given values) from to value }
+    ensures { result ≡ true → Constant values.now from to value }
 {
     let mut count: usize = 0;
     let mut i = from;
@@ -45,7 +44,7 @@ fn push_values(
     out_values: &mut [i64],
 ) -> Writer
     requires { Encodable values.now out_ends.old out_values.old writer from to }
-    ensures { Encoded (given values) (given out_ends) (after out_ends) (given out_values) (after out_values) result to }
+    ensures { Encoded values.now out_ends.old out_ends.new out_values.old out_values.new result to }
 {
     let mut next = writer;
     let mut i = from;
@@ -67,7 +66,7 @@ fn push_block(
     out_values: &mut [i64],
 ) -> Writer
     requires { (from < to) × Encodable values.now out_ends.old out_values.old writer from to }
-    ensures { Encoded (given values) (given out_ends) (after out_ends) (given out_values) (after out_values) result to }
+    ensures { Encoded values.now out_ends.old out_ends.new out_values.old out_values.new result to }
 {
     let last = writer.last;
     if all_equal(values, from, to, last) {
@@ -80,7 +79,7 @@ fn push_block(
 // The merged runs of values.
 pub fn from_dense(values: &[i64], out_ends: &mut [i64], out_values: &mut [i64]) -> usize
     requires { (length values.now ≤ length out_ends.old) × (length values.now ≤ length out_values.old) }
-    ensures { Fills (encode (given values)) out_ends out_values result }
+    ensures { Fills (encode values.now) out_ends out_values result }
 {
     if values.len() == 0 {
         return 0;
@@ -100,7 +99,7 @@ pub fn from_dense(values: &[i64], out_ends: &mut [i64], out_values: &mut [i64]) 
 // The entries from `from` up to `to` set to a value.
 fn fill(out: &mut [i64], from: usize, to: usize, value: i64)
     requires { (from ≤ to) × (to ≤ length out.old) }
-    ensures { after out ≡ take from (given out) ++ replicate (to - from) value ++ drop to (given out) }
+    ensures { out.new ≡ take from out.old ++ replicate (to - from) value ++ drop to out.old }
 {
     let mut p = from;
     while p < to {
@@ -113,8 +112,8 @@ fn fill(out: &mut [i64], from: usize, to: usize, value: i64)
 pub fn to_dense(ends: &[i64], values: &[i64], out: &mut [i64]) -> usize
     requires { (ends_valid ends.now ≡ none) × (length ends.now ≡ length values.now)
         × (length (dense (runs_of ends.now values.now)) ≤ length out.old) }
-    ensures { (result ≡ length (dense (runs_of (given ends) (given values))))
-        × (after out ≡ over (dense (runs_of (given ends) (given values))) (given out)) }
+    ensures { (result ≡ length (dense (runs_of ends.now values.now)))
+        × (out.new ≡ over (dense (runs_of ends.now values.now)) out.old) }
 {
     let mut p: usize = 0;
     let mut r: usize = 0;

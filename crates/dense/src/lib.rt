@@ -5,16 +5,15 @@ pub mod inner;
 ghost use Rattle.std.specs.Prelude.{[], ◌∷◌, ◌≡◌};
 ghost use Rattle.column.specs.Asking.{shown_asked};
 ghost use Rattle.column.specs.Paper.{WritesRuns, WritesEntries};
-ghost use Rattle.column.specs.Runs.{given_sequence};
+ghost use Rattle.column.specs.Runs.{sequence};
 ghost use Rattle.dense.specs.Calls as calls;
-ghost use Rattle.column.specs.Lent.{given};
 
 use column::answer::{Asked, Counted};
 use column::sequence;
 
 // The merged sequence that shows the values.
 pub fn from_dense(values: &[i64], out_ends: &mut [i64], out_values: &mut [i64]) -> Counted
-    ensures { WritesRuns (calls.from_dense (given values)) out_ends out_values result }
+    ensures { WritesRuns (calls.from_dense values.now) out_ends out_values result }
 {
     let asked = questions::ask_both(values.len(), out_ends.len(), out_values.len());
     match asked {
@@ -27,7 +26,7 @@ pub fn from_dense(values: &[i64], out_ends: &mut [i64], out_values: &mut [i64]) 
 }
 
 fn to_dense_asks(ends: &[i64], values: &[i64], out: usize) -> Asked
-    ensures { shown_asked result ≡ calls.to_dense_asked (given_sequence ends values) (out ∷ []) }
+    ensures { shown_asked result ≡ calls.to_dense_asked (sequence ends.now values.now) (out ∷ []) }
 {
     let needed = sequence::to_nat(sequence::length(ends));
     questions::ask_sequence(ends, values).and(questions::ask_room(0, needed, out))
@@ -35,7 +34,7 @@ fn to_dense_asks(ends: &[i64], values: &[i64], out: usize) -> Asked
 
 // The values that a sequence shows, one for each position.
 pub fn to_dense(ends: &[i64], values: &[i64], out: &mut [i64]) -> Counted
-    ensures { WritesEntries (calls.to_dense (given_sequence ends values)) out result }
+    ensures { WritesEntries (calls.to_dense (sequence ends.now values.now)) out result }
 {
     let asked = to_dense_asks(ends, values, out.len());
     match asked {

@@ -3,7 +3,6 @@ ghost use Rattle.std.specs.Prelude.{◌≡◌};
 ghost use Rattle.column.specs.Runs.{sequence, runs_of, dense};
 ghost use Rattle.equals.specs.Calls.{same};
 ghost use Rattle.equals.specs.Workers.{Comparable};
-ghost use Rattle.column.specs.Lent.{given};
 
 use column::sequence;
 use plan::inner::Segments;
@@ -11,7 +10,7 @@ use plan::inner::Segments;
 // Columns of one length are compared at every segment, up to the first that shows two values.
 pub fn equals(a_ends: &[i64], a_values: &[i64], b_ends: &[i64], b_values: &[i64]) -> bool
     requires { Comparable (sequence a_ends.now a_values.now) (sequence b_ends.now b_values.now) }
-    ensures { result ≡ same (dense (runs_of (given a_ends) (given a_values))) (dense (runs_of (given b_ends) (given b_values))) }
+    ensures { result ≡ same (dense (runs_of a_ends.now a_values.now)) (dense (runs_of b_ends.now b_values.now)) }
 {
     if sequence::length(a_ends) != sequence::length(b_ends) {
         return false;

@@ -4,7 +4,7 @@ pub mod inner;
 
 ghost use Rattle.std.specs.Prelude.{◌≡◌};
 ghost use Rattle.column.specs.Asking.{shown_asked};
-ghost use Rattle.column.specs.Runs.{given_sequence};
+ghost use Rattle.column.specs.Runs.{sequence};
 ghost use Rattle.equals.specs.Calls.{shown_equality};
 ghost use Rattle.equals.specs.Calls as calls;
 
@@ -21,7 +21,7 @@ pub enum Equality {
 
 // Joined from the last on: if from the first on, the compiler makes a slower loop for `equals` (docs/SPEED.md).
 fn equals_asks(a_ends: &[i64], a_values: &[i64], b_ends: &[i64], b_values: &[i64]) -> Asked
-    ensures { shown_asked result ≡ calls.equals_asked (given_sequence a_ends a_values) (given_sequence b_ends b_values) }
+    ensures { shown_asked result ≡ calls.equals_asked (sequence a_ends.now a_values.now) (sequence b_ends.now b_values.now) }
 {
     let lengths_a = questions::ask_lengths(3, a_ends.len(), a_values.len());
     let lengths_b = questions::ask_lengths(3, b_ends.len(), b_values.len());
@@ -32,7 +32,7 @@ fn equals_asks(a_ends: &[i64], a_values: &[i64], b_ends: &[i64], b_values: &[i64
 
 // Whether two sequences show the same values at every position, however their runs are split.
 pub fn equals(a_ends: &[i64], a_values: &[i64], b_ends: &[i64], b_values: &[i64]) -> Equality
-    ensures { shown_equality result ≡ calls.equals (given_sequence a_ends a_values) (given_sequence b_ends b_values) }
+    ensures { shown_equality result ≡ calls.equals (sequence a_ends.now a_values.now) (sequence b_ends.now b_values.now) }
 {
     let asked = equals_asks(a_ends, a_values, b_ends, b_values);
     match asked {

@@ -5,7 +5,6 @@ ghost use Rattle.column.specs.Questions.{run_by_run};
 ghost use Rattle.column.specs.Runs.{Fills};
 ghost use Rattle.from_runs.specs.Calls.{runs_from};
 ghost use Rattle.from_runs.specs.Workers.{PutRun};
-ghost use Rattle.column.specs.Lent.{given, after};
 
 // A run up to `end` at entry n, unless its length is 0: how many entries there are then.
 pub fn put_run(
@@ -17,7 +16,7 @@ pub fn put_run(
     value: i64,
 ) -> usize
     requires { (n < length out_ends.old) × (n < length out_values.old) }
-    ensures { PutRun (given out_ends) (after out_ends) (given out_values) (after out_values) n run end value result }
+    ensures { PutRun out_ends.old out_ends.new out_values.old out_values.new n run end value result }
 {
     if run == 0 {
         return n;
@@ -36,7 +35,7 @@ pub fn from_runs(
 ) -> usize
     requires { (length runs.now ≡ length values.now) × (run_by_run 0 0 runs.now ≡ none)
         × (length runs.now ≤ length out_ends.old) × (length runs.now ≤ length out_values.old) }
-    ensures { Fills (runs_from 0 (given runs) (given values)) out_ends out_values result }
+    ensures { Fills (runs_from 0 runs.now values.now) out_ends out_values result }
 {
     let mut end: i64 = 0;
     let mut n: usize = 0;

@@ -5,14 +5,13 @@ pub mod inner;
 ghost use Rattle.std.specs.Prelude.{[], ◌∷◌, ◌≡◌, length};
 ghost use Rattle.column.specs.Asking.{shown_asked};
 ghost use Rattle.column.specs.Paper.{shown_checked, WritesRuns};
-ghost use Rattle.column.specs.Runs.{given_sequence};
+ghost use Rattle.column.specs.Runs.{sequence};
 ghost use Rattle.from_runs.specs.Calls as calls;
-ghost use Rattle.column.specs.Lent.{given};
 
 use column::answer::{Asked, Checked, Counted};
 
 fn from_runs_asks(runs: &[i64], values: &[i64], out_ends: usize, out_values: usize) -> Asked
-    ensures { shown_asked result ≡ calls.from_runs_asked (given runs) (given values) (out_ends ∷ out_values ∷ []) }
+    ensures { shown_asked result ≡ calls.from_runs_asked runs.now values.now (out_ends ∷ out_values ∷ []) }
 {
     questions::ask_lengths(1, runs.len(), values.len())
         .and(questions::ask_runs(runs))
@@ -26,7 +25,7 @@ pub fn from_runs(
     out_ends: &mut [i64],
     out_values: &mut [i64],
 ) -> Counted
-    ensures { WritesRuns (calls.from_runs (given runs) (given values)) out_ends out_values result }
+    ensures { WritesRuns (calls.from_runs runs.now values.now) out_ends out_values result }
 {
     let asked = from_runs_asks(runs, values, out_ends.len(), out_values.len());
     match asked {
@@ -40,7 +39,7 @@ pub fn from_runs(
 
 // Whether ends and values are a sequence.
 pub fn from_ends(ends: &[i64], values: &[i64]) -> Checked
-    ensures { shown_checked result ≡ calls.from_ends (given_sequence ends values) }
+    ensures { shown_checked result ≡ calls.from_ends (sequence ends.now values.now) }
 {
     let asked = questions::ask_sequence(ends, values);
     match asked {

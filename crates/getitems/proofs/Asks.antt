@@ -53,7 +53,7 @@ getitems-yes es vs starts stops x e v h =
       valid = y.1.1.0;
       paired = agree-told 3 (length es) (length vs) y.0;
       intervals = agree-told 8 (length starts) (length stops) y.1.0;
-      room-offsets = room-told 0 (length starts + 1) (length x) r.0;
-      room-ends = room-told 1 n (length e) r.1.0;
-      room-values = room-told 2 n (length v) r.1.1.0;
+      room_offsets = room-told 0 (length starts + 1) (length x) r.0;
+      room_ends = room-told 1 n (length e) r.1.0;
+      room_values = room-told 2 n (length v) r.1.1.0;
     }

@@ -60,8 +60,8 @@ module _ (es vs starts stops : List ℤ) (valid : ends_valid es ≡ none) (l : l
     valid = valid;
     paired = l;
     first_found = f valid ∙ ap (found es 0) (sym ex);
-    room-ends = rw (item_is, rest-length) (omega arith);
-    room-values = rw (item_is, rest-length) (omega arith);
+    room_ends = rw (item_is, rest-length) (omega arith);
+    room_values = rw (item_is, rest-length) (omega arith);
   }
 
   pub item-filled : {e e' v v' : List ℤ} {n : ℕ} → Filled (slice_runs x y (runs_of es vs)) e e' v v' n → Filled item e e' v v' n

@@ -47,6 +47,6 @@ reduce-yes es vs starts stops code k b h =
       valid = y.1.1.1.0;
       paired = agree-told 3 (length es) (length vs) y.1.0;
       intervals = agree-told 8 (length starts) (length stops) y.1.1.0;
-      room-kinds = r.0;
-      room-bits = r.1;
+      room_kinds = r.0;
+      room_bits = r.1;
     }

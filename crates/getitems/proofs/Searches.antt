@@ -48,8 +48,8 @@ module _ (P : ℕ → ℕ → Type 0) (xs : List ℕ) (k x : ℕ) (h : k < lengt
 
 pub record Beginning (es ps : List ℤ) (from back : ℕ) (qs ls : List ℕ) (k : ℕ) : Type 0 where
   pub within : k ≤ block_size
-  pub places-many : length qs ≡ block_size
-  pub lows-many : length ls ≡ block_size
+  pub places_many : length qs ≡ block_size
+  pub lows_many : length ls ≡ block_size
   pub places : (d : ℕ) → d < k → (get_or qs d 0 ≡ sought es back (get_or ps (from + d) (pos 0))) × (get_or qs d 0 < 2 ^ 63)
   pub lows : (d : ℕ) → d < k → get_or ls d 0 ≡ 0
 
@@ -57,8 +57,8 @@ module _ (es ps : List ℤ) (from back : ℕ) {qs ls : List ℕ} where
   pub beginning_start : length qs ≡ block_size → length ls ≡ block_size → Beginning es ps from back qs ls 0
   beginning_start q l = record {
     within = omega arith;
-    places-many = q;
-    lows-many = l;
+    places_many = q;
+    lows_many = l;
     places = λ d h. let z : ⊥ = omega arith in absurd z;
     lows = λ d h. let z : ⊥ = omega arith in absurd z;
   }
@@ -68,18 +68,18 @@ module _ {es ps : List ℤ} {from back : ℕ} {qs ls : List ℕ} {k : ℕ} (s : 
       → Beginning es ps from back (set qs k q) (set ls k 0) (k + 1)
   beginning_next h {p} {q} ep eq = record {
     within = omega arith;
-    places-many = rw length-set s.places-many;
-    lows-many = rw length-set s.lows-many;
-    places = set_below (λ d x. (x ≡ sought es back (get_or ps (from + d) (pos 0))) × (x < 2 ^ 63)) qs k q (omega (arith, s.places-many))
+    places_many = rw length-set s.places_many;
+    lows_many = rw length-set s.lows_many;
+    places = set_below (λ d x. (x ≡ sought es back (get_or ps (from + d) (pos 0))) × (x < 2 ^ 63)) qs k q (omega (arith, s.places_many))
         s.places (eq.0 ∙ ap (sought es back) ep, eq.1);
-    lows = set_below (λ d x. x ≡ 0) ls k 0 (omega (arith, s.lows-many)) s.lows refl;
+    lows = set_below (λ d x. x ≡ 0) ls k 0 (omega (arith, s.lows_many)) s.lows refl;
   }
 
   pub beginning_end : block_size ≤ k → Begun es ps from back qs ls
   beginning_end h = record {
     halvings = record {
-      places-many = s.places-many;
-      lows-many = s.lows-many;
+      places_many = s.places_many;
+      lows_many = s.lows_many;
       small = λ d l. (s.places d (omega arith)).1;
       halves = λ d l. rw (s.lows d (omega arith)) (halving_start (get_or qs d 0) es);
     };
@@ -90,18 +90,18 @@ module _ {es ps : List ℤ} {from back : ℕ} {qs ls : List ℕ} {k : ℕ} (s : 
 
 pub record Halved (es : List ℤ) (qs ls : List ℕ) (size k : ℕ) : Type 0 where
   pub within : k ≤ block_size
-  pub places-many : length qs ≡ block_size
-  pub lows-many : length ls ≡ block_size
+  pub places_many : length qs ≡ block_size
+  pub lows_many : length ls ≡ block_size
   pub small : (d : ℕ) → d < block_size → get_or qs d 0 < 2 ^ 63
   pub taken : (d : ℕ) → d < k → Halving (get_or qs d 0) es (get_or ls d 0) (size / 2)
   pub left : (d : ℕ) → k ≤ d → d < block_size → Halving (get_or qs d 0) es (get_or ls d 0) size
 
 module _ {es : List ℤ} {qs ls : List ℕ} {size : ℕ} where
-  pub halved-start : Halvings es qs ls size → Halved es qs ls size 0
-  halved-start s = record {
+  pub halved_start : Halvings es qs ls size → Halved es qs ls size 0
+  halved_start s = record {
     within = omega arith;
-    places-many = s.places-many;
-    lows-many = s.lows-many;
+    places_many = s.places_many;
+    lows_many = s.lows_many;
     small = s.small;
     taken = λ d h. let z : ⊥ = omega arith in absurd z;
     left = λ d h. s.halves d;
@@ -111,15 +111,15 @@ module _ {es : List ℤ} {qs ls : List ℕ} {size : ℕ} where
     pub halved-next : k < block_size → {low : ℕ} → Halving (get_or qs k 0) es low (size / 2) → Halved es qs (set ls k low) size (k + 1)
     halved-next h {low} n = record {
       within = omega arith;
-      places-many = s.places-many;
-      lows-many = rw length-set s.lows-many;
+      places_many = s.places_many;
+      lows_many = rw length-set s.lows_many;
       small = s.small;
-      taken = set_below (λ d x. Halving (get_or qs d 0) es x (size / 2)) ls k low (omega (arith, s.lows-many)) s.taken n;
-      left = set-above (λ d x. Halving (get_or qs d 0) es x size) ls k low (omega (arith, s.lows-many)) s.left;
+      taken = set_below (λ d x. Halving (get_or qs d 0) es x (size / 2)) ls k low (omega (arith, s.lows_many)) s.taken n;
+      left = set-above (λ d x. Halving (get_or qs d 0) es x size) ls k low (omega (arith, s.lows_many)) s.left;
     }
 
     pub halved-end : block_size ≤ k → Halvings es qs ls (size / 2)
-    halved-end h = record { places-many = s.places-many; lows-many = s.lows-many; small = s.small; halves = λ d l. s.taken d (omega arith) }
+    halved-end h = record { places_many = s.places_many; lows_many = s.lows_many; small = s.small; halves = λ d l. s.taken d (omega arith) }
 
 -- ---- no end is left
 

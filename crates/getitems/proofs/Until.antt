@@ -20,7 +20,7 @@ use Rattle.slice.specs.declared.inner.search.TouchedRuns.{TouchedRuns}
 use Rattle.slice.specs.Calls.{first_where, first_end_above, slice_runs}
 use Rattle.slice.specs.Workers.{first_end_at_least, touched_by, Touches}
 use Rattle.slice.proofs.Searching.{where_below, where_at, least_above}
-use Rattle.slice.proofs.Slicing.{Slicing, slicing-start, slicing-next, slicing-end}
+use Rattle.slice.proofs.Slicing.{Slicing, slicing_start, slicing-next, slicing-end}
 use Rattle.slice.proofs.Touching.{Clamped, touched_none, touched_some, touched_inside, touches, touched_count, cut_touched}
 use Rattle.getitems.specs.Workers.{sought, found, SliceAt}
 
@@ -131,24 +131,24 @@ pub record Until (t : TouchedRuns) (es vs e₀ e v₀ v : List ℤ) (n : ℕ) (m
   pub told : more ≡ ltb n t.count
 
 module _ {es vs e₀ v₀ : List ℤ} {first : ℕ} {start stop : ℤ} (p : SliceAt es vs first start stop e₀ v₀) where
-  slice-touches : Touches (touched_by start stop es) es vs e₀ v₀
-  slice-touches =
+  slice_touches : Touches (touched_by start stop es) es vs e₀ v₀
+  slice_touches =
       let c = touched_count start stop es vs p.valid p.paired in
-      touches start stop es vs e₀ v₀ p.valid p.paired (omega (arith, p.room-ends)) (omega (arith, p.room-values))
+      touches start stop es vs e₀ v₀ p.valid p.paired (omega (arith, p.room_ends)) (omega (arith, p.room_values))
 
   slice_written : {e v : List ℤ} {n : ℕ} → Slicing (touched_by start stop es) es vs e₀ e v₀ v n → (touched_by start stop es).count ≤ n
       → Filled (slice_runs start stop (runs_of es vs)) e₀ e v₀ v n
-  slice_written s h = rw (cut_touched start stop es vs p.valid p.paired) at (slicing-end slice-touches s h)
+  slice_written s h = rw (cut_touched start stop es vs p.valid p.paired) at (slicing-end slice_touches s h)
 
-  pub slice-none : 0 ≡ (touched_by start stop es).count → Filled (slice_runs start stop (runs_of es vs)) e₀ e₀ v₀ v₀ 0
-  slice-none d = slice_written (slicing-start slice-touches) (omega arith)
+  pub slice_none : 0 ≡ (touched_by start stop es).count → Filled (slice_runs start stop (runs_of es vs)) e₀ e₀ v₀ v₀ 0
+  slice_none d = slice_written (slicing_start slice_touches) (omega arith)
 
   module _ {t : TouchedRuns} (et : t ≡ touched_by start stop es) where
     pub until_touches : Touches t es vs e₀ v₀
-    until_touches = rw et slice-touches
+    until_touches = rw et slice_touches
 
     pub until_start : 0 < (touched_by start stop es).count → Until t es vs e₀ e₀ v₀ v₀ 0 true
-    until_start h = record { slicing = slicing-start until_touches; told = sym (lt-ltb 0 t.count (rw et h)) }
+    until_start h = record { slicing = slicing_start until_touches; told = sym (lt-ltb 0 t.count (rw et h)) }
 
     module _ {e v : List ℤ} {n : ℕ} {more : Bool} (u : Until t es vs e₀ e v₀ v n more) where
       pub until-more : more ≡ true → n < t.count

@@ -25,8 +25,8 @@ found es back p = first_end_above (pos (sought es back p)) es
 
 -- a block of searches, of which so many ends are left
 pub record Halvings (es : List ℤ) (qs ls : List ℕ) (size : ℕ) : Type 0 where
-  pub places-many : length qs ≡ block_size
-  pub lows-many : length ls ≡ block_size
+  pub places_many : length qs ≡ block_size
+  pub lows_many : length ls ≡ block_size
   pub small : (d : ℕ) → d < block_size → get_or qs d 0 < 2 ^ 63
   pub halves : (d : ℕ) → d < block_size → Halving (get_or qs d 0) es (get_or ls d 0) size
 
@@ -57,22 +57,22 @@ pub record Gettable (s : Sequence) (starts stops : List ℤ) (x : List ℕ) (e v
   pub valid : ends_valid s.ends ≡ none
   pub paired : length s.ends ≡ length s.values
   pub intervals : length starts ≡ length stops
-  pub room-offsets : length starts + 1 ≤ length x
-  pub room-ends : total (map length (interval_runs starts stops (runs s))) ≤ length e
-  pub room-values : total (map length (interval_runs starts stops (runs s))) ≤ length v
+  pub room_offsets : length starts + 1 ≤ length x
+  pub room_ends : total (map length (interval_runs starts stops (runs s))) ≤ length e
+  pub room_values : total (map length (interval_runs starts stops (runs s))) ≤ length v
 
 -- the slice of a sequence, whose first run is found, and the room for it
 pub record SliceAt (es vs : List ℤ) (first : ℕ) (start stop : ℤ) (e v : List ℤ) : Type 0 where
   pub valid : ends_valid es ≡ none
   pub paired : length es ≡ length vs
   pub first_found : first ≡ found es 0 start
-  pub room-ends : length (slice_runs start stop (runs_of es vs)) ≤ length e
-  pub room-values : length (slice_runs start stop (runs_of es vs)) ≤ length v
+  pub room_ends : length (slice_runs start stop (runs_of es vs)) ≤ length e
+  pub room_values : length (slice_runs start stop (runs_of es vs)) ≤ length v
 
 -- what is known once slice_reduce is not refused
 pub record Reducible (s : Sequence) (starts stops : List ℤ) (k b : List ℕ) : Type 0 where
   pub valid : ends_valid s.ends ≡ none
   pub paired : length s.ends ≡ length s.values
   pub intervals : length starts ≡ length stops
-  pub room-kinds : length starts ≤ length k
-  pub room-bits : length starts ≤ length b
+  pub room_kinds : length starts ≤ length k
+  pub room_bits : length starts ≤ length b

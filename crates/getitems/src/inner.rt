@@ -12,15 +12,14 @@ ghost use Rattle.reduce.specs.Calls.{reduction};
 ghost use Rattle.reduce.specs.Workers.{FilledReductions};
 ghost use Rattle.getitems.specs.Calls.{interval_runs};
 ghost use Rattle.getitems.specs.Workers.{found, SliceAt, Gettable, Reducible};
-ghost use Rattle.column.specs.Lent.{given, after};
 
 use slice::inner::search;
 
 // How many runs a slice has, by the first of them and the first end at or past the slice's end.
 pub fn count_at(ends: &[i64], start: i64, stop: i64, first: usize, last: usize) -> usize
     requires { last < 2 ^ 63 }
-    ensures { ends_valid (given ends)
-        ≡ none → first ≡ found (given ends) 0 start → last ≡ found (given ends) 1 stop → result ≡ (touched_by start stop (given ends)).count }
+    ensures { ends_valid ends.now
+        ≡ none → first ≡ found ends.now 0 start → last ≡ found ends.now 1 stop → result ≡ (touched_by start stop ends.now).count }
 {
     let interval = search::clamped(ends, start, stop);
     let from = interval.start;
@@ -46,7 +45,7 @@ fn slice_at(
     out_values: &mut [i64],
 ) -> usize
     requires { SliceAt ends.now values.now first start stop out_ends.old out_values.old }
-    ensures { Fills (slice_runs start stop (runs_of (given ends) (given values))) out_ends out_values result }
+    ensures { Fills (slice_runs start stop (runs_of ends.now values.now)) out_ends out_values result }
 {
     let interval = search::clamped(ends, start, stop);
     let from = interval.start;
@@ -80,7 +79,7 @@ pub fn getitems(
     requires { Gettable
         (sequence ends.now values.now) starts.now stops.now out_offsets.old out_ends.old out_values.old }
     ensures { FillsFlat
-        (interval_runs (given starts) (given stops) (runs_of (given ends) (given values))) out_offsets out_ends out_values result }
+        (interval_runs starts.now stops.now (runs_of ends.now values.now)) out_offsets out_ends out_values result }
 {
     out_offsets[0] = 0;
     let mut firsts = [0usize; searches::BLOCK];
@@ -118,8 +117,8 @@ pub fn slice_reduce(
 ) -> usize
     requires { Reducible (sequence ends.now values.now) starts.now stops.now out_kinds.old out_bits.old }
     ensures { FilledReductions
-        (map (reduction code ddof) (interval_runs (given starts) (given stops) (runs_of (given ends) (given values))))
-        (given out_kinds) (after out_kinds) (given out_bits) (after out_bits) result }
+        (map (reduction code ddof) (interval_runs starts.now stops.now (runs_of ends.now values.now)))
+        out_kinds.old out_kinds.new out_bits.old out_bits.new result }
 {
     let mut i: usize = 0;
     while i < starts.len() {

@@ -8,21 +8,20 @@ ghost use Rattle.column.specs.Asking.{shown_asked};
 ghost use Rattle.column.specs.Flat.{WritesFlat};
 ghost use Rattle.column.specs.Lists.{total};
 ghost use Rattle.column.specs.Questions.{ends_valid};
-ghost use Rattle.column.specs.Runs.{given_sequence};
+ghost use Rattle.column.specs.Runs.{sequence};
 ghost use Rattle.num.specs.Numbers.{saturated};
 ghost use Rattle.std.proofs.Math.Option.{none};
 ghost use Rattle.reduce.specs.Calls.{WritesReductions};
 ghost use Rattle.getitems.specs.Calls as calls;
 ghost use Rattle.getitems.specs.Workers.{interval_counts};
-ghost use Rattle.column.specs.Lent.{given};
 
 use column::answer::{Asked, Batched, Counted, RleBatch};
 use inner::searches;
 
 // How many runs the slices of all intervals have, saturating at usize::MAX.
 fn count_runs(ends: &[i64], starts: &[i64], stops: &[i64]) -> usize
-    ensures { ends_valid (given ends) ≡ none →
-        length (given starts) ≡ length (given stops) → result ≡ saturated (total (interval_counts (given starts) (given stops) (given ends))) }
+    ensures { ends_valid ends.now ≡ none →
+        length starts.now ≡ length stops.now → result ≡ saturated (total (interval_counts starts.now stops.now ends.now)) }
 {
     if starts.len() != stops.len() {
         return 0;
@@ -53,7 +52,7 @@ fn getitems_asks(
     out_values: usize,
 ) -> Asked
     ensures { out_ends < 2 ^ 63 → out_values < 2 ^ 63 → shown_asked result
-        ≡ calls.getitems_asked (given_sequence ends values) (given starts) (given stops) (out_offsets ∷ out_ends ∷ out_values ∷ []) }
+        ≡ calls.getitems_asked (sequence ends.now values.now) starts.now stops.now (out_offsets ∷ out_ends ∷ out_values ∷ []) }
 {
     let runs = count_runs(ends, starts, stops);
     questions::ask_lengths(3, ends.len(), values.len())
@@ -73,7 +72,7 @@ pub fn getitems(
     out_ends: &mut [i64],
     out_values: &mut [i64],
 ) -> Batched
-    ensures { WritesFlat (calls.getitems (given_sequence ends values) (given starts) (given stops)) out_offsets out_ends out_values result }
+    ensures { WritesFlat (calls.getitems (sequence ends.now values.now) starts.now stops.now) out_offsets out_ends out_values result }
 {
     let asked = getitems_asks(
         ends,
@@ -114,7 +113,7 @@ fn slice_reduce_asks(
     out_bits: usize,
 ) -> Asked
     ensures { shown_asked
-        result ≡ calls.slice_reduce_asked (given_sequence ends values) (given starts) (given stops) code (out_kinds ∷ out_bits ∷ []) }
+        result ≡ calls.slice_reduce_asked (sequence ends.now values.now) starts.now stops.now code (out_kinds ∷ out_bits ∷ []) }
 {
     questions::ask_code(0, 2, code)
         .and(questions::ask_lengths(3, ends.len(), values.len()))
@@ -135,7 +134,7 @@ pub fn slice_reduce(
     out_kinds: &mut [u8],
     out_bits: &mut [u64],
 ) -> Counted
-    ensures { WritesReductions (calls.slice_reduce (given_sequence ends values) (given starts) (given stops) code ddof) out_kinds out_bits result }
+    ensures { WritesReductions (calls.slice_reduce (sequence ends.now values.now) starts.now stops.now code ddof) out_kinds out_bits result }
 {
     let asked = slice_reduce_asks(
         ends,

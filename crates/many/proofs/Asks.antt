@@ -60,8 +60,8 @@ module _ (os : List ℕ) (es vs : List ℤ) where
         offsets = y.1;
         valid = y.2;
         columns = y.3;
-        room-ends = room-told 0 (length es) (length e) r.0;
-        room-indexes = room-told 1 (length es * count f) (length x) r.1.0;
+        room_ends = room-told 0 (length es) (length e) r.0;
+        room_indexes = room-told 1 (length es * count f) (length x) r.1.0;
       }
 
   -- the segments, by the ends as they are handed in
@@ -76,8 +76,8 @@ pub plan-many-written : {q : Question} {ss ss' : List Segment} {r : Counts} {e e
     → WrittenPlanMany (q otherwise ss) (PlannedMany.Counts r.segments r.indexes) e e' x x'
 plan-many-written h s p = rw (h, s) (record {
   answer = ap₂ (λ (n m : ℕ). answers (record { segments = n; indexes = m })) p.segments p.indexes;
-  ends = p.ends-written;
-  indexes = p.indexes-written;
+  ends = p.ends_written;
+  indexes = p.indexes_written;
 })
 
 pub plan-many-refused : {q : Question} (ss : List Segment) {r : Refusal} {e : List ℤ} {x : List ℕ} → q ≡ some (paper r)

@@ -19,7 +19,7 @@ use Rattle.num.proofs.Bits.{get_d_any}
 use Rattle.column.specs.Lists.{part}
 use Rattle.column.specs.Questions.{ends_valid}
 use Rattle.column.specs.Runs.{to_nat}
-use Rattle.column.proofs.Ends.{natural-end}
+use Rattle.column.proofs.Ends.{natural_end}
 use Rattle.column.proofs.Naturals.{to_nat-below}
 use Rattle.column.proofs.Parts.{length_part, part_at}
 use Rattle.plan.specs.Calls.{Place, stepped_on, least}
@@ -44,8 +44,8 @@ module _ (xs : List ℤ) (a b i : ℕ) (q : InColumn xs a b i) where
   value_none fill h = sym (get_or-eq_default (part a b xs) fill {n = i} (past h))
 
   module _ (v : ends_valid (part a b xs) ≡ none) where
-    pub end-natural : a + i < b → get_or xs (a + i) (pos 0) ≡ pos (to_nat (get_or xs (a + i) (pos 0)))
-    end-natural h = rw (part_at a b xs i (pos 0) h) at (natural-end (part a b xs) i v (inside h))
+    pub end_natural : a + i < b → get_or xs (a + i) (pos 0) ≡ pos (to_nat (get_or xs (a + i) (pos 0)))
+    end_natural h = rw (part_at a b xs i (pos 0) h) at (natural_end (part a b xs) i v (inside h))
 
     pub end-inside : {r : ℕ} → a + i < b → r ≡ to_nat (get_or xs (a + i) (pos 0)) → SFits w64 (get_or xs (a + i) (pos 0)) → EndAt (ahead (part a b xs) i) r
     end-inside h e f =

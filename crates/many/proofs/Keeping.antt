@@ -28,8 +28,8 @@ set-again (x ∷ l) (suc i) h = ap {B = List ℕ} (λ r. x ∷ r) (set-again l i
 module _ {os : List ℕ} {es vs : List ℤ} {fill : ℤ} {is xs : List ℕ} {ys : List ℤ} where
   pub kept-none : Paired es vs is xs ys → Kept os es vs fill is xs ys 0
   kept-none p = record {
-    long-ends = p.room-ends;
-    long-values = p.room-values;
+    long_ends = p.room_ends;
+    long_values = p.room_values;
     ends = λ c h. let z : ⊥ = omega arith in absurd z;
     values = λ c h. let z : ⊥ = omega arith in absurd z;
   }
@@ -41,15 +41,15 @@ module _ {os : List ℕ} {es vs : List ℤ} {fill : ℤ} {is xs : List ℕ} {ys 
         → Kept os es vs fill (set is c p) (set xs c x) (set ys c y) m
     kept_put c p m {x} {y} h below ex ey =
         record {
-          long-ends = length-set xs c x ∙ k.long-ends ∙ sym (length-set is c p);
-          long-values = length-set ys c y ∙ k.long-values ∙ sym (length-set is c p);
+          long_ends = length-set xs c x ∙ k.long_ends ∙ sym (length-set is c p);
+          long_values = length-set ys c y ∙ k.long_values ∙ sym (length-set is c p);
           ends = λ d l.
               by-test (eqb d c)
-              (λ t. rw (eqb-true d c t, get_or-set_same is c p 0 h, get_or-set_same xs c x 0 (omega (arith, k.long-ends))) ex)
+              (λ t. rw (eqb-true d c t, get_or-set_same is c p 0 h, get_or-set_same xs c x 0 (omega (arith, k.long_ends))) ex)
               (λ t. let o = eqb-false d c t in rw (get_or-set_other is c d p 0 o, get_or-set_other xs c d x 0 o) (k.ends d (below d l o)));
           values = λ d l.
               by-test (eqb d c)
-              (λ t. rw (eqb-true d c t, get_or-set_same is c p 0 h, get_or-set_same ys c y (pos 0) (omega (arith, k.long-values))) ey)
+              (λ t. rw (eqb-true d c t, get_or-set_same is c p 0 h, get_or-set_same ys c y (pos 0) (omega (arith, k.long_values))) ey)
               (λ t. let o = eqb-false d c t in rw (get_or-set_other is c d p 0 o, get_or-set_other ys c d y (pos 0) o) (k.values d (below d l o)));
         }
 
@@ -61,8 +61,8 @@ module _ {os : List ℕ} {es vs : List ℤ} {fill : ℤ} {is xs : List ℕ} {ys 
 
     pub kept_fewer : (m : ℕ) → m ≤ n → Kept os es vs fill is xs ys m
     kept_fewer m h = record {
-      long-ends = k.long-ends;
-      long-values = k.long-values;
+      long_ends = k.long_ends;
+      long_values = k.long_values;
       ends = λ c l. k.ends c (omega arith);
       values = λ c l. k.values c (omega arith);
     }
@@ -70,9 +70,9 @@ module _ {os : List ℕ} {es vs : List ℤ} {fill : ℤ} {is xs : List ℕ} {ys 
   -- all values that are kept are what the columns show
   module _ (k : Kept os es vs fill is xs ys (length is)) (offsets : length os ≡ length is + 1) where
     kept_from : (n c : ℕ) → c + n ≡ length is → drop c ys ≡ values_at (drop c is) (parts_at c os vs) fill
-    kept_from zero c e = rw (drop_of_length-le ys {i = c} (omega (arith, k.long-values)), drop_of_length-le is {i = c} (omega arith))
+    kept_from zero c e = rw (drop_of_length-le ys {i = c} (omega (arith, k.long_values)), drop_of_length-le is {i = c} (omega arith))
     kept_from (suc n) c e =
-        rw (drop-cons ys c (pos 0) (omega (arith, k.long-values)), drop-cons is c 0 (omega arith), parts-cons c os vs (omega arith), k.values c (omega arith))
+        rw (drop-cons ys c (pos 0) (omega (arith, k.long_values)), drop-cons is c 0 (omega arith), parts-cons c os vs (omega arith), k.values c (omega arith))
         (ap {B = List ℤ} (λ r. get_or (column_at os vs c) (get_or is c 0) fill ∷ r) (rw (add-one c) (rw (add-one c) at (kept_from n (c + 1) (omega arith)))))
 
     pub kept-shown : ys ≡ values_at is (parts os vs) fill
@@ -112,7 +112,7 @@ module _ {os : List ℕ} {es vs : List ℤ} {fill : ℤ} {is xs : List ℕ} {ys 
   column-goes {x} e ex ey = record {
     places = rw (eq-eqb (get_or xs c 0) start e);
     kept = rw (length-set is c (get_or is c 0 + 1)) (kept_put k c (get_or is c 0 + 1) (length is) h (λ d l o. l) ex ey);
-    found = sym (get_or-set_same xs c x 0 (omega (arith, k.long-ends)));
+    found = sym (get_or-set_same xs c x 0 (omega (arith, k.long_ends)));
   }
 
 pub stepped-end : {os : List ℕ} {es vs : List ℤ} {fill : ℤ} {c start : ℕ} {is is' xs xs' : List ℕ} {ys' : List ℤ} {end : ℕ}

@@ -49,7 +49,7 @@ module _ (os : List ℕ) (es e₀ : List ℤ) (x₀ : List ℕ) where
 module _ {os : List ℕ} {es e₀ : List ℤ} {x₀ is : List ℕ} {e : List ℤ} {x : List ℕ} {n m end : ℕ} (p : Planning os es e₀ x₀ is e x n m end) where
   pub planning-end : spent ≤ end → PlanManyFilled (segments (ends_of_parts os es)) e₀ e x₀ x (record { segments = n; indexes = m })
   planning-end h = rw (walk_end p.walk h)
-      (record { segments = p.ends.count; indexes = p.count; ends-written = p.ends.entries; indexes-written = p.entries })
+      (record { segments = p.ends.count; indexes = p.count; ends_written = p.ends.entries; indexes_written = p.entries })
 
   columns : length os - 1 ≡ length is
   columns = omega (arith, p.walk.placed.count)

@@ -73,8 +73,8 @@ module _ (os : List ℕ) (es : List ℤ) where
     zeros : is ≡ replicate (length (parts os es)) 0
     zeros = q.first ∙ ap (λ (n : ℕ). replicate n 0) (sym (length-parts os es))
 
-    pub walk-placed : Placed os es is
-    walk-placed = record {
+    pub walk_placed : Placed os es is
+    walk_placed = record {
       offsets = q.offsets;
       valid = q.valid;
       count = omega (arith, ap length q.first ∙ length-replicate (length os - 1) 0, offsets-some os (length es) q.offsets);
@@ -90,7 +90,7 @@ module _ (os : List ℕ) (es : List ℤ) where
         ap (λ (l : List ℕ). places_of os es l) s.next ∙ places-again 0 is (parts os es) ∙ ap (stepped 0) begin
         ∙ first-stays (parts os es) (sequences-told os es q.valid) in
         record {
-          placed = rw s.next (placed-next 0 walk-placed);
+          placed = rw s.next (placed-next 0 walk_placed);
           listing = rw p (list_start (first_places (ends_of_parts os es)));
           found = s.found;
           small = s.small;

@@ -47,13 +47,13 @@ column_at os xs c = part (get_or os c 0) (get_or os (c + 1) 0) xs
 -- as many values as ends, and two buffers for what is kept of each column
 pub record Paired (es vs : List ℤ) (is xs : List ℕ) (ys : List ℤ) : Type 0 where
   pub paired : length es ≡ length vs
-  pub room-ends : length xs ≡ length is
-  pub room-values : length ys ≡ length is
+  pub room_ends : length xs ≡ length is
+  pub room_values : length ys ≡ length is
 
 -- what is kept of the first n columns where they stand: the end of each one's run, and its value or the fill
 pub record Kept (os : List ℕ) (es vs : List ℤ) (fill : ℤ) (is xs : List ℕ) (ys : List ℤ) (n : ℕ) : Type 0 where
-  pub long-ends : length xs ≡ length is
-  pub long-values : length ys ≡ length is
+  pub long_ends : length xs ≡ length is
+  pub long_values : length ys ≡ length is
   pub ends : (c : ℕ) → c < n → EndAt (map to_nat (drop (get_or is c 0) (column_at os es c))) (get_or xs c 0)
   pub values : (c : ℕ) → c < n → get_or ys c (pos 0) ≡ get_or (column_at os vs c) (get_or is c 0) fill
 
@@ -87,12 +87,12 @@ pub record Plannable (os : List ℕ) (es vs e : List ℤ) (x : List ℕ) : Type 
   pub offsets : offsets_valid os (length es) ≡ none
   pub valid : sequences_valid os es ≡ none
   pub columns : length os - 1 ≤ most_columns
-  pub room-ends : length es ≤ length e
-  pub room-indexes : length es * (length os - 1) ≤ length x
+  pub room_ends : length es ≤ length e
+  pub room_indexes : length es * (length os - 1) ≤ length x
 
 -- the segments in two buffers, each before and after, and how many entries each got
 pub record PlanManyFilled (ss : List Segment) (e e' : List ℤ) (x x' : List ℕ) (r : Counts) : Type 0 where
   pub segments : r.segments ≡ length ss
   pub indexes : r.indexes ≡ length (all_indexes ss)
-  pub ends-written : e' ≡ over (segment_ends ss) e
-  pub indexes-written : x' ≡ over (all_indexes ss) x
+  pub ends_written : e' ≡ over (segment_ends ss) e
+  pub indexes_written : x' ≡ over (all_indexes ss) x

@@ -7,7 +7,6 @@ ghost use Rattle.column.specs.Runs.{to_nat, length_of_ends, over};
 ghost use Rattle.plan.specs.Calls.{segments};
 ghost use Rattle.plan.specs.Workers.{spent, EndAt};
 ghost use Rattle.many.specs.Workers.{InColumn, Placed, Paired, Kept, ColumnPlaced, ColumnStepped, Stepped, Walkable, Plannable, PlanManyFilled};
-ghost use Rattle.column.specs.Lent.{given, after};
 
 use column::sequence;
 use plan::inner::SPENT;
@@ -22,7 +21,7 @@ pub struct Counts {
 // The length of column c.
 pub fn length_at(offsets: &[usize], ends: &[i64], c: usize) -> i64
     requires { c + 1 < length offsets.now }
-    ensures { result ≡ length_of_ends (part (get_or (given offsets) c 0) (get_or (given offsets) (c + 1) 0) (given ends)) }
+    ensures { result ≡ length_of_ends (part (get_or offsets.now c 0) (get_or offsets.now (c + 1) 0) ends.now) }
 {
     let from = offsets[c];
     let to = offsets[c + 1];
@@ -32,7 +31,7 @@ pub fn length_at(offsets: &[usize], ends: &[i64], c: usize) -> i64
 // The end of the run where a column stands, or `SPENT` where the column is spent. The column's runs are those from `from` up to `to`.
 fn end_at(ends: &[i64], from: usize, to: usize, place: usize) -> usize
     requires { InColumn ends.now from to place × (ends_valid (part from to ends.now) ≡ none) }
-    ensures { EndAt (map to_nat (drop place (part from to (given ends)))) result }
+    ensures { EndAt (map to_nat (drop place (part from to ends.now))) result }
 {
     let at = from + place;
     if at < to {
@@ -46,7 +45,7 @@ fn end_at(ends: &[i64], from: usize, to: usize, place: usize) -> usize
 // The value of the run where a column stands, or the fill where it is spent.
 fn value_at(values: &[i64], from: usize, to: usize, place: usize, fill: i64) -> i64
     requires { InColumn values.now from to place }
-    ensures { result ≡ get_or (part from to (given values)) place fill }
+    ensures { result ≡ get_or (part from to values.now) place fill }
 {
     let at = from + place;
     if at < to { values[at] } else { fill }
@@ -63,7 +62,7 @@ pub fn read_current(
     shown: &mut [i64],
 )
     requires { Placed offsets.now ends.now places.now × Paired ends.now values.now places.now current.old shown.old }
-    ensures { Kept (given offsets) (given ends) (given values) fill (given places) (after current) (after shown) (length (given places)) }
+    ensures { Kept offsets.now ends.now values.now fill places.now current.new shown.new (length places.now) }
 {
     let mut c: usize = 0;
     while c < places.len() {
@@ -93,8 +92,8 @@ fn step_column(
     requires { ColumnPlaced offsets.now ends.now places.old c × (c < length places.old)
         × (length ends.now ≡ length values.now)
         × Kept offsets.now ends.now values.now fill places.old current.old shown.old (length places.old) × (start < spent) }
-    ensures { ColumnStepped (given offsets)
-        (given ends) (given values) fill c start (given places) (after places) (given current) (after current) (after shown) result }
+    ensures { ColumnStepped offsets.now
+        ends.now values.now fill c start places.old places.new current.old current.new shown.new result }
 {
     let end = current[c];
     if end != start {
@@ -125,8 +124,8 @@ pub fn step(
 ) -> usize
     requires { Placed offsets.now ends.now places.old × (length ends.now ≡ length values.now)
         × Kept offsets.now ends.now values.now fill places.old current.old shown.old (length places.old) × (start < spent) }
-    ensures { Stepped (given offsets) (given ends) start (given places) (after places)
-        result × Kept (given offsets) (given ends) (given values) fill (after places) (after current) (after shown) (length (after places)) }
+    ensures { Stepped offsets.now ends.now start places.old places.new
+        result × Kept offsets.now ends.now values.now fill places.new current.new shown.new (length places.new) }
 {
     let mut least = SPENT;
     let mut c: usize = 0;
@@ -143,7 +142,7 @@ pub fn step(
 // The places, written from `at` on; the index after them.
 fn put_places(places: &[usize], out: &mut [usize], at: usize) -> usize
     requires { at + length places.now ≤ length out.old }
-    ensures { (result ≡ at + length (given places)) × (after out ≡ take at (given out) ++ over (given places) (drop at (given out))) }
+    ensures { (result ≡ at + length places.now) × (out.new ≡ take at out.old ++ over places.now (drop at out.old)) }
 {
     let mut c: usize = 0;
     while c < places.len() {
@@ -167,8 +166,8 @@ fn plan_walk(
 ) -> Counts
     requires { Walkable offsets.now ends.now places.old × Paired ends.now values.now places.old current.old shown.old
         × (length ends.now ≤ length out_ends.old) × (length ends.now * (length offsets.now - 1) ≤ length out_idx.old) }
-    ensures { PlanManyFilled (segments (map (map to_nat) (parts (given offsets) (given ends))))
-        (given out_ends) (after out_ends) (given out_idx) (after out_idx) result }
+    ensures { PlanManyFilled (segments (map (map to_nat) (parts offsets.now ends.now)))
+        out_ends.old out_ends.new out_idx.old out_idx.new result }
 {
     let mut n: usize = 0;
     let mut m: usize = 0;
@@ -194,8 +193,8 @@ pub fn plan_many(
     out_idx: &mut [usize],
 ) -> Counts
     requires { Plannable offsets.now ends.now values.now out_ends.old out_idx.old }
-    ensures { PlanManyFilled (segments (map (map to_nat) (parts (given offsets) (given ends))))
-        (given out_ends) (after out_ends) (given out_idx) (after out_idx) result }
+    ensures { PlanManyFilled (segments (map (map to_nat) (parts offsets.now ends.now)))
+        out_ends.old out_ends.new out_idx.old out_idx.new result }
 {
     let k = offsets.len() - 1;
     let mut places = [0usize; rle::Rle::MAX_COLUMNS];

@@ -5,10 +5,9 @@ pub mod inner;
 
 ghost use Rattle.std.specs.Prelude.{◌-◌, ◌<◌, ◌^◌, [], ◌∷◌, ◌≡◌, length};
 ghost use Rattle.column.specs.Asking.{shown_asked};
-ghost use Rattle.column.specs.Flat.{given_flat};
+ghost use Rattle.column.specs.Flat.{flat};
 ghost use Rattle.many.specs.Calls.{WritesPlanMany};
 ghost use Rattle.many.specs.Calls as calls;
-ghost use Rattle.column.specs.Lent.{given};
 
 use column::answer::Asked;
 use column::error::Refusal;
@@ -22,7 +21,7 @@ pub enum PlannedMany {
 
 // How many columns there are: one less than offsets.
 pub fn columns(offsets: &[usize]) -> usize
-    ensures { result ≡ length (given offsets) - 1 }
+    ensures { result ≡ length offsets.now - 1 }
 {
     let n = offsets.len();
     if n == 0 { 0 } else { n - 1 }
@@ -36,7 +35,7 @@ fn plan_many_asks(
     out_ends: usize,
     out_idx: usize,
 ) -> Asked
-    ensures { out_idx < 2 ^ 64 - 1 → shown_asked result ≡ calls.plan_many_asked (given_flat offsets ends values) (out_ends ∷ out_idx ∷ []) }
+    ensures { out_idx < 2 ^ 64 - 1 → shown_asked result ≡ calls.plan_many_asked (flat offsets.now ends.now values.now) (out_ends ∷ out_idx ∷ []) }
 {
     let k = columns(offsets);
     let indexes = num::saturating_mul(ends.len(), k);
@@ -55,7 +54,7 @@ pub fn plan_many(
     out_ends: &mut [i64],
     out_idx: &mut [usize],
 ) -> PlannedMany
-    ensures { WritesPlanMany (calls.plan_many (given_flat offsets ends values)) out_ends out_idx result }
+    ensures { WritesPlanMany (calls.plan_many (flat offsets.now ends.now values.now)) out_ends out_idx result }
 {
     let asked = plan_many_asks(offsets, ends, values, out_ends.len(), out_idx.len());
     match asked {

@@ -58,8 +58,8 @@ module _ (es vs : List ℤ) (valid : ends_valid es ≡ none) (paired : length es
 pub record Ready (es vs e₀ v₀ : List ℤ) (first : ℤ) : Type 0 where
   pub valid : ends_valid es ≡ none
   pub paired : length es ≡ length vs
-  pub room-ends : length es ≤ length e₀
-  pub room-values : length es ≤ length v₀
+  pub room_ends : length es ≤ length e₀
+  pub room_values : length es ≤ length v₀
   pub starts : first ≡ get_or vs 0 (pos 0)
 
 module _ {es vs e₀ v₀ : List ℤ} {first : ℤ} (r : Ready es vs e₀ v₀ first) where
@@ -73,8 +73,8 @@ module _ {es vs e₀ v₀ : List ℤ} {first : ℤ} (r : Ready es vs e₀ v₀ f
   behind = record {
     merging = merge_start first e₀ v₀;
     started = λ _ _. r.starts;
-    room-ends = omega (arith, r.room-ends);
-    room-values = omega (arith, r.room-values);
+    room_ends = omega (arith, r.room_ends);
+    room_values = omega (arith, r.room_values);
   }
 
   pub merged_appendable : to_nat (length_of_ends es) < 2 ^ 63 → Appendable 0 0 es vs e₀ v₀ start
@@ -94,7 +94,7 @@ module _ {es vs e₀ v₀ : List ℤ} {first : ℤ} (r : Ready es vs e₀ v₀ f
     whole = rw (push_shown 0 [] (runs_of es vs) rises) at (a [] first e₀ v₀ behind)
 
     pub merged-long : (length e ≡ length e₀) × (length v ≡ length v₀)
-    merged-long = (whole.long-ends, whole.long-values)
+    merged-long = (whole.long_ends, whole.long_values)
 
     few : length (encode (dense (runs_of es vs))) ≤ length es
     unfolding dense encode encode_from

@@ -3,7 +3,6 @@ ghost use Rattle.std.specs.Prelude.{◌≤◌, ◌≡◌, length};
 ghost use Rattle.std.proofs.Math.Option.{none};
 ghost use Rattle.column.specs.Questions.{ends_valid};
 ghost use Rattle.column.specs.Runs.{runs_of, dense, encode, Fills};
-ghost use Rattle.column.specs.Lent.{given};
 
 use column::inner::Writer;
 use column::sequence;
@@ -12,7 +11,7 @@ use column::sequence;
 pub fn merged(ends: &[i64], values: &[i64], out_ends: &mut [i64], out_values: &mut [i64]) -> usize
     requires { (ends_valid ends.now ≡ none) × (length ends.now ≡ length values.now)
         × (length ends.now ≤ length out_ends.old) × (length ends.now ≤ length out_values.old) }
-    ensures { Fills (encode (dense (runs_of (given ends) (given values)))) out_ends out_values result }
+    ensures { Fills (encode (dense (runs_of ends.now values.now))) out_ends out_values result }
 {
     if sequence::length(ends) <= 0 {
         return 0;

@@ -3,14 +3,14 @@
 pub mod inner;
 
 ghost use Rattle.column.specs.Paper.{WritesRuns};
-ghost use Rattle.column.specs.Runs.{given_sequence};
+ghost use Rattle.column.specs.Runs.{sequence};
 ghost use Rattle.merge.specs.Calls as calls;
 
 use column::answer::{Asked, Counted};
 
 // A sequence with neighbouring runs of one value made one run.
 pub fn merged(ends: &[i64], values: &[i64], out_ends: &mut [i64], out_values: &mut [i64]) -> Counted
-    ensures { WritesRuns (calls.merged (given_sequence ends values)) out_ends out_values result }
+    ensures { WritesRuns (calls.merged (sequence ends.now values.now)) out_ends out_values result }
 {
     let asked = questions::ask_sequence_into(
         ends,
@@ -30,7 +30,7 @@ pub fn merged(ends: &[i64], values: &[i64], out_ends: &mut [i64], out_values: &m
 
 // The same: the Rust's has its result in place of the sequence.
 pub fn merge(ends: &[i64], values: &[i64], out_ends: &mut [i64], out_values: &mut [i64]) -> Counted
-    ensures { WritesRuns (calls.merged (given_sequence ends values)) out_ends out_values result }
+    ensures { WritesRuns (calls.merged (sequence ends.now values.now)) out_ends out_values result }
 {
     merged(ends, values, out_ends, out_values)
 }

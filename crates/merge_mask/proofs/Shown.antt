@@ -196,13 +196,13 @@ last-both : (p q : ℕ) (gs : List (Group Run)) → p ≤ q → GroupFrom q gs
 last-both p q [] h k = absurd k
 last-both p q (g ∷ gs) h k = from-both p q (runs_of_last (g ∷ gs)) h k
 
-last-value : (x : Run) (ys : Runs) (mask : List ℕ) → first_value (runs_of_last (groups_from x ys mask)) ≡ first_value (with_last x ys mask)
+last_value : (x : Run) (ys : Runs) (mask : List ℕ) → first_value (runs_of_last (groups_from x ys mask)) ≡ first_value (with_last x ys mask)
 unfolding with_last groups_from
-last-value x [] mask = refl
-last-value x (y ∷ ys) [] = refl
-last-value x (y ∷ ys) (m ∷ mask) =
+last_value x [] mask = refl
+last_value x (y ∷ ys) [] = refl
+last_value x (y ∷ ys) (m ∷ mask) =
     by-test (eqb m 1)
-    (λ t. rw t (ap first_value (last-front x (groups_from y ys mask) (from_some y ys mask)) ∙ last-value y ys mask))
+    (λ t. rw t (ap first_value (last-front x (groups_from y ys mask) (from_some y ys mask)) ∙ last_value y ys mask))
     (λ t. rw t)
 
 last-from : (p : ℕ) (x : Run) (ys : Runs) (mask : List ℕ) → p ≤ x.end → Rising x.end ys
@@ -219,7 +219,7 @@ last-from p x (y ∷ ys) (m ∷ mask) h r =
     (λ t. rw t
     (ap (dense_from p) (last-front x gs (from_some y ys mask))
     ∙ last-both p x.end gs h (group_from x.end y ys mask next r.1)
-    ∙ ap (λ (z : ℤ). replicate (x.end - p) z ++ dense_from x.end (runs_of_last gs)) (last-value y ys mask)
+    ∙ ap (λ (z : ℤ). replicate (x.end - p) z ++ dense_from x.end (runs_of_last gs)) (last_value y ys mask)
     ∙ ap (λ (l : List ℤ). replicate (x.end - p) (first_value (with_last y ys mask)) ++ l) more))
     (λ t. rw t (ap (λ (l : List ℤ). replicate (x.end - p) x.value ++ l) more))
 

@@ -76,8 +76,8 @@ wrote_long d = (ap length d.ends ∙ simp length-set refl, ap length d.values �
 pub record Merging (keep : ℕ) (gs : List (Group Run)) (vs e₀ v₀ e v : List ℤ) (w : GroupWriter) (r : ℕ) : Type 0 where
   pub ends : e ≡ over (map group_end gs) e₀
   pub values : v ≡ over (map (group_value keep) gs) v₀
-  pub long-ends : length e ≡ length e₀
-  pub long-values : length v ≡ length v₀
+  pub long_ends : length e ≡ length e₀
+  pub long_values : length v ≡ length v₀
   pub place : w.at + 1 ≡ length gs
   pub few : w.at < r
   pub kept : w.kept < r
@@ -120,9 +120,9 @@ module _ {es vs e₀ v₀ : List ℤ} (m : Mergeable es vs e₀ v₀) where
     small = omega arith;
     kept = omega arith;
     run_ends = h;
-    run-values = omega (arith, m.paired);
-    room-ends = omega (arith, m.room-ends);
-    room-values = omega (arith, m.room-values);
+    run_values = omega (arith, m.paired);
+    room_ends = omega (arith, m.room_ends);
+    room_values = omega (arith, m.room_values);
   }
 
   -- a loop goes on from what was written
@@ -130,8 +130,8 @@ module _ {es vs e₀ v₀ : List ℤ} (m : Mergeable es vs e₀ v₀) where
   started d = record {
     valid = m.valid;
     paired = m.paired;
-    room-ends = omega (arith, (wrote_long d).0, m.room-ends);
-    room-values = omega (arith, (wrote_long d).1, m.room-values);
+    room_ends = omega (arith, (wrote_long d).0, m.room_ends);
+    room_values = omega (arith, (wrote_long d).1, m.room_values);
   }
 
 module _ {es vs e₀ v₀ : List ℤ} (m : Mergeable es vs e₀ v₀) (keep : ℕ) (mask : List ℕ) where
@@ -174,10 +174,10 @@ module _ {es vs e₀ v₀ : List ℤ} (m : Mergeable es vs e₀ v₀) (keep : �
         let k : w.kept ≡ 0 = d.kept ∙ first-kept in
         let value : group_value keep (alone (run 0)) ≡ get_or vs 0 (pos 0) = value-alone keep (run 0) ∙ run_value 0 in
         record {
-          ends = push_store group_end true [] (run 0) e₀ refl d.ends refl (sym (run_end 0)) (omega (arith, m.room-ends));
-          values = push_store (group_value keep) true [] (run 0) v₀ refl d.values refl (rw first-kept (sym value)) (omega (arith, m.room-values));
-          long-ends = (wrote_long d).0;
-          long-values = (wrote_long d).1;
+          ends = push_store group_end true [] (run 0) e₀ refl d.ends refl (sym (run_end 0)) (omega (arith, m.room_ends));
+          values = push_store (group_value keep) true [] (run 0) v₀ refl d.values refl (rw first-kept (sym value)) (omega (arith, m.room_values));
+          long_ends = (wrote_long d).0;
+          long_values = (wrote_long d).1;
           place = omega arith;
           few = omega arith;
           kept = omega arith;
@@ -192,8 +192,8 @@ module _ {es vs e₀ v₀ : List ℤ} (m : Mergeable es vs e₀ v₀) (keep : �
           merging = rw first (record {
             ends = over-again _ e₀ g.ends;
             values = over-again _ v₀ g.values;
-            long-ends = refl;
-            long-values = refl;
+            long_ends = refl;
+            long_values = refl;
             place = g.place;
             few = g.few;
             kept = g.kept;
@@ -210,8 +210,8 @@ module _ {es vs e₀ v₀ : List ℤ} (m : Mergeable es vs e₀ v₀) (keep : �
         let some : 0 < length (mask_runs keep mask (runs_of es vs)) = simp length-map (groups-some (runs_of es vs) mask runs) in
         record {
           count = f.count;
-          ends = f.ends ∙ over_first _ e₀ _ d.ends (rw length-ends some) (omega (arith, m.room-ends));
-          values = f.values ∙ over_first _ v₀ _ d.values (rw length-values some) (omega (arith, m.room-values));
+          ends = f.ends ∙ over_first _ e₀ _ d.ends (rw length-ends some) (omega (arith, m.room_ends));
+          values = f.values ∙ over_first _ v₀ _ d.values (rw length-values some) (omega (arith, m.room_values));
         }
 
   -- ---- one more run
@@ -225,9 +225,9 @@ module _ {es vs e₀ v₀ : List ℤ} (m : Mergeable es vs e₀ v₀) (keep : �
           small = omega (arith, g.few);
           kept = omega (arith, g.kept);
           run_ends = h;
-          run-values = omega (arith, m.paired);
-          room-ends = omega (arith, g.few, g.long-ends, m.room-ends);
-          room-values = omega (arith, g.few, g.long-values, m.room-values);
+          run_values = omega (arith, m.paired);
+          room_ends = omega (arith, g.few, g.long_ends, m.room_ends);
+          room_values = omega (arith, g.few, g.long_values, m.room_values);
         }
 
     module _ {joins last : Bool} {e' v' : List ℤ} {next : GroupWriter} (d : WroteRun w joins last es vs r e e' v v' next) where
@@ -241,10 +241,10 @@ module _ {es vs e₀ v₀ : List ℤ} (m : Mergeable es vs e₀ v₀) (keep : �
           let value = new_value keep joins last gs (run r) vs w.kept r el (omega (arith, g.place)) g.value (run_value r) in
           let at = d.place in
           record {
-            ends = push_store group_end joins gs (run r) e₀ g.ends d.ends place end (omega (arith, g.few, m.room-ends));
-            values = push_store (group_value keep) joins gs (run r) v₀ g.values d.values place value (omega (arith, g.few, m.room-values));
-            long-ends = (wrote_long d).0 ∙ g.long-ends;
-            long-values = (wrote_long d).1 ∙ g.long-values;
+            ends = push_store group_end joins gs (run r) e₀ g.ends d.ends place end (omega (arith, g.few, m.room_ends));
+            values = push_store (group_value keep) joins gs (run r) v₀ g.values d.values place value (omega (arith, g.few, m.room_values));
+            long_ends = (wrote_long d).0 ∙ g.long_ends;
+            long_values = (wrote_long d).1 ∙ g.long_values;
             place = rw length_push (ap (λ (k : ℕ). k + 1) (d.place ∙ place));
             few = omega (arith, g.few);
             kept = omega (arith, d.kept, kept_le joins last {kept = w.kept} {run = r} (omega (arith, g.kept)));

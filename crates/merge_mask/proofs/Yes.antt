@@ -21,7 +21,7 @@ module _ (es vs e v : List ℤ) where
       let space = room (both (length es)) (length e ∷ length v ∷ []) in
       let y = all_yes (listed 0 1 keep ∷ mask_listed mask ∷ paired (sequence es vs) ∷ mask_agrees mask es ∷ ends_valid es ∷ space ∷ []) h in
       let r = both_told (length es) (length e) (length v) y.1.1.1.1.1.0 in (
-        record { valid = y.1.1.1.1.0; paired = agree-told 3 (length es) (length vs) y.1.1.0; room-ends = r.0; room-values = r.1 },
+        record { valid = y.1.1.1.1.0; paired = agree-told 3 (length es) (length vs) y.1.1.0; room_ends = r.0; room_values = r.1 },
         agree-told 6 (length mask) (length es - 1) y.1.1.1.0,
       )
 
@@ -31,4 +31,4 @@ module _ (es vs e v : List ℤ) where
       let y = all_yes (listed 7 8 code ∷ sequence_asked (sequence es vs) (length es) (length e ∷ length v ∷ []) ∷ []) h in
       let t = sequence-told es vs (length es) (length e) (length v) y.1.0 in
       let c = listed-told 7 8 code y.0 in
-      (record { valid = t.0; paired = t.1; room-ends = t.2; room-values = t.3 }, c.0, c.1)
+      (record { valid = t.0; paired = t.1; room_ends = t.2; room_values = t.3 }, c.0, c.1)

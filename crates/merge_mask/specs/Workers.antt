@@ -14,9 +14,9 @@ pub record Writable (w : GroupWriter) (joins : Bool) (es vs : List ℤ) (r : ℕ
   pub small : w.at + 1 < 2 ^ 64
   pub kept : w.kept ≤ r
   pub run_ends : r < length es
-  pub run-values : r < length vs
-  pub room-ends : place_after joins w.at < length e
-  pub room-values : place_after joins w.at < length v
+  pub run_values : r < length vs
+  pub room_ends : place_after joins w.at < length e
+  pub room_values : place_after joins w.at < length v
 
 -- it was written, into two buffers, each before and after
 pub record WroteRun (w : GroupWriter) (joins last : Bool) (es vs : List ℤ) (r : ℕ) (e e' v v' : List ℤ) (next : GroupWriter) : Type 0 where
@@ -29,5 +29,5 @@ pub record WroteRun (w : GroupWriter) (joins last : Bool) (es vs : List ℤ) (r 
 pub record Mergeable (es vs e v : List ℤ) : Type 0 where
   pub valid : ends_valid es ≡ none
   pub paired : length es ≡ length vs
-  pub room-ends : length es ≤ length e
-  pub room-values : length es ≤ length v
+  pub room_ends : length es ≤ length e
+  pub room_values : length es ≤ length v

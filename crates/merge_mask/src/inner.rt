@@ -4,7 +4,6 @@ ghost use Rattle.column.specs.Runs.{runs_of, Fills};
 ghost use Rattle.merge_mask.specs.Calls.{mask_runs, neighbours};
 ghost use Rattle.column.specs.Workers.{place_after};
 ghost use Rattle.merge_mask.specs.Workers.{kept_after, Writable, WroteRun, Mergeable};
-ghost use Rattle.column.specs.Lent.{given, after};
 
 // The group that is being written: its place, and the run whose value it keeps.
 #[derive(Drop)]
@@ -45,7 +44,7 @@ fn write_run(
 ) -> GroupWriter
     requires { Writable writer joins ends.now values.now run out_ends.old out_values.old }
     ensures { WroteRun writer
-        joins last (given ends) (given values) run (given out_ends) (after out_ends) (given out_values) (after out_values) result }
+        joins last ends.now values.now run out_ends.old out_ends.new out_values.old out_values.new result }
 {
     let at = place_after(writer.at, joins);
     let kept = kept_after(writer.kept, joins, last, run);
@@ -66,7 +65,7 @@ pub fn merge_mask(
     out_values: &mut [i64],
 ) -> usize
     requires { Mergeable ends.now values.now out_ends.old out_values.old × (length mask.now ≡ length ends.now - 1) }
-    ensures { Fills (mask_runs keep (given mask) (runs_of (given ends) (given values))) out_ends out_values result }
+    ensures { Fills (mask_runs keep mask.now (runs_of ends.now values.now)) out_ends out_values result }
 {
     if ends.len() == 0 {
         return 0;
@@ -92,7 +91,7 @@ pub fn merge_by(
     out_values: &mut [i64],
 ) -> usize
     requires { Mergeable ends.now values.now out_ends.old out_values.old × (7 ≤ code) × (code ≤ 8) }
-    ensures { Fills (mask_runs 0 (neighbours code (given values)) (runs_of (given ends) (given values))) out_ends out_values result }
+    ensures { Fills (mask_runs 0 (neighbours code values.now) (runs_of ends.now values.now)) out_ends out_values result }
 {
     if ends.len() == 0 {
         return 0;

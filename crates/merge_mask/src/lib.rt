@@ -5,9 +5,8 @@ pub mod inner;
 ghost use Rattle.std.specs.Prelude.{[], ◌∷◌, ◌≡◌};
 ghost use Rattle.column.specs.Asking.{shown_asked};
 ghost use Rattle.column.specs.Paper.{WritesRuns};
-ghost use Rattle.column.specs.Runs.{given_sequence};
+ghost use Rattle.column.specs.Runs.{sequence};
 ghost use Rattle.merge_mask.specs.Calls as calls;
-ghost use Rattle.column.specs.Lent.{given};
 
 use column::answer::{Asked, Counted};
 
@@ -19,7 +18,7 @@ fn merge_mask_asks(
     out_ends: usize,
     out_values: usize,
 ) -> Asked
-    ensures { shown_asked result ≡ calls.merge_mask_asked (given_sequence ends values) (given mask) keep (out_ends ∷ out_values ∷ []) }
+    ensures { shown_asked result ≡ calls.merge_mask_asked (sequence ends.now values.now) mask.now keep (out_ends ∷ out_values ∷ []) }
 {
     questions::ask_code(0, 1, keep)
         .and(questions::ask_mask(mask))
@@ -38,7 +37,7 @@ pub fn merge_mask(
     out_ends: &mut [i64],
     out_values: &mut [i64],
 ) -> Counted
-    ensures { WritesRuns (calls.merge_mask (given_sequence ends values) (given mask) keep) out_ends out_values result }
+    ensures { WritesRuns (calls.merge_mask (sequence ends.now values.now) mask.now keep) out_ends out_values result }
 {
     let asked = merge_mask_asks(ends, values, mask, keep, out_ends.len(), out_values.len());
     match asked {
@@ -57,7 +56,7 @@ fn merge_by_asks(
     out_ends: usize,
     out_values: usize,
 ) -> Asked
-    ensures { shown_asked result ≡ calls.merge_by_asked (given_sequence ends values) code (out_ends ∷ out_values ∷ []) }
+    ensures { shown_asked result ≡ calls.merge_by_asked (sequence ends.now values.now) code (out_ends ∷ out_values ∷ []) }
 {
     questions::ask_code(7, 8, code).and(questions::ask_sequence_into(
         ends,
@@ -76,7 +75,7 @@ pub fn merge_by(
     out_ends: &mut [i64],
     out_values: &mut [i64],
 ) -> Counted
-    ensures { WritesRuns (calls.merge_by (given_sequence ends values) code) out_ends out_values result }
+    ensures { WritesRuns (calls.merge_by (sequence ends.now values.now) code) out_ends out_values result }
 {
     let asked = merge_by_asks(ends, values, code, out_ends.len(), out_values.len());
     match asked {

@@ -80,8 +80,8 @@ offsets_store joins gs y before room =
 pub record Planning (gs : List (Group ℤ)) (joins : Bool) (e₀ e : List ℤ) (x₀ x : List ℕ) (group run : ℕ) : Type 0 where
   pub ends : e ≡ over (group_ends gs) e₀
   pub offsets : x ≡ over (group_offsets gs) x₀
-  pub long-ends : length e ≡ length e₀
-  pub long-offsets : length x ≡ length x₀
+  pub long_ends : length e ≡ length e₀
+  pub long_offsets : length x ≡ length x₀
   pub place : group ≡ group_place joins gs
   pub few : group ≤ run
   pub count : count_runs gs ≡ run
@@ -94,8 +94,8 @@ unfolding group_ends
 planning-more {gs} {joins} {e₀} {x₀ = x₀} {group = group} {run} n y d ep room_e room_x next = record {
   ends = push_store (λ (g : Group ℤ). g.last) joins gs y e₀ n.ends d.ends n.place (sym (new_last joins gs y)) (omega (arith, n.few));
   offsets = d.offsets ∙ rw (n.offsets, n.place, ep, ← n.count) (offsets_store joins gs y x₀ (omega (arith, n.place, n.few)));
-  long-ends = ap length d.ends ∙ rw length-set n.long-ends;
-  long-offsets = ap length d.offsets ∙ rw length-set n.long-offsets;
+  long_ends = ap length d.ends ∙ rw length-set n.long_ends;
+  long_offsets = ap length d.offsets ∙ rw length-set n.long_offsets;
   place = place_is next (push_group joins gs y) group (rw length_push (ap (λ (k : ℕ). k + 1) n.place));
   few = omega (arith, n.few, place_up next group);
   count = count_push joins gs y ∙ omega (arith, n.count);
@@ -114,8 +114,8 @@ grouping_start es mask e₀ x₀ e h k = record {
   planning = record {
     ends = refl;
     offsets = over-again (0 ∷ []) x₀ (e ∙ over-next [] x₀ 0 0 refl k);
-    long-ends = refl;
-    long-offsets = refl;
+    long_ends = refl;
+    long_offsets = refl;
     place = by-test (joins_at mask (0 - 1)) (λ t. rw t) (λ t. rw t);
     few = omega arith;
     count = refl;
@@ -131,7 +131,7 @@ grouping_none (y ∷ es) mask e₀ x₀ h k = let z : ⊥ = omega arith in absur
 module _ {es : List ℤ} {mask : List ℕ} {e₀ e : List ℤ} {x₀ x : List ℕ} {group run : ℕ} (n : Grouping es mask e₀ e x₀ x group run)
     (room_e : length es ≤ length e₀) (room_x : length es + 1 ≤ length x₀) where
   pub grouping_room : (group < length e) × (group + 1 < length x)
-  grouping_room = let p = n.planning in (omega (arith, n.within, p.few, p.long-ends), omega (arith, n.within, p.few, p.long-offsets))
+  grouping_room = let p = n.planning in (omega (arith, n.within, p.few, p.long_ends), omega (arith, n.within, p.few, p.long_offsets))
 
   module _ {e' : List ℤ} {x' : List ℕ} {y : ℤ} {past : ℕ} (d : Stored e e' x x' group y past) (ey : y ≡ get_or es run (pos 0)) (ep : past ≡ run + 1) where
     grouped : (next : Bool) → Planning (groups (take (run + 1) es) mask) next e₀ e' x₀ x' (place_after next group) (run + 1)
@@ -145,7 +145,7 @@ module _ {es : List ℤ} {mask : List ℕ} {e₀ e : List ℤ} {x₀ x : List �
         record { within = h; planning = rw (r, eg) (grouped (joins_at mask run)) }
 
     pub grouping_long : (length e' ≡ length e₀) × (length x' ≡ length x₀)
-    grouping_long = let g = grouped true in (g.long-ends, g.long-offsets)
+    grouping_long = let g = grouped true in (g.long_ends, g.long_offsets)
 
     -- the last run closes its group; z₀ are the offsets as they were lent
     pub grouping_end : (z₀ : List ℕ) {k : ℕ} → x₀ ≡ set z₀ 0 0 → run + 1 ≡ length es → length mask ≡ length es - 1

@@ -5,14 +5,13 @@ ghost use Rattle.column.specs.Runs.{over};
 ghost use Rattle.merge_mask.specs.Calls.{groups};
 ghost use Rattle.merge_plan.specs.Calls.{ids_at};
 ghost use Rattle.merge_plan.specs.Workers.{Stored, Planned, PutIds, FilledIds};
-ghost use Rattle.column.specs.Lent.{given, after};
 
 use column::mask;
 
 // The end of a group, and one past its last run.
 fn write_group(out_ends: &mut [i64], out_offsets: &mut [usize], group: usize, end: i64, past: usize)
     requires { (group < length out_ends.old) × (group + 1 < length out_offsets.old) }
-    ensures { Stored (given out_ends) (after out_ends) (given out_offsets) (after out_offsets) group end past }
+    ensures { Stored out_ends.old out_ends.new out_offsets.old out_offsets.new group end past }
 {
     out_ends[group] = end;
     out_offsets[group + 1] = past;
@@ -27,7 +26,7 @@ pub fn merge_plan(
 ) -> usize
     requires { (length mask.now ≡ length ends.now - 1) × (length ends.now ≤ length out_ends.old)
         × (length ends.now + 1 ≤ length out_offsets.old) }
-    ensures { Planned (groups (given ends) (given mask)) (given out_ends) (after out_ends) (given out_offsets) (after out_offsets) result }
+    ensures { Planned (groups ends.now mask.now) out_ends.old out_ends.new out_offsets.old out_offsets.new result }
 {
     out_offsets[0] = 0;
     if ends.len() == 0 {
@@ -53,7 +52,7 @@ const BLOCK: usize = 4;
 // again by the groups that follow.
 fn put_ids(out: &mut [usize], at: usize, limit: usize, id: usize) -> usize
     requires { (at < limit) × (limit ≤ length out.old) }
-    ensures { PutIds (given out) (after out) at limit id result }
+    ensures { PutIds out.old out.new at limit id result }
 {
     if limit - at < BLOCK {
         out[at] = id;
@@ -69,7 +68,7 @@ fn put_ids(out: &mut [usize], at: usize, limit: usize, id: usize) -> usize
 // A short group, with hardly a branch on its length.
 fn fill_short(out: &mut [usize], from: usize, to: usize, limit: usize, id: usize)
     requires { (from ≤ to) × (to ≤ limit) × (limit ≤ length out.old) }
-    ensures { FilledIds (given out) (after out) from to limit id }
+    ensures { FilledIds out.old out.new from to limit id }
 {
     let mut i = from;
     while i < to {
@@ -80,7 +79,7 @@ fn fill_short(out: &mut [usize], from: usize, to: usize, limit: usize, id: usize
 // A long group, by a loop that becomes vector instructions.
 fn fill_long(out: &mut [usize], from: usize, to: usize, limit: usize, id: usize)
     requires { (from ≤ to) × (to ≤ limit) × (limit ≤ length out.old) }
-    ensures { FilledIds (given out) (after out) from to limit id }
+    ensures { FilledIds out.old out.new from to limit id }
 {
     let mut i = from;
     while i < to {
@@ -91,7 +90,7 @@ fn fill_long(out: &mut [usize], from: usize, to: usize, limit: usize, id: usize)
 
 fn fill_group(out: &mut [usize], from: usize, to: usize, limit: usize, id: usize)
     requires { (from ≤ to) × (to ≤ limit) × (limit ≤ length out.old) }
-    ensures { FilledIds (given out) (after out) from to limit id }
+    ensures { FilledIds out.old out.new from to limit id }
 {
     if to - from <= 2 * BLOCK {
         fill_short(out, from, to, limit, id);
@@ -103,7 +102,7 @@ fn fill_group(out: &mut [usize], from: usize, to: usize, limit: usize, id: usize
 // The group of each run, group by group.
 pub fn group_ids(offsets: &[usize], out_ids: &mut [usize]) -> usize
     requires { (start_and_rise offsets.now ≡ true) × (last_offset 0 offsets.now ≤ length out_ids.old) }
-    ensures { (result ≡ length (ids_at (given offsets))) × (after out_ids ≡ over (ids_at (given offsets)) (given out_ids)) }
+    ensures { (result ≡ length (ids_at offsets.now)) × (out_ids.new ≡ over (ids_at offsets.now) out_ids.old) }
 {
     let limit = questions::last_offset(offsets);
     let mut from: usize = 0;

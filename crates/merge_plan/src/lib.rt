@@ -7,12 +7,11 @@ ghost use Rattle.column.specs.Asking.{shown_asked};
 ghost use Rattle.column.specs.Paper.{WritesEntries};
 ghost use Rattle.merge_plan.specs.Calls.{WritesGroups};
 ghost use Rattle.merge_plan.specs.Calls as calls;
-ghost use Rattle.column.specs.Lent.{given};
 
 use column::answer::{Asked, Counted};
 
 fn merge_plan_asks(ends: &[i64], mask: &[u8], out_ends: usize, out_offsets: usize) -> Asked
-    ensures { shown_asked result ≡ calls.merge_plan_asked (given ends) (given mask) (out_ends ∷ out_offsets ∷ []) }
+    ensures { shown_asked result ≡ calls.merge_plan_asked ends.now mask.now (out_ends ∷ out_offsets ∷ []) }
 {
     questions::ask_mask(mask)
         .and(questions::ask_mask_length(mask, ends))
@@ -28,7 +27,7 @@ pub fn merge_plan(
     out_ends: &mut [i64],
     out_offsets: &mut [usize],
 ) -> Counted
-    ensures { WritesGroups (calls.merge_plan (given ends) (given mask)) out_ends out_offsets result }
+    ensures { WritesGroups (calls.merge_plan ends.now mask.now) out_ends out_offsets result }
 {
     let asked = merge_plan_asks(ends, mask, out_ends.len(), out_offsets.len());
     match asked {
@@ -41,7 +40,7 @@ pub fn merge_plan(
 }
 
 fn group_ids_asks(offsets: &[usize], out_ids: usize) -> Asked
-    ensures { shown_asked result ≡ calls.group_ids_asked (given offsets) (out_ids ∷ []) }
+    ensures { shown_asked result ≡ calls.group_ids_asked offsets.now (out_ids ∷ []) }
 {
     let needed = questions::last_offset(offsets);
     questions::ask_offsets_rise(offsets).and(questions::ask_room(0, needed, out_ids))
@@ -49,7 +48,7 @@ fn group_ids_asks(offsets: &[usize], out_ids: usize) -> Asked
 
 // The group of each run.
 pub fn group_ids(offsets: &[usize], out_ids: &mut [usize]) -> Counted
-    ensures { WritesEntries (calls.group_ids (given offsets)) out_ids result }
+    ensures { WritesEntries (calls.group_ids offsets.now) out_ids result }
 {
     let asked = group_ids_asks(offsets, out_ids.len());
     match asked {

@@ -28,7 +28,7 @@ half_product h k = mul-le-mul {n₂ = H - 1} {m₂ = H - 1} (omega arith) (omega
 
 -- each of the four products leaves room for two halves more
 pub record HalfProducts (a b : ℕ) : Type 0 where
-  pub low-low : a % 2 ^ 32 * (b % 2 ^ 32) ≤ (2 ^ 32 - 1) * (2 ^ 32 - 1)
+  pub low_low : a % 2 ^ 32 * (b % 2 ^ 32) ≤ (2 ^ 32 - 1) * (2 ^ 32 - 1)
   pub high_low : a / 2 ^ 32 * (b % 2 ^ 32) ≤ (2 ^ 32 - 1) * (2 ^ 32 - 1)
   pub low_high : a % 2 ^ 32 * (b / 2 ^ 32) ≤ (2 ^ 32 - 1) * (2 ^ 32 - 1)
   pub high_high : a / 2 ^ 32 * (b / 2 ^ 32) ≤ (2 ^ 32 - 1) * (2 ^ 32 - 1)
@@ -36,7 +36,7 @@ pub record HalfProducts (a b : ℕ) : Type 0 where
 pub half_products : {a b : ℕ} → Fits w64 a → Fits w64 b → HalfProducts a b
 half_products f g =
     record {
-      low-low = half_product (omega arith) (omega arith);
+      low_low = half_product (omega arith) (omega arith);
       high_low = half_product (omega arith) (omega arith);
       low_high = half_product (omega arith) (omega arith);
       high_high = half_product (omega arith) (omega arith);

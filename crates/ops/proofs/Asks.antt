@@ -50,8 +50,8 @@ module _ (ae av be bv : List ℤ) (fa fb : Fill) where
         valid_b = vb;
         paired_a = agree-told 3 (length ae) (length av) pa;
         paired_b = agree-told 3 (length be) (length bv) pb;
-        room-ends = r.0;
-        room-values = r.1;
+        room_ends = r.0;
+        room_values = r.1;
       }
 
   -- ---- a fill that is missing shows nowhere: where 10 is answered "yes", the zip comes to the same with any value in its place

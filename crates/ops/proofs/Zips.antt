@@ -95,8 +95,8 @@ module _ (op : ℤ → ℤ → ℤ) (fa fb : ℤ) (ae av be bv e₀ v₀ : List 
             let p = zip_at op cs z.walk.listing z.merging (ex ∙ sym (shown c.a.index c.b.index)) in
             let f = walk-few ae be z.walk in (
               omega (arith, zip-last op cs z.done z.merging),
-              omega (arith, q.room-ends, z.merging.long-ends),
-              omega (arith, q.room-values, z.merging.long-values),
+              omega (arith, q.room_ends, z.merging.long_ends),
+              omega (arith, q.room_values, z.merging.long_values),
             )
 
         pub zipped-more : {t t' : ℤ} {c' : Segments} {e' v' : List ℤ} {next : Writer} → Walks ae be c t c' → t' ≡ t
@@ -106,7 +106,7 @@ module _ (op : ℤ → ℤ → ℤ) (fa fb : ℤ) (ae av be bv e₀ v₀ : List 
               done = _;
               walk = walk-next ae be z.walk s;
               merging = zip_more op cs z.walk.listing z.merging (ex ∙ sym (shown c.a.index c.b.index)) s.steps (rw et at d)
-                  (omega (arith, q.room-ends, left-firsts ae be)) (omega (arith, q.room-values, left-firsts ae be));
+                  (omega (arith, q.room_ends, left-firsts ae be)) (omega (arith, q.room_values, left-firsts ae be));
             }
 
     -- ---- zip_with_raw
@@ -121,8 +121,8 @@ module _ (op : ℤ → ℤ → ℤ) (fa fb : ℤ) (ae av be bv e₀ v₀ : List 
           record {
             done = _;
             walk = walk-next ae be z.walk s;
-            ends = write_next end_of_run z.ends (omega (arith, listed-few, q.room-ends)) (segment_at (places_at ae be c) t) (et ∙ s.steps.natural);
-            values = write_next run_value z.values (omega (arith, listed-few, q.room-values)) (segment_at (places_at ae be c) t)
+            ends = write_next end_of_run z.ends (omega (arith, listed-few, q.room_ends)) (segment_at (places_at ae be c) t) (et ∙ s.steps.natural);
+            values = write_next run_value z.values (omega (arith, listed-few, q.room_values)) (segment_at (places_at ae be c) t)
                 (ex ∙ sym (shown c.a.index c.b.index));
           }
 

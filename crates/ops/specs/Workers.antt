@@ -10,5 +10,5 @@ pub record Zippable (a b : Sequence) (e v : List ℤ) : Type 0 where
   pub valid_b : ends_valid b.ends ≡ none
   pub paired_a : length a.ends ≡ length a.values
   pub paired_b : length b.ends ≡ length b.values
-  pub room-ends : length a.ends + length b.ends ≤ length e
-  pub room-values : length a.ends + length b.ends ≤ length v
+  pub room_ends : length a.ends + length b.ends ≤ length e
+  pub room_values : length a.ends + length b.ends ≤ length v

@@ -3,11 +3,10 @@ ghost use Rattle.std.specs.Prelude.{◌≡◌, get_or};
 ghost use Rattle.num.specs.Numbers.{operation};
 ghost use Rattle.column.specs.declared.answer.Fill.TheVariants.{Value};
 ghost use Rattle.column.specs.Combine.{combined};
-ghost use Rattle.column.specs.Runs.{sequence, given_sequence, Fills};
+ghost use Rattle.column.specs.Runs.{sequence, Fills};
 ghost use Rattle.plan.specs.Calls.{segment_runs};
 ghost use Rattle.ops.specs.Calls.{sides};
 ghost use Rattle.ops.specs.Workers.{Zippable};
-ghost use Rattle.column.specs.Lent.{given};
 
 use column::inner::Writer;
 use column::sequence;
@@ -23,7 +22,7 @@ fn shown_at(
     j: usize,
     fill_b: i64,
 ) -> i64
-    ensures { result ≡ operation code (get_or (given a_values) i fill_a) (get_or (given b_values) j fill_b) }
+    ensures { result ≡ operation code (get_or a_values.now i fill_a) (get_or b_values.now j fill_b) }
 {
     let x = sequence::entry_or(a_values, i, fill_a);
     let y = sequence::entry_or(b_values, j, fill_b);
@@ -45,7 +44,7 @@ pub fn zip_with(
         (sequence a_ends.now a_values.now) (sequence b_ends.now b_values.now) out_ends.old out_values.old }
     ensures { Fills
         (combined (operation code)
-        (sides (given_sequence a_ends a_values) (given_sequence b_ends b_values) (Value fill_a) (Value fill_b)))
+        (sides (sequence a_ends.now a_values.now) (sequence b_ends.now b_values.now) (Value fill_a) (Value fill_b)))
         out_ends out_values result }
 {
     let total = a_ends.len() + b_ends.len();
@@ -88,7 +87,7 @@ pub fn zip_with_raw(
         (sequence a_ends.now a_values.now) (sequence b_ends.now b_values.now) out_ends.old out_values.old }
     ensures { Fills
         (segment_runs (operation code)
-        (sides (given_sequence a_ends a_values) (given_sequence b_ends b_values) (Value fill_a) (Value fill_b)))
+        (sides (sequence a_ends.now a_values.now) (sequence b_ends.now b_values.now) (Value fill_a) (Value fill_b)))
         out_ends out_values result }
 {
     let mut n: usize = 0;

@@ -5,7 +5,7 @@ pub mod inner;
 ghost use Rattle.std.specs.Prelude.{[], ◌∷◌, ◌≡◌};
 ghost use Rattle.column.specs.Asking.{shown_asked};
 ghost use Rattle.column.specs.Paper.{WritesRuns};
-ghost use Rattle.column.specs.Runs.{given_sequence};
+ghost use Rattle.column.specs.Runs.{sequence};
 ghost use Rattle.ops.specs.Calls as calls;
 
 use column::answer::{Asked, Counted, Fill};
@@ -23,7 +23,7 @@ fn zip_asks(
     out_values: usize,
 ) -> Asked
     ensures { shown_asked result ≡ calls.zip_asked
-        (given_sequence a_ends a_values) (given_sequence b_ends b_values) fill_a fill_b code (out_ends ∷ out_values ∷ []) }
+        (sequence a_ends.now a_values.now) (sequence b_ends.now b_values.now) fill_a fill_b code (out_ends ∷ out_values ∷ []) }
 {
     let needed = a_ends.len() + b_ends.len();
     let left = sequence::length(a_ends);
@@ -50,7 +50,7 @@ pub fn zip_with(
     out_values: &mut [i64],
 ) -> Counted
     ensures { WritesRuns
-        (calls.zip_with (given_sequence a_ends a_values) (given_sequence b_ends b_values) fill_a fill_b code)
+        (calls.zip_with (sequence a_ends.now a_values.now) (sequence b_ends.now b_values.now) fill_a fill_b code)
         out_ends out_values result }
 {
     let asked = zip_asks(
@@ -96,7 +96,7 @@ pub fn zip_with_raw(
     out_values: &mut [i64],
 ) -> Counted
     ensures { WritesRuns
-        (calls.zip_with_raw (given_sequence a_ends a_values) (given_sequence b_ends b_values) fill_a fill_b code)
+        (calls.zip_with_raw (sequence a_ends.now a_values.now) (sequence b_ends.now b_values.now) fill_a fill_b code)
         out_ends out_values result }
 {
     let asked = zip_asks(

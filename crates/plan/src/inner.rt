@@ -5,7 +5,6 @@ ghost use Rattle.column.specs.Questions.{ends_valid};
 ghost use Rattle.column.specs.Runs.{to_nat};
 ghost use Rattle.plan.specs.Workers.{spent, EndAt, stepped_cursor, Starts, Walkable, Walks, PlanFilled};
 ghost use Rattle.plan.specs.Calls.{segments_of};
-ghost use Rattle.column.specs.Lent.{given, after};
 
 // No end is as large: it stands where a column is spent.
 pub const SPENT: usize = usize::MAX;
@@ -34,7 +33,7 @@ pub struct Segment {
 // Where the run at an index ends.
 fn end_at(ends: &[i64], index: usize) -> usize
     requires { ends_valid ends.now ≡ none }
-    ensures { EndAt (map to_nat (drop index (given ends))) result }
+    ensures { EndAt (map to_nat (drop index ends.now)) result }
 {
     if index < ends.len() {
         let end = ends[index];
@@ -72,7 +71,7 @@ fn stepped(here: Cursor, other: usize, next: usize) -> Cursor
 impl Segments {
     pub fn start(a: &[i64], b: &[i64]) -> Segments
         requires { (ends_valid a.now ≡ none) × (ends_valid b.now ≡ none) }
-        ensures { Starts (given a) (given b) result }
+        ensures { Starts a.now b.now result }
     {
         Segments {
             a: Cursor {
@@ -97,7 +96,7 @@ impl Segments {
     // wait for them.
     pub fn next(self, a: &[i64], b: &[i64]) -> Segment
         requires { Walkable a.now b.now self }
-        ensures { Walks (given a) (given b) self result.end result.next }
+        ensures { Walks a.now b.now self result.end result.next }
     {
         let here_a = self.a;
         let here_b = self.b;
@@ -123,8 +122,8 @@ pub fn plan(
 ) -> usize
     requires { (ends_valid a.now ≡ none) × (ends_valid b.now ≡ none) × (length a.now + length b.now ≤ length out_ends.old)
         × (length a.now + length b.now ≤ length out_idx_a.old) × (length a.now + length b.now ≤ length out_idx_b.old) }
-    ensures { PlanFilled (segments_of (given a) (given b))
-        (given out_ends) (after out_ends) (given out_idx_a) (after out_idx_a) (given out_idx_b) (after out_idx_b) result }
+    ensures { PlanFilled (segments_of a.now b.now)
+        out_ends.old out_ends.new out_idx_a.old out_idx_a.new out_idx_b.old out_idx_b.new result }
 {
     let mut n: usize = 0;
     let mut here = Segments::start(a, b);

@@ -6,13 +6,12 @@ ghost use Rattle.std.specs.Prelude.{[], ◌∷◌, ◌≡◌};
 ghost use Rattle.column.specs.Asking.{shown_asked};
 ghost use Rattle.plan.specs.Calls.{WritesPlan};
 ghost use Rattle.plan.specs.Calls as calls;
-ghost use Rattle.column.specs.Lent.{given};
 
 use column::answer::{Asked, Counted};
 
 // Joined from the last on: if from the first on, the compiler makes a slower loop for `plan` (docs/SPEED.md).
 fn plan_asks(a: &[i64], b: &[i64], out_ends: usize, out_idx_a: usize, out_idx_b: usize) -> Asked
-    ensures { shown_asked result ≡ calls.plan_asked (given a) (given b) (out_ends ∷ out_idx_a ∷ out_idx_b ∷ []) }
+    ensures { shown_asked result ≡ calls.plan_asked a.now b.now (out_ends ∷ out_idx_a ∷ out_idx_b ∷ []) }
 {
     let needed = a.len() + b.len();
     let valid_a = questions::ask_ends(a);
@@ -32,7 +31,7 @@ pub fn plan(
     out_idx_a: &mut [usize],
     out_idx_b: &mut [usize],
 ) -> Counted
-    ensures { WritesPlan (calls.plan (given a) (given b)) out_ends out_idx_a out_idx_b result }
+    ensures { WritesPlan (calls.plan a.now b.now) out_ends out_idx_a out_idx_b result }
 {
     let asked = plan_asks(a, b, out_ends.len(), out_idx_a.len(), out_idx_b.len());
     match asked {

@@ -4,14 +4,13 @@
 ghost use Rattle.std.specs.Prelude.{◌+◌, true, ◌&&◌, [], ◌∷◌, ◌≡◌, drop};
 ghost use Rattle.std.specs.Int.Signed.{lt_z};
 ghost use Rattle.column.specs.Asking.{shown_asked, refusal, first_no, refused_in_key};
-ghost use Rattle.column.specs.Flat.{flat_asked, given_flat};
+ghost use Rattle.column.specs.Flat.{flat_asked, flat};
 ghost use Rattle.column.specs.Paper.{number_of, shown_by};
 ghost use Rattle.column.specs.Questions.{listed, mask_listed, agree, paired, mask_agrees, used_within, start_and_rise, last_offset, offsets_rise, offsets_valid};
 ghost use Rattle.column.specs.Questions.{ends_from, ends_valid, sequences_valid, at_most, not_negative, fits, run_by_run, intervals, side, is_missing, filled};
 ghost use Rattle.column.specs.Questions.{long_enough, room_at, room, both, sequence_asked};
-ghost use Rattle.column.specs.Runs.{to_nat, given_sequence};
+ghost use Rattle.column.specs.Runs.{to_nat, sequence};
 ghost use Rattle.questions.specs.Workers.{ends_from_quarters};
-ghost use Rattle.column.specs.Lent.{given};
 
 use column::answer::{Asked, Fill};
 use column::error::{Error, InKey, Refusal};
@@ -44,7 +43,7 @@ pub fn ask_code(low: u8, high: u8, code: u8) -> Asked
 }
 
 pub fn ask_mask(mask: &[u8]) -> Asked
-    ensures { shown_asked result ≡ mask_listed (given mask) }
+    ensures { shown_asked result ≡ mask_listed mask.now }
 {
     let i = mask::first_unlisted(mask);
     if i < mask.len() {
@@ -68,7 +67,7 @@ pub fn ask_lengths(what: u8, left: usize, right: usize) -> Asked
 
 // What 6 of 2.
 pub fn ask_mask_length(mask: &[u8], ends: &[i64]) -> Asked
-    ensures { shown_asked result ≡ mask_agrees (given mask) (given ends) }
+    ensures { shown_asked result ≡ mask_agrees mask.now ends.now }
 {
     if ends.len() == 0 {
         ask_lengths(6, mask.len(), 0)
@@ -94,7 +93,7 @@ pub fn ask_used(used: usize, ends: usize, values: usize) -> Asked
 
 // 3
 fn start_and_rise(offsets: &[usize]) -> bool
-    ensures { result ≡ start_and_rise (given offsets) }
+    ensures { result ≡ start_and_rise offsets.now }
 {
     if offsets.len() == 0 {
         return false;
@@ -117,14 +116,14 @@ fn start_and_rise(offsets: &[usize]) -> bool
 
 // The last offset, or 0.
 pub fn last_offset(offsets: &[usize]) -> usize
-    ensures { result ≡ last_offset 0 (given offsets) }
+    ensures { result ≡ last_offset 0 offsets.now }
 {
     let n = offsets.len();
     if n == 0 { 0 } else { offsets[n - 1] }
 }
 
 pub fn ask_offsets_rise(offsets: &[usize]) -> Asked
-    ensures { shown_asked result ≡ offsets_rise (given offsets) }
+    ensures { shown_asked result ≡ offsets_rise offsets.now }
 {
     if start_and_rise(offsets) {
         Asked::Yes
@@ -134,7 +133,7 @@ pub fn ask_offsets_rise(offsets: &[usize]) -> Asked
 }
 
 pub fn ask_offsets(offsets: &[usize], ends: usize) -> Asked
-    ensures { shown_asked result ≡ offsets_valid (given offsets) ends }
+    ensures { shown_asked result ≡ offsets_valid offsets.now ends }
 {
     if !start_and_rise(offsets) {
         return no(Error::InvalidOffsets);
@@ -148,7 +147,7 @@ pub fn ask_offsets(offsets: &[usize], ends: usize) -> Asked
 
 // 4, end by end from an index on; `first` is the end before it.
 fn ask_ends_from(ends: &[i64], from: usize, first: i64) -> Asked
-    ensures { shown_asked result ≡ ends_from from first (drop from (given ends)) }
+    ensures { shown_asked result ≡ ends_from from first (drop from ends.now) }
 {
     let mut before = first;
     let mut i = from;
@@ -166,7 +165,7 @@ fn ask_ends_from(ends: &[i64], from: usize, first: i64) -> Asked
 // Whether each end in four quarters is above the one before. The quarters are read side by side: far memory brings four of them in little
 // more time than one.
 fn quarters_rise(ends: &[i64]) -> bool
-    ensures { result ≡ true → ends_valid (given ends) ≡ ends_from_quarters (given ends) }
+    ensures { result ≡ true → ends_valid ends.now ≡ ends_from_quarters ends.now }
 {
     let quarter = ends.len() / 4;
     let mut first: i64 = 0;
@@ -202,7 +201,7 @@ fn quarters_rise(ends: &[i64]) -> bool
 
 // 4
 pub fn ask_ends(ends: &[i64]) -> Asked
-    ensures { shown_asked result ≡ ends_valid (given ends) }
+    ensures { shown_asked result ≡ ends_valid ends.now }
 {
     if quarters_rise(ends) {
         let seen = ends.len() / 4 * 4;
@@ -214,7 +213,7 @@ pub fn ask_ends(ends: &[i64]) -> Asked
 
 // What 3 of 2, and 4, of one sequence.
 pub fn ask_sequence(ends: &[i64], values: &[i64]) -> Asked
-    ensures { shown_asked result ≡ first_no (paired (given_sequence ends values) ∷ ends_valid (given ends) ∷ []) }
+    ensures { shown_asked result ≡ first_no (paired (sequence ends.now values.now) ∷ ends_valid ends.now ∷ []) }
 {
     ask_lengths(3, ends.len(), values.len()).and(ask_ends(ends))
 }
@@ -237,7 +236,7 @@ pub fn in_key(asked: Asked, position: usize) -> Asked
 
 // 4, of sequences laid flat.
 pub fn ask_sequences(offsets: &[usize], ends: &[i64]) -> Asked
-    ensures { shown_asked result ≡ sequences_valid (given offsets) (given ends) }
+    ensures { shown_asked result ≡ sequences_valid offsets.now ends.now }
 {
     let mut k = 0;
     while k + 1 < offsets.len() {
@@ -255,7 +254,7 @@ pub fn ask_sequences(offsets: &[usize], ends: &[i64]) -> Asked
 
 // What 3 of 2, 3 and 4, of sequences laid flat.
 pub fn ask_flat(offsets: &[usize], ends: &[i64], values: &[i64]) -> Asked
-    ensures { shown_asked result ≡ first_no (flat_asked (given_flat offsets ends values)) }
+    ensures { shown_asked result ≡ first_no (flat_asked (flat offsets.now ends.now values.now)) }
 {
     ask_lengths(3, ends.len(), values.len())
         .and(ask_offsets(offsets, ends.len()))
@@ -304,7 +303,7 @@ pub fn ask_fits(length: usize) -> Asked
 
 // 6 and 7, run by run.
 pub fn ask_runs(runs: &[i64]) -> Asked
-    ensures { shown_asked result ≡ run_by_run 0 0 (given runs) }
+    ensures { shown_asked result ≡ run_by_run 0 0 runs.now }
 {
     let mut total: usize = 0;
     let mut i = 0;
@@ -325,7 +324,7 @@ pub fn ask_runs(runs: &[i64]) -> Asked
 
 // 9
 pub fn ask_intervals(starts: &[i64], ends: &[i64]) -> Asked
-    ensures { shown_asked result ≡ intervals (given starts) (given ends) }
+    ensures { shown_asked result ≡ intervals starts.now ends.now }
 {
     let mut i = 0;
     while i < starts.len() {
@@ -436,7 +435,7 @@ pub fn ask_sequence_into(
     out_ends: usize,
     out_values: usize,
 ) -> Asked
-    ensures { shown_asked result ≡ sequence_asked (given_sequence ends values) needed (out_ends ∷ out_values ∷ []) }
+    ensures { shown_asked result ≡ sequence_asked (sequence ends.now values.now) needed (out_ends ∷ out_values ∷ []) }
 {
     ask_sequence(ends, values).and(ask_both(needed, out_ends, out_values))
 }

@@ -267,8 +267,8 @@ module _ (f : ℤ → ℤ) (es vs : List ℤ) where
     pub gs : List Range
     pub ranges : ranges_from 0 (marks r) ≡ gs ++ range_of last ∷ []
     pub inside : Marked (marks r) last.inside
-    pub natural-start : last.start ≡ pos (to_nat last.start)
-    pub natural-end : last.end ≡ pos (to_nat last.end)
+    pub natural_start : last.start ≡ pos (to_nat last.start)
+    pub natural_end : last.end ≡ pos (to_nat last.end)
     pub starts : Written start_of (gs ++ range_of last ∷ []) s₁ s (last.at + 1)
     pub ends : Written end_of (gs ++ range_of last ∷ []) e₁ e (last.at + 1)
     pub end_before_lem : before ≡ end_before es r
@@ -293,8 +293,8 @@ module _ (f : ℤ → ℤ) (es vs : List ℤ) where
           gs = [];
           ranges = rw (more, push_new 0 (marks r) e v none.1 yes, none.0, marks-length valid paired r (omega arith), ex, ey);
           inside = rw (more, last_push (pos 0) (marks r) e v) yes;
-          natural-start = nx;
-          natural-end = ny;
+          natural_start = nx;
+          natural_end = ny;
           starts = write_one start_of s₀ (omega arith) g nx;
           ends = write_one end_of e₀ (omega arith) g ny;
           end_before_lem = rw (add-one r) ey;
@@ -327,7 +327,7 @@ module _ (f : ℤ → ℤ) (es vs : List ℤ) where
         range-over : next.at ≡ last.at → next.start ≡ last.start → next.end ≡ pos (to_nat next.end)
             → ranges_from 0 (marks (r + 1)) ≡ i.gs ++ range_of next ∷ [] → Next
         range-over at st ne rs =
-            let ns : next.start ≡ pos (to_nat next.start) = rw st i.natural-start in
+            let ns : next.start ≡ pos (to_nat next.start) = rw st i.natural_start in
             let g = range_of next in
             let few = i.few in
             record {
@@ -336,8 +336,8 @@ module _ (f : ℤ → ℤ) (es vs : List ℤ) where
               gs = i.gs;
               ranges = rs;
               inside = marked;
-              natural-start = ns;
-              natural-end = ne;
+              natural_start = ns;
+              natural_end = ne;
               starts = rw at (write_over start_of i.gs (range_of last) i.starts (omega arith) g (ex ∙ ns));
               ends = rw at (write_over end_of i.gs (range_of last) i.ends (omega arith) g (ey ∙ ne));
               end_before_lem = rw (add-one r) ez;
@@ -356,7 +356,7 @@ module _ (f : ℤ → ℤ) (es vs : List ℤ) where
         range-kept : b ≡ false → next.at ≡ last.at → next.start ≡ last.start → Next
         range-kept tb at st =
             let te : next.end ≡ last.end = rw tb at end_is in
-            range-over at st (rw te i.natural-end) (rw (more, st, te) (push_other 0 (marks r) end value (sym eb ∙ tb) ∙ i.ranges))
+            range-over at st (rw te i.natural_end) (rw (more, st, te) (push_other 0 (marks r) end value (sym eb ∙ tb) ∙ i.ranges))
 
         -- it passes as the run before it does
         range-on : last.inside ≡ true → b ≡ true → next.at ≡ last.at → next.start ≡ last.start → Next
@@ -379,8 +379,8 @@ module _ (f : ℤ → ℤ) (es vs : List ℤ) where
               gs = i.gs ++ range_of last ∷ [];
               ranges = rw (more, new, i.ranges, marks-length valid paired r (omega arith), st, i.end_before_lem, te, ez);
               inside = marked;
-              natural-start = ns;
-              natural-end = ne;
+              natural_start = ns;
+              natural_end = ne;
               starts = rw at (write_next start_of i.starts (omega arith) (range_of next) (ex ∙ ns));
               ends = rw at (write_next end_of i.ends (omega arith) (range_of next) (ey ∙ ne));
               end_before_lem = rw (add-one r) ez;

@@ -5,14 +5,13 @@ ghost use Rattle.column.specs.Questions.{ends_valid};
 ghost use Rattle.column.specs.Runs.{runs_of};
 ghost use Rattle.ranges_where.specs.Calls.{ranges_of};
 ghost use Rattle.ranges_where.specs.Workers.{passing, FirstPassing, open_after, FilledRanges};
-ghost use Rattle.column.specs.Lent.{given, after};
 
 use column::sequence;
 
 // The lowest index of a value that passes, or how many values there are.
 fn first_passing(values: &[i64], code: u8, number: i64) -> usize
     requires { (7 ≤ code) × (code ≤ 8) }
-    ensures { FirstPassing (passing code number) (given values) result }
+    ensures { FirstPassing (passing code number) values.now result }
 {
     let mut i: usize = 0;
     while i < values.len() {
@@ -80,8 +79,8 @@ pub fn ranges_where(
 ) -> usize
     requires { (7 ≤ code) × (code ≤ 8) × (ends_valid ends.now ≡ none) × (length ends.now ≡ length values.now)
         × (length ends.now ≤ length out_starts.old) × (length ends.now ≤ length out_ends.old) }
-    ensures { FilledRanges (ranges_of code number (runs_of (given ends) (given values)))
-        (given out_starts) (after out_starts) (given out_ends) (after out_ends) result }
+    ensures { FilledRanges (ranges_of code number (runs_of ends.now values.now))
+        out_starts.old out_starts.new out_ends.old out_ends.new result }
 {
     let first = first_passing(values, code, number);
     if first == ends.len() {

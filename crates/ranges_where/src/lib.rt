@@ -4,7 +4,7 @@ pub mod inner;
 
 ghost use Rattle.std.specs.Prelude.{[], ◌∷◌, ◌≡◌};
 ghost use Rattle.column.specs.Asking.{shown_asked};
-ghost use Rattle.column.specs.Runs.{given_sequence};
+ghost use Rattle.column.specs.Runs.{sequence};
 ghost use Rattle.ranges_where.specs.Calls.{WritesRanges};
 ghost use Rattle.ranges_where.specs.Calls as calls;
 
@@ -18,7 +18,7 @@ fn ranges_where_asks(
     out_starts: usize,
     out_ends: usize,
 ) -> Asked
-    ensures { shown_asked result ≡ calls.ranges_where_asked (given_sequence ends values) code (out_starts ∷ out_ends ∷ []) }
+    ensures { shown_asked result ≡ calls.ranges_where_asked (sequence ends.now values.now) code (out_starts ∷ out_ends ∷ []) }
 {
     questions::ask_code(7, 8, code).and(questions::ask_sequence_into(
         ends,
@@ -38,7 +38,7 @@ pub fn ranges_where(
     out_starts: &mut [i64],
     out_ends: &mut [i64],
 ) -> Counted
-    ensures { WritesRanges (calls.ranges_where (given_sequence ends values) code number) out_starts out_ends result }
+    ensures { WritesRanges (calls.ranges_where (sequence ends.now values.now) code number) out_starts out_ends result }
 {
     let asked = ranges_where_asks(ends, values, code, out_starts.len(), out_ends.len());
     match asked {

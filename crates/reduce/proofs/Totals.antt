@@ -94,8 +94,8 @@ module _ (t : TouchedRuns) (es vs : List ℤ) (w : Window t es vs) where
         let k : i ≡ length (body_of t es) + 0 = omega arith in
         rw (ends_are, k) (get_or-append-add (body_of t es) (t.end ∷ []) 0 (pos 0))
 
-    pub last-value : (i : ℕ) → i ≡ t.count - 1 → get_or (window_values t vs) i (pos 0) ≡ get_or vs (t.first + (t.count - 1)) (pos 0)
-    last-value i e =
+    pub last_value : (i : ℕ) → i ≡ t.count - 1 → get_or (window_values t vs) i (pos 0) ≡ get_or vs (t.first + (t.count - 1)) (pos 0)
+    last_value i e =
         let l = body_long t vs values-inside in
         let k : i ≡ length (body_of t vs) + 0 = omega arith in
         rw (values_are, k) (get_or-append-add (body_of t vs) _ 0 (pos 0))

@@ -114,8 +114,8 @@ module _ {A : Type 0} (step : A → ℕ → ℤ → A) (P : A → Type 0) (first
 
 module _ {A : Type 0} {step : A → ℕ → ℤ → A} {P : A → Type 0} {first : A} {p : ℕ} {es vs : List ℤ} {i : ℕ} {end : ℤ} {total : A}
     (w : Walked step P first p es vs i end total) where
-  pub end-natural : end ≡ pos (to_nat end)
-  end-natural = rw w.last (last-natural p (take i es) w.rising)
+  pub end_natural : end ≡ pos (to_nat end)
+  end_natural = rw w.last (last-natural p (take i es) w.rising)
 
   -- the next run, whose end rises
   module _ (e : ℤ) (g : lt_z end e ≡ true) where
@@ -127,7 +127,7 @@ module _ {A : Type 0} {step : A → ℕ → ℤ → A} {P : A → Type 0} {first
         let g' : lt_z (last_from (pos p) (take i es)) e ≡ true = rw (← w.last) g in
         let long : length (take i es) ≡ length (take i vs) = length-take-le i es (omega arith) ∙ sym (length-take-le i vs (omega arith)) in
         let m : to_nat run ≡ to_nat e - to_nat (last_from (pos p) (take i es)) =
-        ap to_nat (er ∙ run_is end-natural e g) ∙ ap (λ (z : ℤ). to_nat e - to_nat z) w.last in
+        ap to_nat (er ∙ run_is end_natural e g) ∙ ap (λ (z : ℤ). to_nat e - to_nat z) w.last in
         let one = fold_after step first p (take i es) (take i vs) e v w.rising long in
         record {
           inside = omega arith;

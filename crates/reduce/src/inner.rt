@@ -8,7 +8,6 @@ ghost use Rattle.slice.specs.Calls.{slice_runs};
 ghost use Rattle.reduce.specs.Calls.{add_product, add_square, reduction, FiniteReduction, kind_of, bits_of};
 ghost use Rattle.reduce.specs.Workers.{add_wrapped, WalkedSum, StoppedSum, SumOf, ProductsOf, ExactProducts, AllProducts, AroundMean, WalkedSquares};
 ghost use Rattle.reduce.specs.Workers.{Squarable, SquaresOf, ExactRun, Window, divisor_of, VarianceBy, ReducesWindow};
-ghost use Rattle.column.specs.Lent.{given};
 
 use crate::{Moments, Reduction};
 use slice::inner::search;
@@ -63,7 +62,7 @@ fn both_rise(before: i64, first: i64, second: i64) -> bool
 // Two runs at each turn, as long as both ends rise.
 fn sum_pairs(ends: &[i64], values: &[i64], start: i64) -> WholeSum
     requires { (length ends.now ≡ length values.now) × (start ≡ pos (to_nat start)) }
-    ensures { WalkedSum (to_nat start) (given ends) (given values) result.runs result.end result.total }
+    ensures { WalkedSum (to_nat start) ends.now values.now result.runs result.end result.total }
 {
     let mut total: i64 = 0;
     let mut before = start;
@@ -93,7 +92,7 @@ fn sum_pairs(ends: &[i64], values: &[i64], start: i64) -> WholeSum
 // The sum of the runs, up to the first whose end does not rise.
 fn sum_runs(ends: &[i64], values: &[i64], start: i64) -> WholeSum
     requires { (length ends.now ≡ length values.now) × (start ≡ pos (to_nat start)) }
-    ensures { StoppedSum (to_nat start) (given ends) (given values) result.runs result.end result.total }
+    ensures { StoppedSum (to_nat start) ends.now values.now result.runs result.end result.total }
 {
     let pairs = sum_pairs(ends, values, start);
     let mut total = pairs.total;
@@ -122,7 +121,7 @@ fn sum_runs(ends: &[i64], values: &[i64], start: i64) -> WholeSum
 // The sum of the runs of a window; the last ends where the window does.
 pub fn sum_window(ends: &[i64], values: &[i64], window: TouchedRuns) -> WholeSum
     requires { Window window ends.now values.now }
-    ensures { SumOf window (given ends) (given values) result.runs result.total }
+    ensures { SumOf window ends.now values.now result.runs result.total }
 {
     let count = window.count;
     let start = window.start;
@@ -181,7 +180,7 @@ fn add_exact_product(total: f64, run: i64, value: i64) -> f64
 // The products as long as nothing is rounded in converting; most columns are at their end then.
 fn exact_products(ends: &[i64], values: &[i64], start: i64) -> FloatSum
     requires { (length ends.now ≡ length values.now) × (start ≡ pos (to_nat start)) }
-    ensures { ExactProducts (to_nat start) (given ends) (given values) result.runs result.end result.total }
+    ensures { ExactProducts (to_nat start) ends.now values.now result.runs result.end result.total }
 {
     let mut total = 0.0;
     let mut before = start;
@@ -210,7 +209,7 @@ fn exact_products(ends: &[i64], values: &[i64], start: i64) -> FloatSum
 // The products of the runs, up to the first whose end does not rise.
 fn products(ends: &[i64], values: &[i64], start: i64) -> ProductSum
     requires { (length ends.now ≡ length values.now) × (start ≡ pos (to_nat start)) }
-    ensures { AllProducts (to_nat start) (given ends) (given values) result.runs result.end result.total result.exact }
+    ensures { AllProducts (to_nat start) ends.now values.now result.runs result.end result.total result.exact }
 {
     let exact = exact_products(ends, values, start);
     let mut total = exact.total;
@@ -241,7 +240,7 @@ fn products(ends: &[i64], values: &[i64], start: i64) -> ProductSum
 // The products of the runs of a window.
 fn product_window(ends: &[i64], values: &[i64], window: TouchedRuns) -> ProductSum
     requires { Window window ends.now values.now }
-    ensures { ProductsOf window (given ends) (given values) result.runs result.total result.exact }
+    ensures { ProductsOf window ends.now values.now result.runs result.total result.exact }
 {
     let count = window.count;
     let start = window.start;
@@ -293,7 +292,7 @@ fn add_exact_square(mean: f64, total: f64, run: i64, value: i64) -> f64
 // The squares of the first runs, which are known to be converted with nothing rounded.
 fn exact_squares(ends: &[i64], values: &[i64], start: i64, mean: f64, exact: usize) -> FloatSum
     requires { (start ≡ pos (to_nat start)) × AroundMean (to_nat start) ends.now values.now mean exact }
-    ensures { WalkedSquares mean (to_nat start) (given ends) (given values) result.runs result.end result.total }
+    ensures { WalkedSquares mean (to_nat start) ends.now values.now result.runs result.end result.total }
 {
     let mut total = 0.0;
     let mut before = start;
@@ -314,7 +313,7 @@ fn exact_squares(ends: &[i64], values: &[i64], start: i64, mean: f64, exact: usi
 // The squares of the runs.
 fn squares(ends: &[i64], values: &[i64], start: i64, mean: f64, exact: usize) -> FloatSum
     requires { (start ≡ pos (to_nat start)) × AroundMean (to_nat start) ends.now values.now mean exact }
-    ensures { WalkedSquares mean (to_nat start) (given ends) (given values) (length (given ends)) result.end result.total }
+    ensures { WalkedSquares mean (to_nat start) ends.now values.now (length ends.now) result.end result.total }
 {
     let first = exact_squares(ends, values, start, mean, exact);
     let mut total = first.total;
@@ -336,7 +335,7 @@ fn squares(ends: &[i64], values: &[i64], start: i64, mean: f64, exact: usize) ->
 // The squares of the runs of a window.
 fn square_window(ends: &[i64], values: &[i64], window: TouchedRuns, mean: f64, exact: usize) -> f64
     requires { Squarable window ends.now values.now mean exact }
-    ensures { SquaresOf mean window (given ends) (given values) result }
+    ensures { SquaresOf mean window ends.now values.now result }
 {
     let count = window.count;
     let first = window.first;
@@ -369,7 +368,7 @@ fn variance(
     divisor: i64,
 ) -> Reduction
     requires { Squarable window ends.now values.now mean exact × (divisor ≡ pos (to_nat divisor)) }
-    ensures { VarianceBy divisor window (given ends) (given values) mean result }
+    ensures { VarianceBy divisor window ends.now values.now mean result }
 {
     if divisor <= 0 {
         return Reduction::Nothing;
@@ -390,7 +389,7 @@ pub fn reduce_window(
     ddof: i64,
 ) -> WindowReduction
     requires { Window window ends.now values.now }
-    ensures { ReducesWindow code ddof window (given ends) (given values) result }
+    ensures { ReducesWindow code ddof window ends.now values.now result }
 {
     if code == 0 {
         let sum = sum_window(ends, values, window);
@@ -441,7 +440,7 @@ pub fn reduce_slice(
     ddof: i64,
 ) -> Reduction
     requires { (ends_valid ends.now ≡ none) × (length ends.now ≡ length values.now) }
-    ensures { (result ≡ reduction code ddof (slice_runs start stop (runs_of (given ends) (given values)))) × FiniteReduction result }
+    ensures { (result ≡ reduction code ddof (slice_runs start stop (runs_of ends.now values.now))) × FiniteReduction result }
 {
     let window = search::touched(ends, start, stop);
     let reduced = reduce_window(ends, values, window, code, ddof);

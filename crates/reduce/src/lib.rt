@@ -4,11 +4,10 @@ pub mod inner;
 
 ghost use Rattle.std.specs.Prelude.{◌≡◌};
 ghost use Rattle.column.specs.Asking.{shown_asked, ◌otherwise◌};
-ghost use Rattle.column.specs.Runs.{given_sequence};
+ghost use Rattle.column.specs.Runs.{sequence};
 ghost use Rattle.reduce.specs.Calls.{shown_summed, shown_reduced, Reduces};
 ghost use Rattle.reduce.specs.Calls as calls;
 ghost use Rattle.reduce.specs.Workers.{ends_pass, whole_of};
-ghost use Rattle.column.specs.Lent.{given};
 
 use crate::inner::{WholeSum, WindowReduction};
 use column::answer::Asked;
@@ -61,7 +60,7 @@ fn ask_rising(rising: usize, count: usize) -> Asked
 
 // A whole sequence as a window.
 fn whole(ends: &[i64]) -> TouchedRuns
-    ensures { result ≡ whole_of (given ends) }
+    ensures { result ≡ whole_of ends.now }
 {
     TouchedRuns {
         first: 0,
@@ -83,7 +82,7 @@ fn sum_answer(sum: WholeSum, count: usize) -> Summed
 
 // The sum over all positions. One pass asks about the ends and sums.
 pub fn sum(ends: &[i64], values: &[i64]) -> Summed
-    ensures { shown_summed result ≡ calls.sum (given_sequence ends values) }
+    ensures { shown_summed result ≡ calls.sum (sequence ends.now values.now) }
 {
     let asked = questions::ask_lengths(3, ends.len(), values.len());
     match asked {
@@ -111,7 +110,7 @@ fn reduction_answer(window: WindowReduction, count: usize) -> Reduced
 
 // The sum, mean or variance over all positions, by code. The pass that sums for it asks about the ends.
 pub fn reduce(ends: &[i64], values: &[i64], code: u8, ddof: i64) -> Reduced
-    ensures { Reduces (calls.reduce (given_sequence ends values) code ddof) result }
+    ensures { Reduces (calls.reduce (sequence ends.now values.now) code ddof) result }
 {
     let asked = questions::ask_code(0, 2, code).and(questions::ask_lengths(
         3,

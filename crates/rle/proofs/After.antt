@@ -59,8 +59,8 @@ module _ (e v : List ℤ) (n : ℕ) where
         → PutRun e e' v v' n run' end value' m → Filled (pushed (sequence e v) n run value) e e' v v' m
     unfolding pushed
     push_filled er ee ev d =
-        let entries = used-filled n e v (le_of_lt q.room-ends) (le_of_lt q.room-values) q.valid in
-        let f = put_filled entries present (to_nat run) _ (er ∙ push_natural) ee d q.room-ends q.room-values in
+        let entries = used-filled n e v (le_of_lt q.room_ends) (le_of_lt q.room_values) q.valid in
+        let f = put_filled entries present (to_nat run) _ (er ∙ push_natural) ee d q.room_ends q.room_values in
         rw (← push_natural, ev) at f
 
   -- ---- extend_to
@@ -76,27 +76,27 @@ module _ (e v : List ℤ) (n : ℕ) where
     pub extend_same : (value : ℤ) → requested ≡ pos present → Filled (extended (sequence e v) n requested value) e e v v n
     unfolding extended
     extend_same value eq =
-        rw (eq, eq-eqb present present refl) (used-filled n e v (le_of_lt q.room-ends) (le_of_lt q.room-values) q.valid)
+        rw (eq, eq-eqb present present refl) (used-filled n e v (le_of_lt q.room_ends) (le_of_lt q.room_values) q.valid)
 
     module _ {w : Writer} {value : ℤ} (at_last : w.at ≡ n - 1) (alone : n ≡ 0 → w.last ≡ value) (last : 0 < n → w.last ≡ get_or v (n - 1) (pos 0)) where
-      last-value : (k : ℕ) → n ≡ k → w.last ≡ last_of value (used_runs n e v (le_of_lt q.room-ends) (le_of_lt q.room-values))
+      last_value : (k : ℕ) → n ≡ k → w.last ≡ last_of value (used_runs n e v (le_of_lt q.room_ends) (le_of_lt q.room_values))
       unfolding last_of runs_of
-      last-value zero h = alone h ∙ rw h
-      last-value (suc k) h = last (omega arith) ∙ sym (used-last n e v (le_of_lt q.room-ends) (le_of_lt q.room-values) value (omega arith))
+      last_value zero h = alone h ∙ rw h
+      last_value (suc k) h = last (omega arith) ∙ sym (used-last n e v (le_of_lt q.room_ends) (le_of_lt q.room_values) value (omega arith))
 
-      merging : Merging (used_runs n e v (le_of_lt q.room-ends) (le_of_lt q.room-values)) value e v e v w
-      merging = used-merging n e v (le_of_lt q.room-ends) (le_of_lt q.room-values) q.valid value at_last (last-value n refl)
+      merging : Merging (used_runs n e v (le_of_lt q.room_ends) (le_of_lt q.room_values)) value e v e v w
+      merging = used-merging n e v (le_of_lt q.room_ends) (le_of_lt q.room_values) q.valid value at_last (last_value n refl)
 
       -- the new run goes at most one place after the used entries
       pub extend-at : next_place w value ≤ n
-      extend-at = rw (used-count n e v (le_of_lt q.room-ends) (le_of_lt q.room-values)) at (merge_at merging value (λ z. refl))
+      extend-at = rw (used-count n e v (le_of_lt q.room_ends) (le_of_lt q.room_values)) at (merge_at merging value (λ z. refl))
 
       pub extend-filled : {z : ℤ} {e' v' : List ℤ} {next : Writer} → (requested ≡ pos present → ⊥) → z ≡ requested → PushedMerged w z value e e' v v' next
           → Filled (extended (sequence e v) n requested value) e e' v v' (next.at + 1)
       unfolding extended
       extend-filled ne ez d =
-          let c = used-count n e v (le_of_lt q.room-ends) (le_of_lt q.room-values) in
+          let c = used-count n e v (le_of_lt q.room_ends) (le_of_lt q.room_values) in
           let p = to_nat requested in
           let t : p ≡ present → ⊥ = λ h. ne (extend_natural ∙ ap pos h) in
-          let m = merge_more merging value (λ z. refl) p d (ez ∙ extend_natural) refl (rw c q.room-ends) (rw c q.room-values) in
+          let m = merge_more merging value (λ z. refl) p d (ez ∙ extend_natural) refl (rw c q.room_ends) (rw c q.room_values) in
           rw (ne_eqb p present t) (merge_end m (rw (length_push _ p value) (omega arith)))

@@ -26,7 +26,7 @@ module _ (e v : List ℤ) where
       ∷ room_for_one n (sequence e v)
       ∷ []) h in
       let r = both_told (n + 1) (length e) (length v) y.1.1.1.1.0 in
-      record { valid = y.1.0; room-ends = omega arith; room-values = omega arith; natural = y.1.1.0; fitting = y.1.1.1.0 }
+      record { valid = y.1.0; room_ends = omega arith; room_values = omega arith; natural = y.1.1.0; fitting = y.1.1.1.0 }
 
   pub extend_to-yes : (n : ℕ) (requested : ℤ) → extend_to_asked (sequence e v) n requested ≡ none → Extendable e v n requested
   unfolding extend_to_asked
@@ -38,4 +38,4 @@ module _ (e v : List ℤ) where
       ∷ room_for_one n (sequence e v)
       ∷ []) h in
       let r = both_told (n + 1) (length e) (length v) y.1.1.1.0 in
-      record { valid = y.1.0; room-ends = omega arith; room-values = omega arith; long = y.1.1.0 }
+      record { valid = y.1.0; room_ends = omega arith; room_values = omega arith; long = y.1.1.0 }

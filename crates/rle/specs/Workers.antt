@@ -8,13 +8,13 @@ use Rattle.rle.specs.Calls.{present_length}
 -- every question of push_run and of extend_to answered "yes"
 pub record Pushable (ends values : List ℤ) (n : ℕ) (run : ℤ) : Type 0 where
   pub valid : ends_valid (take n ends) ≡ none
-  pub room-ends : n < length ends
-  pub room-values : n < length values
+  pub room_ends : n < length ends
+  pub room_values : n < length values
   pub natural : not_negative n run ≡ none
   pub fitting : fits (present_length n (sequence ends values) + to_nat run) ≡ none
 
 pub record Extendable (ends values : List ℤ) (n : ℕ) (requested : ℤ) : Type 0 where
   pub valid : ends_valid (take n ends) ≡ none
-  pub room-ends : n < length ends
-  pub room-values : n < length values
+  pub room_ends : n < length ends
+  pub room_values : n < length values
   pub long : long_enough requested (pos (present_length n (sequence ends values))) ≡ none

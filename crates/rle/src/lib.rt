@@ -6,7 +6,7 @@ ghost use Rattle.std.specs.Prelude.{◌+◌, ◌-◌, ◌<◌, ◌^◌, [], ◌�
 ghost use Rattle.column.specs.Asking.{shown_asked};
 ghost use Rattle.column.specs.Paper.{WritesRuns};
 ghost use Rattle.column.specs.Questions.{room, both};
-ghost use Rattle.column.specs.Runs.{given_sequence};
+ghost use Rattle.column.specs.Runs.{sequence};
 ghost use Rattle.rle.specs.Calls as calls;
 
 use column::answer::{Asked, Counted};
@@ -31,7 +31,7 @@ impl Rle {
 
     // The sequence with one more run after it, not merged; a run of 0 changes nothing.
     pub fn push_run(self, ends: &mut [i64], values: &mut [i64], run: i64, value: i64) -> Counted
-        ensures { WritesRuns (λ _. calls.push_run (given_sequence ends values) self.runs run value) ends values result }
+        ensures { WritesRuns (λ _. calls.push_run (sequence ends.old values.old) self.runs run value) ends values result }
     {
         let used = self.runs;
         let asked = push_run_asks(ends, values, used, run);
@@ -46,7 +46,7 @@ impl Rle {
 
     // The sequence up to a length, with a value at each new position; the last run grows if it has that value.
     pub fn extend_to(self, ends: &mut [i64], values: &mut [i64], length: i64, value: i64) -> Counted
-        ensures { WritesRuns (λ _. calls.extend_to (given_sequence ends values) self.runs length value) ends values result }
+        ensures { WritesRuns (λ _. calls.extend_to (sequence ends.old values.old) self.runs length value) ends values result }
     {
         let used = self.runs;
         let asked = extend_to_asks(ends, values, used, length);
@@ -62,7 +62,7 @@ impl Rle {
 
 // The used entries are read as far as there are any: what is asked after a "no" does not count.
 fn push_run_asks(ends: &[i64], values: &[i64], used: usize, run: i64) -> Asked
-    ensures { shown_asked result ≡ calls.push_run_asked (given_sequence ends values) used run }
+    ensures { shown_asked result ≡ calls.push_run_asked (sequence ends.now values.now) used run }
 {
     let present = sequence::part(ends, 0, used);
     let length = sequence::length(present);
@@ -74,7 +74,7 @@ fn push_run_asks(ends: &[i64], values: &[i64], used: usize, run: i64) -> Asked
 }
 
 fn extend_to_asks(ends: &[i64], values: &[i64], used: usize, length: i64) -> Asked
-    ensures { shown_asked result ≡ calls.extend_to_asked (given_sequence ends values) used length }
+    ensures { shown_asked result ≡ calls.extend_to_asked (sequence ends.now values.now) used length }
 {
     let present = sequence::part(ends, 0, used);
     let required = sequence::length(present);

@@ -2,8 +2,8 @@
 
 // The calls for C: each hands on what the Rattle call answers, laid flat.
 ghost use Rattle.std.specs.Prelude.{◌*◌, ◌≡◌, length};
-ghost use Rattle.batch.specs.Batch.{given_batch, WritesBatch};
-ghost use Rattle.batch.specs.Calls as batch;
+ghost use Rattle.batch.specs.Batch.{batch, WritesBatch};
+ghost use Rattle.batch.specs.Calls as batches;
 ghost use Rattle.batch.specs.Calls.{WritesGot};
 ghost use Rattle.batch_collapse.specs.Calls as batch-collapse;
 ghost use Rattle.batch_collapse.specs.Calls.{WritesCollapse};
@@ -13,10 +13,9 @@ ghost use Rattle.batch_keys.specs.Calls as batch-keys;
 ghost use Rattle.batch_map_rles.specs.Calls as batch-map-rles;
 ghost use Rattle.batch_slice_reduce.specs.Calls as batch-slice-reduce;
 ghost use Rattle.batch_zip_with.specs.Calls as batch-zip-with;
-ghost use Rattle.column.specs.Flat.{given_flat, WritesFlat};
-ghost use Rattle.column.specs.Lent.{given};
+ghost use Rattle.column.specs.Flat.{flat, WritesFlat};
 ghost use Rattle.column.specs.Paper.{WritesRuns, WritesEntries};
-ghost use Rattle.column.specs.Runs.{given_sequence};
+ghost use Rattle.column.specs.Runs.{sequence};
 ghost use Rattle.dense.specs.Calls as dense;
 ghost use Rattle.equals.specs.Calls as equals;
 ghost use Rattle.ffi.specs.Reading.{read_fill, LaidCheck, LaidEquality, LaidFound, LaidViewed, LaidSum, LaidReduced, LaidPart, LaidGot, LaidCounted};
@@ -64,14 +63,14 @@ pub extern "C" fn rl_from_runs(
     out_ends: &mut [i64],
     out_values: &mut [i64],
 ) -> RlCounted
-    ensures { LaidCounted (WritesRuns (from-runs.from_runs (given runs) (given values)) out_ends out_values) result }
+    ensures { LaidCounted (WritesRuns (from-runs.from_runs runs.now values.now) out_ends out_values) result }
 {
     ffi::counted(from_runs::from_runs(runs, values, out_ends, out_values))
 }
 
 #[unsafe(no_mangle)]
 pub extern "C" fn rl_from_ends(ends: &[i64], values: &[i64]) -> RlRefusal
-    ensures { LaidCheck (from-runs.from_ends (given_sequence ends values)) result }
+    ensures { LaidCheck (from-runs.from_ends (sequence ends.now values.now)) result }
 {
     ffi::checked(from_runs::from_ends(ends, values))
 }
@@ -96,7 +95,7 @@ pub extern "C" fn rl_push_run(
     run: i64,
     value: i64,
 ) -> RlCounted
-    ensures { LaidCounted (WritesRuns (λ _. rle.push_run (given_sequence ends values) used run value) ends values) result }
+    ensures { LaidCounted (WritesRuns (λ _. rle.push_run (sequence ends.old values.old) used run value) ends values) result }
 {
     ffi::counted(Rle { runs: used }.push_run(ends, values, run, value))
 }
@@ -109,7 +108,7 @@ pub extern "C" fn rl_extend_to(
     length: i64,
     value: i64,
 ) -> RlCounted
-    ensures { LaidCounted (WritesRuns (λ _. rle.extend_to (given_sequence ends values) used length value) ends values) result }
+    ensures { LaidCounted (WritesRuns (λ _. rle.extend_to (sequence ends.old values.old) used length value) ends values) result }
 {
     ffi::counted(Rle { runs: used }.extend_to(ends, values, length, value))
 }
@@ -120,14 +119,14 @@ pub extern "C" fn rl_from_dense(
     out_ends: &mut [i64],
     out_values: &mut [i64],
 ) -> RlCounted
-    ensures { LaidCounted (WritesRuns (dense.from_dense (given values)) out_ends out_values) result }
+    ensures { LaidCounted (WritesRuns (dense.from_dense values.now) out_ends out_values) result }
 {
     ffi::counted(dense::from_dense(values, out_ends, out_values))
 }
 
 #[unsafe(no_mangle)]
 pub extern "C" fn rl_to_dense(ends: &[i64], values: &[i64], out: &mut [i64]) -> RlCounted
-    ensures { LaidCounted (WritesEntries (dense.to_dense (given_sequence ends values)) out) result }
+    ensures { LaidCounted (WritesEntries (dense.to_dense (sequence ends.now values.now)) out) result }
 {
     ffi::counted(dense::to_dense(ends, values, out))
 }
@@ -139,7 +138,7 @@ pub extern "C" fn rl_equals(
     b_ends: &[i64],
     b_values: &[i64],
 ) -> RlEquality
-    ensures { LaidEquality (equals.equals (given_sequence a_ends a_values) (given_sequence b_ends b_values)) result }
+    ensures { LaidEquality (equals.equals (sequence a_ends.now a_values.now) (sequence b_ends.now b_values.now)) result }
 {
     ffi::equality(equals::equals(a_ends, a_values, b_ends, b_values))
 }
@@ -152,7 +151,7 @@ pub extern "C" fn rl_plan(
     out_idx_a: &mut [usize],
     out_idx_b: &mut [usize],
 ) -> RlCounted
-    ensures { LaidCounted (WritesPlan (plan.plan (given a) (given b)) out_ends out_idx_a out_idx_b) result }
+    ensures { LaidCounted (WritesPlan (plan.plan a.now b.now) out_ends out_idx_a out_idx_b) result }
 {
     ffi::counted(plan::plan(a, b, out_ends, out_idx_a, out_idx_b))
 }
@@ -170,8 +169,8 @@ pub extern "C" fn rl_zip_with(
     out_values: &mut [i64],
 ) -> RlCounted
     ensures { LaidCounted
-        (WritesRuns (ops.zip_with (given_sequence a_ends a_values)
-        (given_sequence b_ends b_values) (read_fill fill_a) (read_fill fill_b) code) out_ends out_values) result }
+        (WritesRuns (ops.zip_with (sequence a_ends.now a_values.now)
+        (sequence b_ends.now b_values.now) (read_fill fill_a) (read_fill fill_b) code) out_ends out_values) result }
 {
     ffi::counted(ops::zip_with(
         a_ends,
@@ -199,8 +198,8 @@ pub extern "C" fn rl_zip_with_raw(
     out_values: &mut [i64],
 ) -> RlCounted
     ensures { LaidCounted
-        (WritesRuns (ops.zip_with_raw (given_sequence a_ends a_values)
-        (given_sequence b_ends b_values) (read_fill fill_a) (read_fill fill_b) code) out_ends out_values) result }
+        (WritesRuns (ops.zip_with_raw (sequence a_ends.now a_values.now)
+        (sequence b_ends.now b_values.now) (read_fill fill_a) (read_fill fill_b) code) out_ends out_values) result }
 {
     ffi::counted(ops::zip_with_raw(
         a_ends,
@@ -223,7 +222,7 @@ pub extern "C" fn rl_plan_many(
     out_ends: &mut [i64],
     out_idx: &mut [usize],
 ) -> RlPlannedMany
-    ensures { LaidPlannedMany (WritesPlanMany (many.plan_many (given_flat offsets ends values)) out_ends out_idx) result }
+    ensures { LaidPlannedMany (WritesPlanMany (many.plan_many (flat offsets.now ends.now values.now)) out_ends out_idx) result }
 {
     ffi::planned_many(many::plan_many(offsets, ends, values, out_ends, out_idx))
 }
@@ -238,7 +237,7 @@ pub extern "C" fn rl_zip_many(
     out_ends: &mut [i64],
     out_values: &mut [i64],
 ) -> RlCounted
-    ensures { LaidCounted (WritesRuns (zip-many.zip_many (given_flat offsets ends values) (read_fill fill) code) out_ends out_values) result }
+    ensures { LaidCounted (WritesRuns (zip-many.zip_many (flat offsets.now ends.now values.now) (read_fill fill) code) out_ends out_values) result }
 {
     ffi::counted(zip_many::zip_many(
         offsets,
@@ -253,7 +252,7 @@ pub extern "C" fn rl_zip_many(
 
 #[unsafe(no_mangle)]
 pub extern "C" fn rl_run_index(ends: &[i64], pos: i64) -> RlFound
-    ensures { LaidFound (slice.run_index (given ends) pos) result }
+    ensures { LaidFound (slice.run_index ends.now pos) result }
 {
     ffi::found(slice::run_index(ends, pos))
 }
@@ -267,21 +266,21 @@ pub extern "C" fn rl_slice(
     out_ends: &mut [i64],
     out_values: &mut [i64],
 ) -> RlCounted
-    ensures { LaidCounted (WritesRuns (slice.slice (given_sequence ends values) start end) out_ends out_values) result }
+    ensures { LaidCounted (WritesRuns (slice.slice (sequence ends.now values.now) start end) out_ends out_values) result }
 {
     ffi::counted(slice::slice(ends, values, start, end, out_ends, out_values))
 }
 
 #[unsafe(no_mangle)]
 pub extern "C" fn rl_slice_view(ends: &[i64], values: &[i64], start: i64, end: i64) -> RlViewed
-    ensures { LaidViewed (slice.slice_view (given_sequence ends values) start end) result }
+    ensures { LaidViewed (slice.slice_view (sequence ends.now values.now) start end) result }
 {
     ffi::viewed(slice::slice_view(ends, values, start, end))
 }
 
 #[unsafe(no_mangle)]
 pub extern "C" fn rl_slice_view_values(ends: &[i64], values: &[i64], start: i64, end: i64) -> RlPart
-    ensures { LaidPart result (slice.slice_part (given_sequence ends values) start end) (given values) }
+    ensures { LaidPart result (slice.slice_part (sequence ends.now values.now) start end) values.now }
 {
     ffi::part(slice::slice_view_part(ends, values, start, end))
 }
@@ -297,7 +296,7 @@ pub extern "C" fn rl_getitems(
     out_values: &mut [i64],
 ) -> RlBatched
     ensures { LaidBatched
-        (WritesFlat (getitems.getitems (given_sequence ends values) (given starts) (given stops)) out_offsets out_ends out_values)
+        (WritesFlat (getitems.getitems (sequence ends.now values.now) starts.now stops.now) out_offsets out_ends out_values)
         result }
 {
     ffi::batched(getitems::getitems(
@@ -319,7 +318,7 @@ pub extern "C" fn rl_concat(
     out_ends: &mut [i64],
     out_values: &mut [i64],
 ) -> RlCounted
-    ensures { LaidCounted (WritesRuns (transform.concat (given_flat offsets ends values)) out_ends out_values) result }
+    ensures { LaidCounted (WritesRuns (transform.concat (flat offsets.now ends.now values.now)) out_ends out_values) result }
 {
     ffi::counted(transform::concat(offsets, ends, values, out_ends, out_values))
 }
@@ -333,7 +332,7 @@ pub extern "C" fn rl_shift(
     out_ends: &mut [i64],
     out_values: &mut [i64],
 ) -> RlCounted
-    ensures { LaidCounted (WritesRuns (shift.shift (given_sequence ends values) distance fill) out_ends out_values) result }
+    ensures { LaidCounted (WritesRuns (shift.shift (sequence ends.now values.now) distance fill) out_ends out_values) result }
 {
     ffi::counted(shift::shift(ends, values, distance, fill, out_ends, out_values))
 }
@@ -345,7 +344,7 @@ pub extern "C" fn rl_reversed(
     out_ends: &mut [i64],
     out_values: &mut [i64],
 ) -> RlCounted
-    ensures { LaidCounted (WritesRuns (transform.reversed (given_sequence ends values)) out_ends out_values) result }
+    ensures { LaidCounted (WritesRuns (transform.reversed (sequence ends.now values.now)) out_ends out_values) result }
 {
     ffi::counted(transform::reversed(ends, values, out_ends, out_values))
 }
@@ -359,7 +358,7 @@ pub extern "C" fn rl_ranges_where(
     out_starts: &mut [i64],
     out_ends: &mut [i64],
 ) -> RlCounted
-    ensures { LaidCounted (WritesRanges (ranges-where.ranges_where (given_sequence ends values) code number) out_starts out_ends) result }
+    ensures { LaidCounted (WritesRanges (ranges-where.ranges_where (sequence ends.now values.now) code number) out_starts out_ends) result }
 {
     ffi::counted(ranges_where::ranges_where(ends, values, code, number, out_starts, out_ends))
 }
@@ -371,7 +370,7 @@ pub extern "C" fn rl_merge(
     out_ends: &mut [i64],
     out_values: &mut [i64],
 ) -> RlCounted
-    ensures { LaidCounted (WritesRuns (merge.merged (given_sequence ends values)) out_ends out_values) result }
+    ensures { LaidCounted (WritesRuns (merge.merged (sequence ends.now values.now)) out_ends out_values) result }
 {
     ffi::counted(merge::merge(ends, values, out_ends, out_values))
 }
@@ -383,7 +382,7 @@ pub extern "C" fn rl_merged(
     out_ends: &mut [i64],
     out_values: &mut [i64],
 ) -> RlCounted
-    ensures { LaidCounted (WritesRuns (merge.merged (given_sequence ends values)) out_ends out_values) result }
+    ensures { LaidCounted (WritesRuns (merge.merged (sequence ends.now values.now)) out_ends out_values) result }
 {
     ffi::counted(merge::merged(ends, values, out_ends, out_values))
 }
@@ -397,7 +396,7 @@ pub extern "C" fn rl_merge_mask(
     out_ends: &mut [i64],
     out_values: &mut [i64],
 ) -> RlCounted
-    ensures { LaidCounted (WritesRuns (merge-mask.merge_mask (given_sequence ends values) (given mask) keep) out_ends out_values) result }
+    ensures { LaidCounted (WritesRuns (merge-mask.merge_mask (sequence ends.now values.now) mask.now keep) out_ends out_values) result }
 {
     ffi::counted(merge_mask::merge_mask(ends, values, mask, keep, out_ends, out_values))
 }
@@ -410,7 +409,7 @@ pub extern "C" fn rl_merge_by(
     out_ends: &mut [i64],
     out_values: &mut [i64],
 ) -> RlCounted
-    ensures { LaidCounted (WritesRuns (merge-mask.merge_by (given_sequence ends values) code) out_ends out_values) result }
+    ensures { LaidCounted (WritesRuns (merge-mask.merge_by (sequence ends.now values.now) code) out_ends out_values) result }
 {
     ffi::counted(merge_mask::merge_by(ends, values, code, out_ends, out_values))
 }
@@ -422,28 +421,28 @@ pub extern "C" fn rl_merge_plan(
     out_ends: &mut [i64],
     out_offsets: &mut [usize],
 ) -> RlCounted
-    ensures { LaidCounted (WritesGroups (merge-plan.merge_plan (given ends) (given mask)) out_ends out_offsets) result }
+    ensures { LaidCounted (WritesGroups (merge-plan.merge_plan ends.now mask.now) out_ends out_offsets) result }
 {
     ffi::counted(merge_plan::merge_plan(ends, mask, out_ends, out_offsets))
 }
 
 #[unsafe(no_mangle)]
 pub extern "C" fn rl_group_ids(offsets: &[usize], out_ids: &mut [usize]) -> RlCounted
-    ensures { LaidCounted (WritesEntries (merge-plan.group_ids (given offsets)) out_ids) result }
+    ensures { LaidCounted (WritesEntries (merge-plan.group_ids offsets.now) out_ids) result }
 {
     ffi::counted(merge_plan::group_ids(offsets, out_ids))
 }
 
 #[unsafe(no_mangle)]
 pub extern "C" fn rl_sum(ends: &[i64], values: &[i64]) -> RlSummed
-    ensures { LaidSum (reduce.sum (given_sequence ends values)) result }
+    ensures { LaidSum (reduce.sum (sequence ends.now values.now)) result }
 {
     ffi::summed(reduce::sum(ends, values))
 }
 
 #[unsafe(no_mangle)]
 pub extern "C" fn rl_reduce(ends: &[i64], values: &[i64], code: u8, ddof: i64) -> RlReduced
-    ensures { LaidReduced (reduce.reduce (given_sequence ends values) code ddof) result }
+    ensures { LaidReduced (reduce.reduce (sequence ends.now values.now) code ddof) result }
 {
     ffi::reduced(reduce::reduce(ends, values, code, ddof))
 }
@@ -460,7 +459,7 @@ pub extern "C" fn rl_slice_reduce(
     out_bits: &mut [u64],
 ) -> RlCounted
     ensures { LaidCounted
-        (WritesReductions (getitems.slice_reduce (given_sequence ends values) (given starts) (given stops) code ddof) out_kinds out_bits)
+        (WritesReductions (getitems.slice_reduce (sequence ends.now values.now) starts.now stops.now code ddof) out_kinds out_bits)
         result }
 {
     ffi::counted(getitems::slice_reduce(
@@ -475,14 +474,14 @@ pub extern "C" fn rl_batch_from_parts(
     ends: &[i64],
     values: &[i64],
 ) -> RlRefusal
-    ensures { LaidCheck (batch.from_parts (given_batch keys offsets ends values)) result }
+    ensures { LaidCheck (batches.from_parts (batch keys.now offsets.now ends.now values.now)) result }
 {
     ffi::checked(batch::from_parts(keys, offsets, ends, values))
 }
 
 #[unsafe(no_mangle)]
 pub extern "C" fn rl_batch_position(keys: &[u32], key: u32) -> RlFound
-    ensures { LaidFound (batch-keys.position (given keys) key) result }
+    ensures { LaidFound (batch-keys.position keys.now key) result }
 {
     ffi::found(batch_keys::position(keys, key))
 }
@@ -497,7 +496,7 @@ pub extern "C" fn rl_batch_get(
     out_ends: &mut [i64],
     out_values: &mut [i64],
 ) -> RlGot
-    ensures { LaidGot (WritesGot (batch.get (given_batch keys offsets ends values) key) out_ends out_values) result }
+    ensures { LaidGot (WritesGot (batches.get (batch keys.now offsets.now ends.now values.now) key) out_ends out_values) result }
 {
     ffi::got(batch::get(keys, offsets, ends, values, key, out_ends, out_values))
 }
@@ -516,7 +515,7 @@ pub extern "C" fn rl_batch_getitems(
     out_values: &mut [i64],
 ) -> RlBatched
     ensures { LaidBatched
-        (WritesFlat (batch-getitems.getitems (given_batch keys offsets ends values) (given get_keys) (given starts) (given stops))
+        (WritesFlat (batch-getitems.getitems (batch keys.now offsets.now ends.now values.now) get_keys.now starts.now stops.now)
         out_offsets out_ends out_values) result }
 {
     ffi::batched(batch_getitems::getitems(
@@ -549,7 +548,7 @@ pub extern "C" fn rl_batch_slice_reduce(
 ) -> RlCounted
     ensures { LaidCounted
         (WritesReductions (batch-slice-reduce.slice_reduce
-        (given_batch keys offsets ends values) (given get_keys) (given starts) (given stops) code ddof) out_kinds out_bits) result }
+        (batch keys.now offsets.now ends.now values.now) get_keys.now starts.now stops.now code ddof) out_kinds out_bits) result }
 {
     ffi::counted(batch_slice_reduce::slice_reduce(
         keys, offsets, ends, values, get_keys, starts, stops, code, ddof, out_kinds, out_bits,
@@ -570,7 +569,7 @@ pub extern "C" fn rl_batch_shift(
     out_values: &mut [i64],
 ) -> RlBatched
     ensures { LaidBatched
-        (WritesBatch (batch-map-rles.shift (given_batch keys offsets ends values) distance fill)
+        (WritesBatch (batch-map-rles.shift (batch keys.now offsets.now ends.now values.now) distance fill)
         out_keys out_offsets out_ends out_values) result }
 {
     ffi::batched(batch_map_rles::shift(
@@ -599,7 +598,7 @@ pub extern "C" fn rl_batch_reversed(
     out_values: &mut [i64],
 ) -> RlBatched
     ensures { LaidBatched
-        (WritesBatch (batch-map-rles.reversed (given_batch keys offsets ends values)) out_keys out_offsets out_ends out_values) result }
+        (WritesBatch (batch-map-rles.reversed (batch keys.now offsets.now ends.now values.now)) out_keys out_offsets out_ends out_values) result }
 {
     ffi::batched(batch_map_rles::reversed(
         keys,
@@ -627,7 +626,7 @@ pub extern "C" fn rl_batch_map_rles_slice(
     out_values: &mut [i64],
 ) -> RlBatched
     ensures { LaidBatched
-        (WritesBatch (batch-map-rles.map_rles_slice (given_batch keys offsets ends values) start end)
+        (WritesBatch (batch-map-rles.map_rles_slice (batch keys.now offsets.now ends.now values.now) start end)
         out_keys out_offsets out_ends out_values) result }
 {
     ffi::batched(batch_map_rles::map_rles_slice(
@@ -661,8 +660,8 @@ pub extern "C" fn rl_batch_collapse(
     scratch_values: &mut [i64],
 ) -> RlBatched
     ensures { LaidBatched
-        (WritesCollapse (batch-collapse.collapse (given_batch keys offsets ends values) (given new_keys) (read_fill fill) code)
-        (2 * length (given ends)) out_keys out_offsets out_ends out_values scratch_ends scratch_values) result }
+        (WritesCollapse (batch-collapse.collapse (batch keys.now offsets.now ends.now values.now) new_keys.now (read_fill fill) code)
+        (2 * length ends.now) out_keys out_offsets out_ends out_values scratch_ends scratch_values) result }
 {
     ffi::batched(batch_collapse::collapse(
         keys,
@@ -697,8 +696,8 @@ pub extern "C" fn rl_batch_concat(
     out_values: &mut [i64],
 ) -> RlBatched
     ensures { LaidBatched
-        (WritesBatch (batch-concat.concat (given_batch a_keys a_offsets a_ends a_values)
-        (given_batch b_keys b_offsets b_ends b_values)) out_keys out_offsets out_ends out_values) result }
+        (WritesBatch (batch-concat.concat (batch a_keys.now a_offsets.now a_ends.now a_values.now)
+        (batch b_keys.now b_offsets.now b_ends.now b_values.now)) out_keys out_offsets out_ends out_values) result }
 {
     ffi::batched(batch_concat::concat(
         a_keys,
@@ -736,8 +735,8 @@ pub extern "C" fn rl_batch_zip_with(
     out_values: &mut [i64],
 ) -> RlBatched
     ensures { LaidBatched
-        (WritesBatch (batch-zip-with.zip_with (given_batch a_keys a_offsets a_ends a_values)
-        (given_batch b_keys b_offsets b_ends b_values) how (read_fill fill_a) (read_fill fill_b) code)
+        (WritesBatch (batch-zip-with.zip_with (batch a_keys.now a_offsets.now a_ends.now a_values.now)
+        (batch b_keys.now b_offsets.now b_ends.now b_values.now) how (read_fill fill_a) (read_fill fill_b) code)
         out_keys out_offsets out_ends out_values) result }
 {
     ffi::batched(batch_zip_with::zip_with(

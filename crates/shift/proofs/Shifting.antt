@@ -181,49 +181,49 @@ module _ {es vs : List ℤ} {by n : ℕ} {e₀ v₀ : List ℤ} (q : Shiftable e
   inside : (k : ℕ) → k < n → first_end_above (pos k) es < length es
   inside k h = above-inside 0 k es rises (omega (arith, last_is)) (omega arith)
 
-  pub first-inside : {l : ℕ} → l ≡ first_end_above (pos by) es → l < length es
-  first-inside e = rw e (inside by q.short)
+  pub first_inside : {l : ℕ} → l ≡ first_end_above (pos by) es → l < length es
+  first_inside e = rw e (inside by q.short)
 
-  pub last-inside : {l : ℕ} → l ≡ first_end_above (pos (n - by - 1)) es → l < length es
-  last-inside e = rw e (inside (n - by - 1) (omega (arith, q.short)))
+  pub last_inside : {l : ℕ} → l ≡ first_end_above (pos (n - by - 1)) es → l < length es
+  last_inside e = rw e (inside (n - by - 1) (omega (arith, q.short)))
 
-  pub fill-place : (fill : ℤ) → let next = next_place (record { at = 0; last = fill }) fill in (0 + 1 < 2 ^ 64) × (next < length e₀) × (next < length v₀)
-  fill-place fill =
+  pub fill_place : (fill : ℤ) → let next = next_place (record { at = 0; last = fill }) fill in (0 + 1 < 2 ^ 64) × (next < length e₀) × (next < length v₀)
+  fill_place fill =
       let a = merge_at (merge_start fill e₀ v₀) fill (λ z. refl) in
-      (omega arith, omega (arith, q.room-ends), omega (arith, q.room-values))
+      (omega arith, omega (arith, q.room_ends), omega (arith, q.room_values))
 
   -- a run of the fill up to k
-  pub fill-run : (fill : ℤ) {z : ℤ} {e v : List ℤ} {w : Writer} (k : ℕ) → 0 < k
+  pub fill_run : (fill : ℤ) {z : ℤ} {e v : List ℤ} {w : Writer} (k : ℕ) → 0 < k
       → PushedMerged (record { at = 0; last = fill }) z fill e₀ e v₀ v w → z ≡ pos k → Merging (encode (replicate k fill)) fill e₀ v₀ e v w
   unfolding encode encode_from
-  fill-run fill k h d ez =
+  fill_run fill k h d ez =
       let m : k - 0 ≡ k = omega arith in
-      merge_more (merge_start fill e₀ v₀) fill (λ z. refl) k d ez (rw m at (encode_up [] k fill h)) (omega (arith, q.room-ends))
-      (omega (arith, q.room-values))
+      merge_more (merge_start fill e₀ v₀) fill (λ z. refl) k d ez (rw m at (encode_up [] k fill h)) (omega (arith, q.room_ends))
+      (omega (arith, q.room_values))
 
   -- one run more, up to n, after values that end before it
-  last-place : (ys : List ℤ) {first : ℤ} {e v : List ℤ} {w : Writer} (x : ℤ) → Merging (encode ys) first e₀ v₀ e v w
+  last_place : (ys : List ℤ) {first : ℤ} {e v : List ℤ} {w : Writer} (x : ℤ) → Merging (encode ys) first e₀ v₀ e v w
       → 0 < length ys → length (encode ys) ≤ length es → length e₀ < 2 ^ 63 → (w.at + 1 < 2 ^ 64) × (next_place w x < length e) × (next_place w x < length v)
-  last-place ys x m h few short =
+  last_place ys x m h few short =
       let c = encode-pos ys h in
       let a = merge_at m x (λ z. let f : ⊥ = omega arith in absurd f) in
-      (omega (arith, m.at_last, q.room-ends), omega (arith, m.long-ends, q.room-ends), omega (arith, m.long-values, q.room-values))
+      (omega (arith, m.at_last, q.room_ends), omega (arith, m.long_ends, q.room_ends), omega (arith, m.long_values, q.room_values))
 
-  last-run : (ys : List ℤ) {first x z : ℤ} {e v e' v' : List ℤ} {w next : Writer} → Merging (encode ys) first e₀ v₀ e v w
+  last_run : (ys : List ℤ) {first x z : ℤ} {e v e' v' : List ℤ} {w next : Writer} → Merging (encode ys) first e₀ v₀ e v w
       → 0 < length ys → length (encode ys) ≤ length es → length ys < n → PushedMerged w z x e e' v v' next → z ≡ pos n
       → Merging (encode (ys ++ replicate (n - length ys) x)) first e₀ v₀ e' v' next
-  last-run ys {x = x} m h few short d ez =
+  last_run ys {x = x} m h few short d ez =
       let c = encode-pos ys h in
-      merge_more m x (λ z. let f : ⊥ = omega arith in absurd f) n d ez (encode_up ys n x short) (omega (arith, q.room-ends)) (omega (arith, q.room-values))
+      merge_more m x (λ z. let f : ⊥ = omega arith in absurd f) n d ez (encode_up ys n x short) (omega (arith, q.room_ends)) (omega (arith, q.room_values))
 
   -- the buffers stay as long, and the place is one of theirs
   kept : {first x z : ℤ} {rs : Runs} {e v e' v' : List ℤ} {w next : Writer} → Merging rs first e₀ v₀ e v w
       → (w.at + 1 < 2 ^ 64) × (next_place w x < length e) × (next_place w x < length v) → PushedMerged w z x e e' v v' next → length e₀ < 2 ^ 63
       → (next.at + 1 < 2 ^ 64) × (length e' ≡ length e₀) × (length v' ≡ length v₀)
   kept m r d short = (
-    omega (arith, d.place, r.1, m.long-ends),
-    ap length d.ends ∙ rw length-set m.long-ends,
-    ap length d.values ∙ rw length-set m.long-values,
+    omega (arith, d.place, r.1, m.long_ends),
+    ap length d.ends ∙ rw length-set m.long_ends,
+    ap length d.values ∙ rw length-set m.long_values,
   )
 
   pub filled : (ys : List ℤ) {first : ℤ} {e v : List ℤ} {w : Writer} → Merging (encode ys) first e₀ v₀ e v w → 0 < length ys
@@ -243,7 +243,7 @@ module _ {es vs : List ℤ} {by n : ℕ} {e₀ v₀ : List ℤ} (q : Shiftable e
     left = rw cut.first (left-above 0 by es vs rises q.paired (omega arith))
 
     below : l < length es
-    below = first-inside cut.first
+    below = first_inside cut.first
 
     count_left : length pe ≡ length es - l
     count_left = ap length ep ∙ length-drop l es
@@ -272,8 +272,8 @@ module _ {es vs : List ℤ} {by n : ℕ} {e₀ v₀ : List ℤ} (q : Shiftable e
     down-behind = record {
       merging = merge_start value e₀ v₀;
       started = λ _ _. first-shown;
-      room-ends = omega (arith, count_left, q.room-ends);
-      room-values = omega (arith, count_left, q.room-values);
+      room_ends = omega (arith, count_left, q.room_ends);
+      room_values = omega (arith, count_left, q.room_values);
     }
 
     pub down_appendable : Appendable by 0 pe pv e₀ v₀ (record { at = 0; last = value })
@@ -306,7 +306,7 @@ module _ {es vs : List ℤ} {by n : ℕ} {e₀ v₀ : List ℤ} (q : Shiftable e
 
     module _ {e v : List ℤ} {w : Writer} (a : Appended by 0 pe pv e₀ e v₀ v (record { at = 0; last = value }) w) where
       pub down-long : (length e ≡ length e₀) × (length v ≡ length v₀)
-      down-long = let m = down-merging a in (m.long-ends, m.long-values)
+      down-long = let m = down-merging a in (m.long_ends, m.long_values)
 
       pub down-at : w.at ≤ length es
       down-at = omega (arith, (down-merging a).at_last, few-left)
@@ -318,7 +318,7 @@ module _ {es vs : List ℤ} {by n : ℕ} {e₀ v₀ : List ℤ} (q : Shiftable e
           rw m (filled (drop by (dense (runs_of es vs))) (down-merging a) (omega (arith, length_ys, q.short)))
 
       pub down-room : (fill : ℤ) → length e₀ < 2 ^ 63 → (w.at + 1 < 2 ^ 64) × (next_place w fill < length e) × (next_place w fill < length v)
-      down-room fill short = last-place ys fill (down-merging a) (omega (arith, length_ys, q.short)) few-left short
+      down-room fill short = last_place ys fill (down-merging a) (omega (arith, length_ys, q.short)) few-left short
 
       pub down-kept : {fill z : ℤ} {e' v' : List ℤ} {next : Writer} → PushedMerged w z fill e e' v v' next → length e₀ < 2 ^ 63
           → (next.at + 1 < 2 ^ 64) × (length e' ≡ length e₀) × (length v' ≡ length v₀)
@@ -329,7 +329,7 @@ module _ {es vs : List ℤ} {by n : ℕ} {e₀ v₀ : List ℤ} (q : Shiftable e
       unfolding xs ys
       down-end {fill} some d ez =
           let m : n - length (drop by (dense (runs_of es vs))) ≡ by = omega (arith, length_ys, q.short) in
-          let k = last-run ys (down-merging a) (omega (arith, length_ys, q.short)) few-left (omega (arith, length_ys, q.short)) d ez in
+          let k = last_run ys (down-merging a) (omega (arith, length_ys, q.short)) few-left (omega (arith, length_ys, q.short)) d ez in
           rw m at (filled (ys ++ replicate (n - length ys) fill) k (rw length-append (omega (arith, length_ys, q.short))))
 
   -- ---- up
@@ -342,7 +342,7 @@ module _ {es vs : List ℤ} {by n : ℕ} {e₀ v₀ : List ℤ} (q : Shiftable e
     pv_is = cut.values ∙ part-front l vs
 
     up_below : l < length es
-    up_below = last-inside cut.first
+    up_below = last_inside cut.first
 
     front : Front 0 (n - by - 1) l es vs
     front = rw cut.first (front_above 0 (n - by - 1) es vs rises q.paired (omega arith) (rw cut.first at up_below))
@@ -368,7 +368,7 @@ module _ {es vs : List ℤ} {by n : ℕ} {e₀ v₀ : List ℤ} (q : Shiftable e
 
     module _ {e v : List ℤ} {w : Writer} (d : PushedMerged (record { at = 0; last = fill }) (to_z w64 by) fill e₀ e v₀ v w) where
       m : Merging (encode (replicate by fill)) fill e₀ v₀ e v w
-      m = fill-run fill by some d (to_z_pos w64 (omega (arith, q.short, q.fitting)))
+      m = fill_run fill by some d (to_z_pos w64 (omega (arith, q.short, q.fitting)))
 
       one : length (encode (replicate by fill)) ≡ 1
       one = encode_constant by fill some
@@ -377,8 +377,8 @@ module _ {es vs : List ℤ} {by n : ℕ} {e₀ v₀ : List ℤ} (q : Shiftable e
       up-behind = record {
         merging = m;
         started = λ z. let f : ⊥ = omega (arith, one) in absurd f;
-        room-ends = omega (arith, one, count-front, up_below, q.room-ends, m.long-ends);
-        room-values = omega (arith, one, count-front, up_below, q.room-values, m.long-values);
+        room_ends = omega (arith, one, count-front, up_below, q.room_ends, m.long_ends);
+        room_values = omega (arith, one, count-front, up_below, q.room_values, m.long_values);
       }
 
       pub up-appendable : Appendable 0 by pe pv e v w
@@ -417,7 +417,7 @@ module _ {es vs : List ℤ} {by n : ℕ} {e₀ v₀ : List ℤ} (q : Shiftable e
             (omega (arith, few, one, as_many, length_runs pe pv paired-front, count-front, up_below))
 
         pub up_room : (x : ℤ) → length e₀ < 2 ^ 63 → (w'.at + 1 < 2 ^ 64) × (next_place w' x < length e') × (next_place w' x < length v')
-        up_room x short = last-place zs x up-merging (omega (arith, length_zs, some)) few-front short
+        up_room x short = last_place zs x up-merging (omega (arith, length_zs, some)) few-front short
 
         front_low : end-front ≤ n - by - 1
         unfolding end-front
@@ -435,7 +435,7 @@ module _ {es vs : List ℤ} {by n : ℕ} {e₀ v₀ : List ℤ} (q : Shiftable e
         pub up-end : {x z : ℤ} {e'' v'' : List ℤ} {next : Writer} → x ≡ get_or vs l (pos 0) → PushedMerged w' z x e' e'' v' v'' next → z ≡ pos n
             → Filled (encode (shifted_up by fill (dense (runs_of es vs)))) e₀ e'' v₀ v'' (next.at + 1)
         up-end {x} ex d ez =
-            let k = last-run zs up-merging (omega (arith, length_zs, some)) few-front (omega (arith, length_zs, front_low, q.short)) d ez in
+            let k = last_run zs up-merging (omega (arith, length_zs, some)) few-front (omega (arith, length_zs, front_low, q.short)) d ez in
             rw (up-whole ex) at (filled (zs ++ replicate (n - length zs) x) k (rw length-append (omega (arith, length_zs, some))))
 
         pub up_kept : {x z : ℤ} {e'' v'' : List ℤ} {next : Writer} → PushedMerged w' z x e' e'' v' v'' next → length e₀ < 2 ^ 63
@@ -448,7 +448,7 @@ module _ {es vs : List ℤ} {by n : ℕ} {e₀ v₀ : List ℤ} (q : Shiftable e
 pub fill-kept : {es vs : List ℤ} {n : ℕ} {e₀ v₀ : List ℤ} (q : Shiftable es vs 0 n e₀ v₀) {fill z : ℤ} {e v : List ℤ} {w : Writer}
     → PushedMerged (record { at = 0; last = fill }) z fill e₀ e v₀ v w → length e₀ < 2 ^ 63
     → (w.at + 1 < 2 ^ 64) × (length e ≡ length e₀) × (length v ≡ length v₀)
-fill-kept {e₀ = e₀} {v₀ = v₀} q {fill} d short = kept q (merge_start fill e₀ v₀) (fill-place q fill) d short
+fill-kept {e₀ = e₀} {v₀ = v₀} q {fill} d short = kept q (merge_start fill e₀ v₀) (fill_place q fill) d short
 
 module _ (fill : ℤ) (ys : List ℤ) where
   values-none : (d : ℤ) → length ys ≡ 0 → shift_values d fill ys ≡ []
@@ -588,6 +588,6 @@ shiftable k re rv h = record {
   whole = k.whole;
   short = h;
   fitting = k.fitting;
-  room-ends = re;
-  room-values = rv;
+  room_ends = re;
+  room_values = rv;
 }

@@ -17,5 +17,5 @@ pub record Shiftable (es vs : List ℤ) (by n : ℕ) (e v : List ℤ) : Type 0 w
   pub whole : n ≡ length_of (runs_of es vs)
   pub short : by < n
   pub fitting : n < 2 ^ 63
-  pub room-ends : length es + 1 ≤ length e
-  pub room-values : length es + 1 ≤ length v
+  pub room_ends : length es + 1 ≤ length e
+  pub room_values : length es + 1 ≤ length v

@@ -5,7 +5,6 @@ ghost use Rattle.column.specs.Questions.{ends_valid};
 ghost use Rattle.column.specs.Runs.{runs_of, dense, encode, Fills};
 ghost use Rattle.shift.specs.Calls.{shift_values};
 ghost use Rattle.shift.specs.Workers.{Shiftable, shifted_up, shifted_down};
-ghost use Rattle.column.specs.Lent.{given};
 
 use column::inner::Writer;
 use column::sequence;
@@ -22,7 +21,7 @@ fn shift_up(
     out_values: &mut [i64],
 ) -> usize
     requires { (0 < by) × Shiftable ends.now values.now by length out_ends.old out_values.old }
-    ensures { Fills (encode (shifted_up by fill (dense (runs_of (given ends) (given values))))) out_ends out_values result }
+    ensures { Fills (encode (shifted_up by fill (dense (runs_of ends.now values.now)))) out_ends out_values result }
 {
     let filled = column::inner::push_merged(
         Writer { at: 0, last: fill },
@@ -51,7 +50,7 @@ fn shift_down(
     out_values: &mut [i64],
 ) -> usize
     requires { Shiftable ends.now values.now by length out_ends.old out_values.old }
-    ensures { Fills (encode (shifted_down by fill (dense (runs_of (given ends) (given values))))) out_ends out_values result }
+    ensures { Fills (encode (shifted_down by fill (dense (runs_of ends.now values.now)))) out_ends out_values result }
 {
     let first = search::first_end_above(ends, by as i64);
     let value = values[first];
@@ -84,7 +83,7 @@ pub fn shift(
 ) -> usize
     requires { (ends_valid ends.now ≡ none) × (length ends.now ≡ length values.now)
         × (length ends.now + 1 ≤ length out_ends.old) × (length ends.now + 1 ≤ length out_values.old) }
-    ensures { Fills (encode (shift_values distance fill (dense (runs_of (given ends) (given values))))) out_ends out_values result }
+    ensures { Fills (encode (shift_values distance fill (dense (runs_of ends.now values.now)))) out_ends out_values result }
 {
     let length = sequence::to_nat(sequence::length(ends));
     if length == 0 {

@@ -3,7 +3,7 @@
 pub mod inner;
 
 ghost use Rattle.column.specs.Paper.{WritesRuns};
-ghost use Rattle.column.specs.Runs.{given_sequence};
+ghost use Rattle.column.specs.Runs.{sequence};
 ghost use Rattle.shift.specs.Calls as calls;
 
 use column::answer::{Asked, Counted};
@@ -17,7 +17,7 @@ pub fn shift(
     out_ends: &mut [i64],
     out_values: &mut [i64],
 ) -> Counted
-    ensures { WritesRuns (calls.shift (given_sequence ends values) distance fill) out_ends out_values result }
+    ensures { WritesRuns (calls.shift (sequence ends.now values.now) distance fill) out_ends out_values result }
 {
     let asked = questions::ask_sequence_into(
         ends,

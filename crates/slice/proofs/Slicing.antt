@@ -52,8 +52,8 @@ module _ {t : TouchedRuns} {es vs e₀ v₀ : List ℤ} (h : Touches t es vs e�
       ∙ get_or-drop t.first (runs_of es vs) n d
       ∙ run_at_lem es vs (t.first + n) d h.paired (omega (arith, h.inside)))
 
-  pub slicing-start : Slicing t es vs e₀ e₀ v₀ v₀ 0
-  slicing-start = record { within = omega arith; ends = write_start end_of e₀; values = write_start value_of v₀ }
+  pub slicing_start : Slicing t es vs e₀ e₀ v₀ v₀ 0
+  slicing_start = record { within = omega arith; ends = write_start end_of e₀; values = write_start value_of v₀ }
 
   -- the next: its end less the start
   module _ (n : ℕ) (k : n < t.count) where
@@ -72,23 +72,23 @@ module _ {t : TouchedRuns} {es vs e₀ v₀ : List ℤ} (h : Touches t es vs e�
 
     module _ {x y : ℤ} (ex : x ≡ get_or es (t.first + n) (pos 0)) (ey : y ≡ smaller_of x t.end) where
       smaller_natural : y ≡ pos (min (to_nat (get_or es (t.first + n) (pos 0))) (to_nat t.end))
-      smaller_natural = ey ∙ ap₂ smaller_of (ex ∙ next-end-natural) h.end-natural ∙ smaller_naturals (to_nat (get_or es (t.first + n) (pos 0))) (to_nat t.end)
+      smaller_natural = ey ∙ ap₂ smaller_of (ex ∙ next-end-natural) h.end_natural ∙ smaller_naturals (to_nat (get_or es (t.first + n) (pos 0))) (to_nat t.end)
 
       start-below : to_nat t.start ≤ min (to_nat (get_or es (t.first + n) (pos 0))) (to_nat t.end)
       start-below = omega (arith, h.above n k, h.ordered)
 
       next-end : y -ℤ t.start ≡ pos next.end
-      next-end = difference_of smaller_natural h.start-natural start-below
+      next-end = difference_of smaller_natural h.start_natural start-below
 
       pub next_fits : mag y < 2 ^ 63 → SFits w64 (y -ℤ t.start)
-      next_fits f = difference-fits smaller_natural h.start-natural start-below (rw smaller_natural at f)
+      next_fits f = difference-fits smaller_natural h.start_natural start-below (rw smaller_natural at f)
 
       pub slicing-next : {e v : List ℤ} → Slicing t es vs e₀ e v₀ v n → {z w : ℤ} → z ≡ y -ℤ t.start → w ≡ get_or vs (t.first + n) (pos 0)
           → Slicing t es vs e₀ (set e n z) v₀ (set v n w) (n + 1)
       slicing-next s ez ew = record {
         within = omega arith;
-        ends = rw take_next (write_next end_of s.ends (omega (arith, h.room-ends)) next (ez ∙ next-end));
-        values = rw take_next (write_next value_of s.values (omega (arith, h.room-values)) next ew);
+        ends = rw take_next (write_next end_of s.ends (omega (arith, h.room_ends)) next (ez ∙ next-end));
+        values = rw take_next (write_next value_of s.values (omega (arith, h.room_values)) next ew);
       }
 
   module _ {e v : List ℤ} {n : ℕ} (s : Slicing t es vs e₀ e v₀ v n) where

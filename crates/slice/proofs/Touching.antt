@@ -9,7 +9,7 @@ use Rattle.num.proofs.Tests.{by-test}
 use Rattle.column.specs.Questions.{ends_valid}
 use Rattle.column.specs.Runs.{Runs, to_nat, runs_of, length_of, length_of_ends}
 use Rattle.column.specs.Workers.{RisingEnds}
-use Rattle.column.proofs.Ends.{rising, length_of-ends, natural-end}
+use Rattle.column.proofs.Ends.{rising, length_of-ends, natural_end}
 use Rattle.column.proofs.Naturals.{smaller_naturals}
 use Rattle.column.proofs.Sequences.{length_none, length_last}
 use Rattle.slice.specs.declared.inner.search.Interval.{Interval}
@@ -83,17 +83,17 @@ module _ (es : List ℤ) (v : ends_valid es ≡ none) (x y : ℕ) (h : x < y) (k
   last-end : get_or es (length es - 1) (pos 0) ≡ pos (to_nat (length_of_ends es))
   last-end =
       let l = length_last es (λ e. let z : ⊥ = omega (arith, ends_some) in z) in
-      natural-end es (length es - 1) v (omega (arith, ends_some)) ∙ ap (λ (z : ℤ). pos (to_nat z)) (sym l)
+      natural_end es (length es - 1) v (omega (arith, ends_some)) ∙ ap (λ (z : ℤ). pos (to_nat z)) (sym l)
 
-  pub first-inside : first_end_above (pos x) es < length es
-  first-inside =
+  pub first_inside : first_end_above (pos x) es < length es
+  first_inside =
       let t : le_z (get_or es (length es - 1) (pos 0)) (pos x) ≡ false = rw last-end (lt-leb (to_nat (length_of_ends es)) x (omega arith)) in
       omega (arith, ends_some, above-least (pos x) es (length es - 1) (omega (arith, ends_some)) t)
 
   pub count-inside : first_end_above (pos x) es + (first_end_at_least (pos y) (drop (first_end_above (pos x) es) es) + 1) ≤ length es
   count-inside =
       let f = first_end_above (pos x) es in
-      let i = first-inside in
+      let i = first_inside in
       let m : f + (length es - 1 - f) ≡ length es - 1 = omega arith in
       let t : lt_z (get_or (drop f es) (length es - 1 - f) (pos 0)) (pos y) ≡ false =
       rw (get_or-drop f es (length es - 1 - f) (pos 0), m, last-end) (le-ltb (to_nat (length_of_ends es)) y k) in
@@ -104,7 +104,7 @@ module _ (es : List ℤ) (v : ends_valid es ≡ none) (x y : ℕ) (h : x < y) (k
   touched_above i f l =
       by-test (le_z (get_or es i (pos 0)) (pos x))
       (λ t. let z : ⊥ = omega (arith, above-past (pos x) es i v l t) in absurd z)
-      (λ t. leb-false (to_nat (get_or es i (pos 0))) x (rw (natural-end es i v l) at t))
+      (λ t. leb-false (to_nat (get_or es i (pos 0))) x (rw (natural_end es i v l) at t))
 
 pub touched_inside : (start end : ℤ) (es : List ℤ) → ends_valid es ≡ none → (touched_by start end es).first + (touched_by start end es).count ≤ length es
 unfolding touched_by
@@ -126,24 +126,24 @@ touches start end es vs e v valid l re rv =
     rw t (record {
       paired = l;
       inside = c;
-      start-natural = refl;
-      end-natural = refl;
+      start_natural = refl;
+      end_natural = refl;
       ordered = omega arith;
-      naturals = λ i j. natural-end es i valid j;
+      naturals = λ i j. natural_end es i valid j;
       above = λ i j. omega (arith, touched_above es valid x y h k (first_end_above (pos x) es + i) (omega arith) (omega arith));
-      room-ends = rw t at re;
-      room-values = rw t at rv;
+      room_ends = rw t at re;
+      room_values = rw t at rv;
     }))
     (λ t. rw t (record {
       paired = l;
       inside = omega arith;
-      start-natural = refl;
-      end-natural = refl;
+      start_natural = refl;
+      end_natural = refl;
       ordered = omega arith;
-      naturals = λ i j. natural-end es i valid j;
+      naturals = λ i j. natural_end es i valid j;
       above = λ i j. let z : ⊥ = omega arith in absurd z;
-      room-ends = omega arith;
-      room-values = omega arith;
+      room_ends = omega arith;
+      room_values = omega arith;
     }))
 
 -- as many as the slice has runs

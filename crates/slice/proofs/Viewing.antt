@@ -58,7 +58,7 @@ module _ (start end : ℤ) (es vs : List ℤ) (v : ends_valid es ≡ none) (l : 
   view_fits f =
       let i = touched_inside start end es v in
       let t = touches start end es es es es v refl (omega arith) (omega arith) in
-      difference-fits t.end-natural t.start-natural t.ordered (to_nat-below (touched_by start end es).end f)
+      difference-fits t.end_natural t.start_natural t.ordered (to_nat-below (touched_by start end es).end f)
 
   abbrev touched_part : Part
   touched_part = record { first = (touched_by start end es).first; count = (touched_by start end es).count }

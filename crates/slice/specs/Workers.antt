@@ -44,10 +44,10 @@ cut_runs t rs = map (clipped (to_nat t.start) (to_nat t.end)) (take t.count (dro
 pub record Touches (t : TouchedRuns) (es vs e v : List ℤ) : Type 0 where
   pub paired : length es ≡ length vs
   pub inside : t.first + t.count ≤ length es
-  pub start-natural : t.start ≡ pos (to_nat t.start)
-  pub end-natural : t.end ≡ pos (to_nat t.end)
+  pub start_natural : t.start ≡ pos (to_nat t.start)
+  pub end_natural : t.end ≡ pos (to_nat t.end)
   pub ordered : to_nat t.start ≤ to_nat t.end
   pub naturals : (i : ℕ) → i < length es → slice_index_or es i (pos 0) ≡ pos (to_nat (slice_index_or es i (pos 0)))
   pub above : (i : ℕ) → i < t.count → to_nat t.start ≤ to_nat (slice_index_or es (t.first + i) (pos 0))
-  pub room-ends : t.count ≤ length e
-  pub room-values : t.count ≤ length v
+  pub room_ends : t.count ≤ length e
+  pub room_values : t.count ≤ length v

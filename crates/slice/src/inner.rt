@@ -4,7 +4,6 @@ pub mod search;
 ghost use Rattle.std.specs.Prelude.{◌≡◌, ◌+◌, ◌/◌, ◌^◌, ◌<◌, ◌≤◌, false, pos, if◌then◌else◌, int_lt, nat_eq};
 ghost use Rattle.column.specs.Runs.{runs_of, Fills};
 ghost use Rattle.slice.specs.Workers.{Halving, cut_runs, Touches};
-ghost use Rattle.column.specs.Lent.{given};
 
 use search::TouchedRuns;
 
@@ -33,7 +32,7 @@ fn low_after(low: usize, step: usize, above: usize) -> usize
 // decides how many steps there are.
 pub fn half(ends: &[i64], low: usize, size: usize, position: usize) -> usize
     requires { Halving position ends.now low size × (0 < size) × (position < 2 ^ 63) }
-    ensures { Halving position (given ends) result (size / 2) }
+    ensures { Halving position ends.now result (size / 2) }
 {
     let step = size - size / 2;
     let end = ends[low + step - 1];
@@ -49,7 +48,7 @@ pub fn slice(
     out_values: &mut [i64],
 ) -> usize
     requires { Touches touched ends.now values.now out_ends.old out_values.old }
-    ensures { Fills (cut_runs touched (runs_of (given ends) (given values))) out_ends out_values result }
+    ensures { Fills (cut_runs touched (runs_of ends.now values.now)) out_ends out_values result }
 {
     let first = touched.first;
     let count = touched.count;

@@ -4,10 +4,9 @@ pub mod inner;
 
 ghost use Rattle.std.specs.Prelude.{◌≡◌};
 ghost use Rattle.column.specs.Paper.{shown_found, WritesRuns};
-ghost use Rattle.column.specs.Runs.{given_sequence};
+ghost use Rattle.column.specs.Runs.{sequence};
 ghost use Rattle.slice.specs.Calls.{shown_viewed, PartOf, HandsBack};
 ghost use Rattle.slice.specs.Calls as calls;
-ghost use Rattle.column.specs.Lent.{given};
 
 use column::answer::{Asked, Counted, Found};
 use column::error::Refusal;
@@ -37,7 +36,7 @@ pub struct Part {
 
 // The run that covers a position.
 pub fn run_index(ends: &[i64], position: i64) -> Found
-    ensures { shown_found result ≡ calls.run_index (given ends) position }
+    ensures { shown_found result ≡ calls.run_index ends.now position }
 {
     let asked = questions::ask_ends(ends);
     match asked {
@@ -65,7 +64,7 @@ pub fn slice(
     out_ends: &mut [i64],
     out_values: &mut [i64],
 ) -> Counted
-    ensures { WritesRuns (calls.slice (given_sequence ends values) start end) out_ends out_values result }
+    ensures { WritesRuns (calls.slice (sequence ends.now values.now) start end) out_ends out_values result }
 {
     let touched = search::touched(ends, start, end);
     let asked = questions::ask_sequence_into(
@@ -86,7 +85,7 @@ pub fn slice(
 
 // A view of a slice, whose values `slice_view_values` hands back.
 pub fn slice_view(ends: &[i64], values: &[i64], start: i64, end: i64) -> Viewed
-    ensures { shown_viewed result ≡ calls.slice_view (given_sequence ends values) start end }
+    ensures { shown_viewed result ≡ calls.slice_view (sequence ends.now values.now) start end }
 {
     let asked = questions::ask_sequence(ends, values);
     match asked {
@@ -104,7 +103,7 @@ pub fn slice_view(ends: &[i64], values: &[i64], start: i64, end: i64) -> Viewed
 
 // Where the values of a view stand.
 pub fn slice_view_part(ends: &[i64], values: &[i64], start: i64, end: i64) -> Part
-    ensures { PartOf result (calls.slice_part (given_sequence ends values) start end) (given values) }
+    ensures { PartOf result (calls.slice_part (sequence ends.now values.now) start end) values.now }
 {
     let asked = questions::ask_sequence(ends, values);
     match asked {
@@ -126,7 +125,7 @@ pub fn slice_view_values<'e, 'v>(
     start: i64,
     end: i64,
 ) -> &'v [i64]
-    ensures { HandsBack result (calls.slice_part (given_sequence ends values) start end) values.entry }
+    ensures { HandsBack result (calls.slice_part (sequence ends.now values.now) start end) values.entry }
 {
     let part = slice_view_part(ends, values, start, end);
     let first = part.first;

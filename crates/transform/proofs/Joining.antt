@@ -156,8 +156,8 @@ module _ (os : List ℕ) (es vs e₀ v₀ : List ℤ) where
               started = λ n some.
                   let z : get_or os k 0 ≡ 0 = omega (arith, encode-none i.xs n, i.entries) in
                   rw (ev, part_at (get_or os k 0) (get_or os (k + 1) 0) vs 0 (pos 0) (omega (arith, next-length)), z) refl;
-              room-ends = omega (arith, next-length, o, i.few, j.room-ends, i.merging.long-ends);
-              room-values = omega (arith, next-length, o, i.few, j.room-values, i.merging.long-values);
+              room_ends = omega (arith, next-length, o, i.few, j.room_ends, i.merging.long_ends);
+              room_values = omega (arith, next-length, o, i.few, j.room_values, i.merging.long_values);
             }
 
         pub join-appendable : Appendable 0 offset pe pv e v w
@@ -265,6 +265,6 @@ module _ (os : List ℕ) (es vs : List ℤ) where
         offsets = y.1.0;
         valid = y.1.1.0;
         fitting = fits_told n y.1.1.1.0;
-        room-ends = r.0;
-        room-values = r.1;
+        room_ends = r.0;
+        room_values = r.1;
       }

@@ -98,8 +98,8 @@ module _ {ea va eb vb e₀ v₀ : List ℤ} (j : JoinableTwo ea va eb vb e₀ v�
     behind-first = record {
       merging = started;
       started = λ n some. get_or-append va vb (pos 0) 0 (omega (arith, j.paired_a));
-      room-ends = omega (arith, j.room-ends);
-      room-values = omega (arith, j.room-values);
+      room_ends = omega (arith, j.room_ends);
+      room_values = omega (arith, j.room_values);
     }
 
     pub two-first : Appendable 0 0 ea va e₀ v₀ (record { at = 0; last = first })
@@ -138,8 +138,8 @@ module _ {ea va eb vb e₀ v₀ : List ℤ} (j : JoinableTwo ea va eb vb e₀ v�
                 j.paired_a,
               ) in
               sym (first-second va vb l);
-          room-ends = omega (arith, few, many_a, j.room-ends, m.long-ends);
-          room-values = omega (arith, few, many_a, j.room-values, m.long-values);
+          room_ends = omega (arith, few, many_a, j.room_ends, m.long_ends);
+          room_values = omega (arith, few, many_a, j.room_values, m.long_values);
         }
 
     pub two-second : Appendable 0 n eb vb e v w
@@ -163,7 +163,7 @@ module _ {ea va eb vb e₀ v₀ : List ℤ} (j : JoinableTwo ea va eb vb e₀ v�
       -- the last run stands within the buffer
       pub two-within : (length ea + length eb ≡ 0 → ⊥) → q.at < length e₀
       two-within h =
-          omega (arith, after-second.at_last, joined-few (runs_of ea va) (runs_of eb vb) valid_a valid_b, many_a, many_b, j.room-ends, h)
+          omega (arith, after-second.at_last, joined-few (runs_of ea va) (runs_of eb vb) valid_a valid_b, many_a, many_b, j.room_ends, h)
 
       pub two-end : (length ea + length eb ≡ 0 → ⊥) → Filled (encode (shown (runs_of ea va ∷ runs_of eb vb ∷ []))) e₀ e' v₀ v' (q.at + 1)
       two-end h = merge_end after-second (joined-some (runs_of ea va) (runs_of eb vb) valid_a valid_b (omega (arith, many_a, many_b, h)))

@@ -12,8 +12,8 @@ pub record Joinable (f : Flat) (e v : List ℤ) : Type 0 where
   pub offsets : offsets_flat f ≡ none
   pub valid : ends_flat f ≡ none
   pub fitting : total (map length_of (columns f)) < 2 ^ 63
-  pub room-ends : length f.ends ≤ length e
-  pub room-values : length f.ends ≤ length v
+  pub room_ends : length f.ends ≤ length e
+  pub room_values : length f.ends ≤ length v
 
 -- ---- reversed
 
@@ -34,5 +34,5 @@ pub record JoinableTwo (ea va eb vb e v : List ℤ) : Type 0 where
   pub paired_a : length ea ≡ length va
   pub paired_b : length eb ≡ length vb
   pub fitting : length_of (runs_of ea va) + length_of (runs_of eb vb) < 2 ^ 63
-  pub room-ends : length ea + length eb ≤ length e
-  pub room-values : length ea + length eb ≤ length v
+  pub room_ends : length ea + length eb ≤ length e
+  pub room_values : length ea + length eb ≤ length v

@@ -1,12 +1,11 @@
 // Workers that assume what the calls have asked.
 ghost use Rattle.std.specs.Prelude.{◌+◌, ◌≤◌, ◌<◌, [], ◌∷◌, ◌++◌, reverse, ◌≡◌, pos, length, get_or};
 ghost use Rattle.std.proofs.Math.Option.{none};
-ghost use Rattle.column.specs.Flat.{flat, columns, given_flat};
+ghost use Rattle.column.specs.Flat.{flat, columns};
 ghost use Rattle.column.specs.Questions.{ends_valid};
 ghost use Rattle.column.specs.Runs.{runs_of, encode, over, Fills};
 ghost use Rattle.transform.specs.Calls.{shown, reverse_runs};
 ghost use Rattle.transform.specs.Workers.{Joinable, turned_ends, JoinableTwo};
-ghost use Rattle.column.specs.Lent.{given, after};
 
 use column::inner::Writer;
 use column::sequence;
@@ -20,7 +19,7 @@ pub fn concat(
     out_values: &mut [i64],
 ) -> usize
     requires { Joinable (flat offsets.now ends.now values.now) out_ends.old out_values.old }
-    ensures { Fills (encode (shown (columns (given_flat offsets ends values)))) out_ends out_values result }
+    ensures { Fills (encode (shown (columns (flat offsets.now ends.now values.now)))) out_ends out_values result }
 {
     if ends.len() == 0 {
         return 0;
@@ -44,7 +43,7 @@ pub fn concat(
 // The ends of the runs from last to first: how far it is from each run's start to the length.
 fn reverse_ends(ends: &[i64], out_ends: &mut [i64])
     requires { (ends_valid ends.now ≡ none) × (0 < length ends.now) × (length ends.now ≤ length out_ends.old) }
-    ensures { after out_ends ≡ over (turned_ends (given ends)) (given out_ends) }
+    ensures { out_ends.new ≡ over (turned_ends ends.now) out_ends.old }
 {
     let n = ends.len();
     let length = ends[n - 1];
@@ -59,7 +58,7 @@ fn reverse_ends(ends: &[i64], out_ends: &mut [i64])
 
 fn reverse_values(values: &[i64], out_values: &mut [i64])
     requires { length values.now ≤ length out_values.old }
-    ensures { after out_values ≡ over (reverse (given values)) (given out_values) }
+    ensures { out_values.new ≡ over (reverse values.now) out_values.old }
 {
     let n = values.len();
     let mut t: usize = 0;
@@ -74,7 +73,7 @@ fn reverse_values(values: &[i64], out_values: &mut [i64])
 pub fn reversed(ends: &[i64], values: &[i64], out_ends: &mut [i64], out_values: &mut [i64]) -> usize
     requires { (ends_valid ends.now ≡ none) × (length ends.now ≡ length values.now)
         × (length ends.now ≤ length out_ends.old) × (length ends.now ≤ length out_values.old) }
-    ensures { Fills (reverse_runs (runs_of (given ends) (given values))) out_ends out_values result }
+    ensures { Fills (reverse_runs (runs_of ends.now values.now)) out_ends out_values result }
 {
     if ends.len() == 0 {
         return 0;
@@ -87,7 +86,7 @@ pub fn reversed(ends: &[i64], values: &[i64], out_ends: &mut [i64], out_values: 
 // The first value of two sequences, one of which has one.
 fn first_value(a_values: &[i64], b_values: &[i64]) -> i64
     requires { 0 < length a_values.now + length b_values.now }
-    ensures { result ≡ get_or (given a_values ++ given b_values) 0 (pos 0) }
+    ensures { result ≡ get_or (a_values.now ++ b_values.now) 0 (pos 0) }
 {
     if a_values.len() == 0 {
         return b_values[0];
@@ -105,7 +104,7 @@ pub fn concat_two(
     out_values: &mut [i64],
 ) -> usize
     requires { JoinableTwo a_ends.now a_values.now b_ends.now b_values.now out_ends.old out_values.old }
-    ensures { Fills (encode (shown (runs_of (given a_ends) (given a_values) ∷ runs_of (given b_ends) (given b_values) ∷ [])))
+    ensures { Fills (encode (shown (runs_of a_ends.now a_values.now ∷ runs_of b_ends.now b_values.now ∷ [])))
         out_ends out_values result }
 {
     if a_ends.len() + b_ends.len() == 0 {

@@ -5,19 +5,18 @@ pub mod inner;
 ghost use Rattle.std.specs.Prelude.{[], ◌∷◌, map, ◌≡◌};
 ghost use Rattle.num.specs.Numbers.{saturated};
 ghost use Rattle.column.specs.Asking.{shown_asked};
-ghost use Rattle.column.specs.Flat.{given_flat};
+ghost use Rattle.column.specs.Flat.{flat};
 ghost use Rattle.column.specs.Lists.{total, parts};
 ghost use Rattle.column.specs.Paper.{WritesRuns};
-ghost use Rattle.column.specs.Runs.{to_nat, length_of_ends, given_sequence};
+ghost use Rattle.column.specs.Runs.{to_nat, length_of_ends, sequence};
 ghost use Rattle.transform.specs.Calls as calls;
-ghost use Rattle.column.specs.Lent.{given};
 
 use column::answer::{Asked, Counted};
 use column::sequence;
 
 // The lengths of all sequences together, saturating at usize::MAX.
 fn total_length(offsets: &[usize], ends: &[i64]) -> usize
-    ensures { result ≡ saturated (total (map (λ es. to_nat (length_of_ends es)) (parts (given offsets) (given ends)))) }
+    ensures { result ≡ saturated (total (map (λ es. to_nat (length_of_ends es)) (parts offsets.now ends.now))) }
 {
     let mut total: usize = 0;
     let mut k = 0;
@@ -38,7 +37,7 @@ fn concat_asks(
     out_ends: usize,
     out_values: usize,
 ) -> Asked
-    ensures { shown_asked result ≡ calls.concat_asked (given_flat offsets ends values) (out_ends ∷ out_values ∷ []) }
+    ensures { shown_asked result ≡ calls.concat_asked (flat offsets.now ends.now values.now) (out_ends ∷ out_values ∷ []) }
 {
     questions::ask_flat(offsets, ends, values)
         .and(questions::ask_fits(total_length(offsets, ends)))
@@ -53,7 +52,7 @@ pub fn concat(
     out_ends: &mut [i64],
     out_values: &mut [i64],
 ) -> Counted
-    ensures { WritesRuns (calls.concat (given_flat offsets ends values)) out_ends out_values result }
+    ensures { WritesRuns (calls.concat (flat offsets.now ends.now values.now)) out_ends out_values result }
 {
     let asked = concat_asks(offsets, ends, values, out_ends.len(), out_values.len());
     match asked {
@@ -72,7 +71,7 @@ pub fn reversed(
     out_ends: &mut [i64],
     out_values: &mut [i64],
 ) -> Counted
-    ensures { WritesRuns (calls.reversed (given_sequence ends values)) out_ends out_values result }
+    ensures { WritesRuns (calls.reversed (sequence ends.now values.now)) out_ends out_values result }
 {
     let asked = questions::ask_sequence_into(
         ends,

@@ -54,7 +54,7 @@ module _ (os : List ℕ) (es vs : List ℤ) where
         let space = room (both (length es)) (length e ∷ length v ∷ []) in
         let y = flat-yes os es vs (fills ∷ space ∷ []) (rest-yes (listed 0 9 code) (flat_asked f ++ most ∷ fills ∷ space ∷ []) h) in
         let r = both_told (length es) (length e) (length v) y.4.1.0 in
-        record { offsets = y.1; valid = y.2; columns = y.3; paired = y.0; room-ends = r.0; room-values = r.1 }
+        record { offsets = y.1; valid = y.2; columns = y.3; paired = y.0; room_ends = r.0; room_values = r.1 }
 
     -- ---- a fill that is missing shows nowhere: where 10 is answered "yes", the columns come to the same with any value in its place
 

@@ -85,7 +85,7 @@ module _ (op : ℤ → ℤ → ℤ) (fill : ℤ) (os : List ℕ) (es vs e₀ v�
         zipped-room k =
             let p = zip_at op cs z.walk.listing z.merging is-shown in
             let f = walk-few z.walk h in
-            (omega (arith, zipped-last z), omega (arith, q.room-ends, z.merging.long-ends), omega (arith, q.room-values, z.merging.long-values))
+            (omega (arith, zipped-last z), omega (arith, q.room_ends, z.merging.long_ends), omega (arith, q.room_values, z.merging.long_values))
 
         pub zipped-more : {t : ℤ} {is' : List ℕ} {e' v' : List ℤ} {next : Writer} {end' : ℕ} → t ≡ pos end → PushedMerged w t x e e' v v' next
             → Stepped os es end is is' end' → Zipped is' e' v' next end'
@@ -94,6 +94,6 @@ module _ (op : ℤ → ℤ → ℤ) (fill : ℤ) (os : List ℕ) (es vs e₀ v�
             record {
               done = _;
               walk = walk-next z.walk h s;
-              merging = zip_more op cs z.walk.listing z.merging is-shown (walk_steps z.walk h s) (rw et at d) (omega (arith, q.room-ends))
-                  (omega (arith, q.room-values));
+              merging = zip_more op cs z.walk.listing z.merging is-shown (walk_steps z.walk h s) (rw et at d) (omega (arith, q.room_ends))
+                  (omega (arith, q.room_values));
             }

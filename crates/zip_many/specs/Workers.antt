@@ -11,8 +11,8 @@ use Rattle.zip_many.specs.declared.Lengths.{Lengths}
 pub record Combinable (os : List ℕ) (es vs : List ℤ) (is : List ℕ) (e v : List ℤ) : Type 0 where
   pub walkable : Walkable os es is
   pub paired : length es ≡ length vs
-  pub room-ends : length es ≤ length e
-  pub room-values : length es ≤ length v
+  pub room_ends : length es ≤ length e
+  pub room_values : length es ≤ length v
 
 -- every question of zip_many answered "yes"
 pub record Zippable (os : List ℕ) (es vs e v : List ℤ) : Type 0 where
@@ -20,8 +20,8 @@ pub record Zippable (os : List ℕ) (es vs e v : List ℤ) : Type 0 where
   pub valid : sequences_valid os es ≡ none
   pub columns : length os - 1 ≤ most_columns
   pub paired : length es ≡ length vs
-  pub room-ends : length es ≤ length e
-  pub room-values : length es ≤ length v
+  pub room_ends : length es ≤ length e
+  pub room_values : length es ≤ length v
 
 -- ---- the least and the greatest of lengths
 

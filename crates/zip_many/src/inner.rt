@@ -3,11 +3,10 @@ ghost use Rattle.std.specs.Prelude.{◌<◌, ◌≡◌, length};
 ghost use Rattle.num.specs.Numbers.{operation};
 ghost use Rattle.column.specs.declared.answer.Fill.TheVariants.{Value};
 ghost use Rattle.column.specs.Combine.{many, folded, combined};
-ghost use Rattle.column.specs.Flat.{columns, given_flat};
+ghost use Rattle.column.specs.Flat.{columns, flat};
 ghost use Rattle.column.specs.Runs.{Fills};
 ghost use Rattle.many.specs.Workers.{Paired};
 ghost use Rattle.zip_many.specs.Workers.{Combinable, Zippable};
-ghost use Rattle.column.specs.Lent.{given};
 
 use column::inner::Writer;
 use many::inner::{read_current, step};
@@ -16,7 +15,7 @@ use plan::inner::SPENT;
 // What the columns show, folded from the first one.
 fn fold_by(code: u8, shown: &[i64]) -> i64
     requires { 0 < length shown.now }
-    ensures { result ≡ folded (operation code) (given shown) }
+    ensures { result ≡ folded (operation code) shown.now }
 {
     let mut value = shown[0];
     let mut c: usize = 1;
@@ -30,7 +29,7 @@ fn fold_by(code: u8, shown: &[i64]) -> i64
 // The same, with a loop for each operation: where the code is written out, the compiler keeps its test out of the loop.
 fn fold(code: u8, shown: &[i64]) -> i64
     requires { 0 < length shown.now }
-    ensures { result ≡ folded (operation code) (given shown) }
+    ensures { result ≡ folded (operation code) shown.now }
 {
     match code {
         0 => fold_by(0, shown),
@@ -61,7 +60,7 @@ fn zip_walk(
 ) -> usize
     requires { Combinable offsets.now ends.now values.now places.old out_ends.old out_values.old
         × Paired ends.now values.now places.old current.old shown.old }
-    ensures { Fills (combined (operation code) (many (Value fill) (columns (given_flat offsets ends values)))) out_ends out_values result }
+    ensures { Fills (combined (operation code) (many (Value fill) (columns (flat offsets.now ends.now values.now)))) out_ends out_values result }
 {
     if ends.len() == 0 {
         return 0;
@@ -88,7 +87,7 @@ pub fn zip_many(
     out_values: &mut [i64],
 ) -> usize
     requires { Zippable offsets.now ends.now values.now out_ends.old out_values.old }
-    ensures { Fills (combined (operation code) (many (Value fill) (columns (given_flat offsets ends values)))) out_ends out_values result }
+    ensures { Fills (combined (operation code) (many (Value fill) (columns (flat offsets.now ends.now values.now)))) out_ends out_values result }
 {
     let k = offsets.len() - 1;
     let mut places = [0usize; rle::Rle::MAX_COLUMNS];

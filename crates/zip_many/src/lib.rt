@@ -5,13 +5,12 @@ pub mod inner;
 
 ghost use Rattle.std.specs.Prelude.{[], ◌∷◌, map, ◌≡◌};
 ghost use Rattle.column.specs.Asking.{shown_asked};
-ghost use Rattle.column.specs.Flat.{given_flat};
+ghost use Rattle.column.specs.Flat.{flat};
 ghost use Rattle.column.specs.Lists.{parts};
 ghost use Rattle.column.specs.Paper.{WritesRuns};
 ghost use Rattle.column.specs.Runs.{length_of_ends};
 ghost use Rattle.zip_many.specs.Calls as calls;
 ghost use Rattle.zip_many.specs.Workers.{LengthsOf};
-ghost use Rattle.column.specs.Lent.{given};
 
 use column::answer::{Asked, Counted, Fill};
 
@@ -23,7 +22,7 @@ pub struct Lengths {
 }
 
 fn least_and_greatest(offsets: &[usize], ends: &[i64]) -> Lengths
-    ensures { LengthsOf (map length_of_ends (parts (given offsets) (given ends))) result }
+    ensures { LengthsOf (map length_of_ends (parts offsets.now ends.now)) result }
 {
     if offsets.len() < 2 {
         return Lengths {
@@ -53,7 +52,7 @@ fn zip_many_asks(
     out_ends: usize,
     out_values: usize,
 ) -> Asked
-    ensures { shown_asked result ≡ calls.zip_many_asked (given_flat offsets ends values) fill code (out_ends ∷ out_values ∷ []) }
+    ensures { shown_asked result ≡ calls.zip_many_asked (flat offsets.now ends.now values.now) fill code (out_ends ∷ out_values ∷ []) }
 {
     let k = many::columns(offsets);
     let lengths = least_and_greatest(offsets, ends);
@@ -74,7 +73,7 @@ pub fn zip_many(
     out_ends: &mut [i64],
     out_values: &mut [i64],
 ) -> Counted
-    ensures { WritesRuns (calls.zip_many (given_flat offsets ends values) fill code) out_ends out_values result }
+    ensures { WritesRuns (calls.zip_many (flat offsets.now ends.now values.now) fill code) out_ends out_values result }
 {
     let asked = zip_many_asks(
         offsets,

@@ -1,7 +1,6 @@
 // The keys of two batches, each looked up in the other batch, one place after another.
 ghost use Rattle.std.specs.Prelude.{◌+◌, ◌<◌, ◌^◌, true, ◌≡◌, length};
 ghost use Rattle.batch.specs.Workers.{KnownKeys, other_entry_at, KeptOther};
-ghost use Rattle.column.specs.Lent.{given, after};
 
 use batch_keys::Order;
 
@@ -47,7 +46,7 @@ fn ascending(order: Order) -> bool {
 
 // Whether a search for each key would take longer than an index.
 fn index_pays(a_keys: &[u32], b_keys: &[u32], a_order: Order, b_order: Order) -> bool
-    ensures { result ≡ true → (length (given a_keys) < 2 ^ 32) × (length (given b_keys) < 2 ^ 32) }
+    ensures { result ≡ true → (length a_keys.now < 2 ^ 32) × (length b_keys.now < 2 ^ 32) }
 {
     if aligned(a_keys, b_keys) {
         return false;
@@ -61,7 +60,7 @@ fn index_pays(a_keys: &[u32], b_keys: &[u32], a_order: Order, b_order: Order) ->
 }
 
 pub fn lookup_of(a_keys: &[u32], b_keys: &[u32]) -> Lookup
-    ensures { KnownKeys (given a_keys) (given b_keys) result }
+    ensures { KnownKeys a_keys.now b_keys.now result }
 {
     let a = batch_keys::inner::order_of(a_keys);
     let b = batch_keys::inner::order_of(b_keys);
@@ -80,8 +79,8 @@ pub fn find_other(
 ) -> usize
     requires { KnownKeys a_keys.now b_keys.now lookup × (at < length a_keys.now + length b_keys.now)
         × KeptOther a_keys.now b_keys.now lookup.indexed block.old at }
-    ensures { (result ≡ other_entry_at (given a_keys) (given b_keys) at)
-        × KeptOther (given a_keys) (given b_keys) lookup.indexed (after block) (at + 1) }
+    ensures { (result ≡ other_entry_at a_keys.now b_keys.now at)
+        × KeptOther a_keys.now b_keys.now lookup.indexed block.new (at + 1) }
 {
     let a_order = lookup.a;
     let b_order = lookup.b;

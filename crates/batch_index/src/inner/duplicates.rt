@@ -2,7 +2,6 @@
 // of the block.
 ghost use Rattle.std.specs.Prelude.{◌+◌, ◌≤◌, ◌<◌, ◌^◌, ◌≡◌, length};
 ghost use Rattle.batch_index.specs.Workers.{part, looked_up, Sized, FirstDouble, NextLimit, CheckedBlock, PassedRest, PassedBlock};
-ghost use Rattle.column.specs.Lent.{given, after};
 
 use crate::inner::scan_from;
 use crate::inner::table::{enter, fill_filter, look_up};
@@ -16,7 +15,7 @@ const BLOCK: usize = 6144;
 // The limit, after the key at i was found at `at`. If that is not its own position, its next one is looked for.
 fn limit_after(keys: &[u32], i: usize, at: usize, limit: usize) -> usize
     requires { i < length keys.now }
-    ensures { (at ≤ i → result ≡ limit) × (i < at → NextLimit (given keys) i limit result) }
+    ensures { (at ≤ i → result ≡ limit) × (i < at → NextLimit keys.now i limit result) }
 {
     if i < at {
         return num::smaller_count(scan_from(keys, i + 1, keys[i]), limit);
@@ -35,7 +34,7 @@ fn enter_block(
     filter: &[u64],
 ) -> usize
     requires { (from ≤ to) × (to ≤ from + 2 ^ 16) × (to ≤ length keys.now) × (limit ≤ length keys.now) × Sized table.old filter.now }
-    ensures { CheckedBlock (looked_up (after table) (given filter) (part from to (given keys))) (given keys) from to limit result }
+    ensures { CheckedBlock (looked_up table.new filter.now (part from to keys.now)) keys.now from to limit result }
 {
     let mut limit = limit;
     let mut i = from;
@@ -60,7 +59,7 @@ fn pass_rest(
     filter: &[u64],
 ) -> usize
     requires { (from ≤ to) × (to ≤ length keys.now) × (limit ≤ length keys.now) × Sized table.now filter.now }
-    ensures { PassedRest (looked_up (given table) (given filter) (part from to (given keys))) (given keys) from to limit result }
+    ensures { PassedRest (looked_up table.now filter.now (part from to keys.now)) keys.now from to limit result }
 {
     let mut i = to;
     while i < limit {
@@ -75,7 +74,7 @@ fn pass_rest(
 // The lowest position below the limit of a key that stands before it too, in the block; or the limit.
 fn pass_block(keys: &[u32], from: usize, to: usize, limit: usize) -> usize
     requires { (from ≤ to) × (to ≤ from + 2 ^ 16) × (to ≤ length keys.now) × (limit ≤ length keys.now) }
-    ensures { PassedBlock (given keys) from to limit result }
+    ensures { PassedBlock keys.now from to limit result }
 {
     let mut table = [0xFFFFu16; 12288];
     let mut filter = [0u64; 2048];
@@ -87,7 +86,7 @@ fn pass_block(keys: &[u32], from: usize, to: usize, limit: usize) -> usize
 // The same of the last block, up to the limit. All bits of its filter are set.
 fn pass_last(keys: &[u32], from: usize, limit: usize) -> usize
     requires { (from ≤ limit) × (limit ≤ from + 2 ^ 16) × (limit ≤ length keys.now) }
-    ensures { PassedBlock (given keys) from limit limit result }
+    ensures { PassedBlock keys.now from limit limit result }
 {
     let mut table = [0xFFFFu16; 12288];
     let filter = [0xFFFF_FFFF_FFFF_FFFFu64; 1];
@@ -97,7 +96,7 @@ fn pass_last(keys: &[u32], from: usize, limit: usize) -> usize
 // Of few keys: as no bit is set, each is looked for among those after it.
 fn scan_each(keys: &[u32]) -> usize
     requires { length keys.now ≤ 2 ^ 16 }
-    ensures { PassedBlock (given keys) 0 (length (given keys)) (length (given keys)) result }
+    ensures { PassedBlock keys.now 0 (length keys.now) (length keys.now) result }
 {
     let mut table = [0xFFFFu16; 1];
     let filter = [0u64; 1];
@@ -113,7 +112,7 @@ fn block_size(keys: usize) -> usize
 
 // The lowest position of a key that stands before it too, or how many keys there are.
 pub fn first_duplicate(keys: &[u32]) -> usize
-    ensures { FirstDouble (given keys) result }
+    ensures { FirstDouble keys.now result }
 {
     if keys.len() < FEW {
         return scan_each(keys);

@@ -3,7 +3,6 @@
 ghost use Rattle.std.specs.Prelude.{◌+◌, ◌-◌, ◌≤◌, ◌<◌, ◌^◌, true, false, ◌≡◌, length, get_or};
 ghost use Rattle.batch_index.specs.Workers.{part, looked_up, Sized, NextPosition, CheckedEnd, Cleared, Marks, Block, LinkRoom, LinkLent};
 ghost use Rattle.batch_index.specs.Workers.{Chains, Listed, Linked, LinkedFrom, LinkedAt};
-ghost use Rattle.column.specs.Lent.{given, after};
 
 use crate::inner::table::{fill, fill_filter, look_up};
 use crate::inner::{table, widened};
@@ -49,7 +48,7 @@ pub struct Member {
 // Up to where each key is found at its own position or before it.
 fn checked_end(keys: &[u32], from: usize, to: usize, table: &[u16], filter: &[u64]) -> usize
     requires { (from ≤ to) × (to ≤ length keys.now) × Sized table.now filter.now }
-    ensures { CheckedEnd (looked_up (given table) (given filter) (part from to (given keys))) (given keys) from to result }
+    ensures { CheckedEnd (looked_up table.now filter.now (part from to keys.now)) keys.now from to result }
 {
     let mut i = from;
     while i < to {
@@ -63,7 +62,7 @@ fn checked_end(keys: &[u32], from: usize, to: usize, table: &[u16], filter: &[u6
 
 fn clear(first: &mut [u16], size: usize)
     requires { size ≤ length first.old }
-    ensures { Cleared size (after first) }
+    ensures { Cleared size first.new }
 {
     let mut w: usize = 0;
     while w < size {
@@ -84,7 +83,7 @@ fn drop_begun(
 )
     requires { (from ≤ to) × (to ≤ length keys.now) × Sized table.now filter.now × (size ≤ length first.old)
         × Cleared size first.old }
-    ensures { Marks (looked_up (given table) (given filter) (part from to (given keys))) (given keys) size from (after first) }
+    ensures { Marks (looked_up table.now filter.now (part from to keys.now)) keys.now size from first.new }
 {
     let mut i: usize = 0;
     while i < from {
@@ -111,7 +110,7 @@ fn link_keys(
     requires { LinkRoom keys.now first.old next.old positions.old × Block keys.now from to × Sized table.now filter.now
         × CheckedEnd (looked_up table.now filter.now (part from to keys.now)) keys.now from to end
         × Marks (looked_up table.now filter.now (part from to keys.now)) keys.now (end - from) from first.old }
-    ensures { LinkedFrom from (given keys) (after first) (after next) (after positions) result }
+    ensures { LinkedFrom from keys.now first.new next.new positions.new result }
 {
     let mut count: usize = 0;
     let mut i = keys.len();
@@ -149,7 +148,7 @@ fn link_block(
     positions: &mut [u32],
 ) -> Links
     requires { LinkRoom keys.now first.old next.old positions.old × Block keys.now from to }
-    ensures { LinkedFrom from (given keys) (after first) (after next) (after positions) result }
+    ensures { LinkedFrom from keys.now first.new next.new positions.new result }
 {
     let mut table = [0xFFFFu16; 4096];
     let mut filter = [0u64; 1024];
@@ -171,7 +170,7 @@ fn link_most(
     positions: &mut [u32],
 ) -> Links
     requires { LinkRoom keys.now first.old next.old positions.old × Block keys.now from (from + size) × (from < length keys.now) }
-    ensures { LinkedAt from (given keys) (after first) (after next) (after positions) result }
+    ensures { LinkedAt from keys.now first.new next.new positions.new result }
 {
     let mut size = size;
     while 0 < size {
@@ -217,7 +216,7 @@ pub fn link(
 ) -> Links
     requires { Linked keys.now first.old next.old positions.old links × LinkLent keys.now first.old next.old positions.old
         × (links.from ≤ i) × (i < length keys.now) }
-    ensures { LinkedFrom i (given keys) (after first) (after next) (after positions) result }
+    ensures { LinkedFrom i keys.now first.new next.new positions.new result }
 {
     if i < links.to {
         return links;
@@ -232,7 +231,7 @@ pub fn link(
 // The first entry of the key at i, if the block is linked.
 pub fn first_entry(links: Links, first: &[u16], i: usize) -> usize
     requires { (links.from ≤ i) × (links.linked ≡ true → i < links.from + length first.now) }
-    ensures { links.linked ≡ true → result ≡ get_or (given first) (i - links.from) 0 }
+    ensures { links.linked ≡ true → result ≡ get_or first.now (i - links.from) 0 }
 {
     if links.linked {
         return table::widened(first[i - links.from]);
@@ -249,8 +248,8 @@ pub fn next_entry(
     entry: usize,
 ) -> Member
     requires { Chains keys.now next.now positions.now links × (links.linked ≡ true) × (entry < links.count) × (entry < 2048) }
-    ensures { Listed (given keys) (given positions) links result
-        × NextPosition (get_or (given keys) (get_or (given positions) entry 0) 0) (given keys) (get_or (given positions) entry 0 + 1) result.at }
+    ensures { Listed keys.now positions.now links result
+        × NextPosition (get_or keys.now (get_or positions.now entry 0) 0) keys.now (get_or positions.now entry 0 + 1) result.at }
 {
     let entry = table::widened(next[entry]);
     if entry < CAPACITY {

@@ -5,7 +5,6 @@
 // needs no more than to know which keys find their own position, and it looks for the others in another way.
 ghost use Rattle.std.specs.Prelude.{◌<◌, ◌^◌, ◌≡◌, length, get_or};
 ghost use Rattle.batch_index.specs.Workers.{mixed, place_of, in_filter, probed, looked_up, Sized, Put, Entered};
-ghost use Rattle.column.specs.Lent.{given, after};
 
 // So many slots are probed for a key.
 const PROBES: usize = 32;
@@ -36,7 +35,7 @@ pub fn widened(slot: u16) -> usize
 // Whether the bit of a mixed number is set.
 fn is_set(filter: &[u64], x: u32) -> bool
     requires { (0 < length filter.now) × (length filter.now < 2 ^ 26) }
-    ensures { result ≡ in_filter (given filter) x }
+    ensures { result ≡ in_filter filter.now x }
 {
     let bit = place(x, filter.len() * 64);
     let word = filter[bit / 64];
@@ -54,7 +53,7 @@ fn set(filter: &mut [u64], x: u32)
 // The position that the slots of a key give, up to an empty one; or how many keys there are.
 fn probe(table: &[u16], keys: &[u32], key: u32, from: u32) -> usize
     requires { (0 < length table.now) × (length table.now < 2 ^ 32) }
-    ensures { result ≡ probed 32 (given table) (given keys) key from }
+    ensures { result ≡ probed 32 table.now keys.now key from }
 {
     let mut x = from;
     let mut d: usize = 0;
@@ -75,7 +74,7 @@ fn probe(table: &[u16], keys: &[u32], key: u32, from: u32) -> usize
 // The position that is found for a key, or how many keys there are.
 pub fn look_up(table: &[u16], filter: &[u64], keys: &[u32], key: u32) -> usize
     requires { Sized table.now filter.now }
-    ensures { result ≡ looked_up (given table) (given filter) (given keys) key }
+    ensures { result ≡ looked_up table.now filter.now keys.now key }
 {
     let x = mixed(key);
     if is_set(filter, x) {
@@ -88,7 +87,7 @@ pub fn look_up(table: &[u16], filter: &[u64], keys: &[u32], key: u32) -> usize
 // keys there are.
 fn put(table: &mut [u16], keys: &[u32], i: usize, from: u32) -> usize
     requires { (0 < length table.old) × (length table.old < 2 ^ 32) × (i < length keys.now) × (i < 2 ^ 16) }
-    ensures { Put (given keys) (get_or (given keys) i 0) from (given table) (after table) result }
+    ensures { Put keys.now (get_or keys.now i 0) from table.old table.new result }
 {
     let key = keys[i];
     let mut x = from;
@@ -112,7 +111,7 @@ fn put(table: &mut [u16], keys: &[u32], i: usize, from: u32) -> usize
 // The same, if the bit of the key is set.
 pub fn enter(table: &mut [u16], filter: &[u64], keys: &[u32], i: usize) -> usize
     requires { Sized table.old filter.now × (i < length keys.now) × (i < 2 ^ 16) }
-    ensures { Entered (given filter) (given keys) i (given table) (after table) result }
+    ensures { Entered filter.now keys.now i table.old table.new result }
 {
     let x = mixed(keys[i]);
     if is_set(filter, x) {

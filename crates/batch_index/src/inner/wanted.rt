@@ -2,7 +2,6 @@
 ghost use Rattle.std.specs.Prelude.{◌≤◌, ◌<◌, ◌^◌, ◌≡◌, length};
 ghost use Rattle.batch_index.specs.Calls.{lowest};
 ghost use Rattle.batch_index.specs.Workers.{looked_up, Sized, Unfound, FoundOnce, FoundAll};
-ghost use Rattle.column.specs.Lent.{given, after};
 
 use crate::inner::table::{fill, fill_filter, look_up};
 use crate::inner::{scan, widened};
@@ -10,7 +9,7 @@ use crate::inner::{scan, widened};
 // Says of each wanted key that it stands nowhere.
 fn clear(keys: &[u32], wanted: &[u32], found: &mut [u32])
     requires { (length keys.now < 2 ^ 32) × (length wanted.now ≤ length found.old) }
-    ensures { Unfound (given keys) (given wanted) (after found) }
+    ensures { Unfound keys.now wanted.now found.new }
 {
     let mut i: usize = 0;
     while i < wanted.len() {
@@ -23,7 +22,7 @@ fn clear(keys: &[u32], wanted: &[u32], found: &mut [u32])
 fn note_positions(keys: &[u32], wanted: &[u32], table: &[u16], filter: &[u64], found: &mut [u32])
     requires { (length keys.now < 2 ^ 32) × (length wanted.now ≤ length found.old) × Sized table.now filter.now
         × Unfound keys.now wanted.now found.old }
-    ensures { FoundOnce (looked_up (given table) (given filter) (given wanted)) (given keys) (given wanted) (after found) }
+    ensures { FoundOnce (looked_up table.now filter.now wanted.now) keys.now wanted.now found.new }
 {
     let mut i = keys.len();
     while 0 < i {
@@ -46,7 +45,7 @@ fn position_of(
 ) -> usize
     requires { (length wanted.now ≤ length found.now) × Sized table.now filter.now
         × FoundOnce (looked_up table.now filter.now wanted.now) keys.now wanted.now found.now }
-    ensures { result ≡ lowest key (given keys) }
+    ensures { result ≡ lowest key keys.now }
 {
     let w = look_up(table, filter, wanted, key);
     if w < wanted.len() {
@@ -59,7 +58,7 @@ fn position_of(
 fn share_positions(keys: &[u32], wanted: &[u32], table: &[u16], filter: &[u64], found: &mut [u32])
     requires { (length keys.now < 2 ^ 32) × (length wanted.now ≤ length found.old) × Sized table.now filter.now
         × FoundOnce (looked_up table.now filter.now wanted.now) keys.now wanted.now found.old }
-    ensures { FoundAll (given keys) (given wanted) (after found) }
+    ensures { FoundAll keys.now wanted.now found.new }
 {
     let mut i: usize = 0;
     while i < wanted.len() {
@@ -72,7 +71,7 @@ fn share_positions(keys: &[u32], wanted: &[u32], table: &[u16], filter: &[u64], 
 // Finds each wanted key.
 pub fn find_all(keys: &[u32], wanted: &[u32], found: &mut [u32])
     requires { (length keys.now < 2 ^ 32) × (length wanted.now ≤ 4096) × (length wanted.now ≤ length found.old) }
-    ensures { FoundAll (given keys) (given wanted) (after found) }
+    ensures { FoundAll keys.now wanted.now found.new }
 {
     let mut table = [0xFFFFu16; 8192];
     let mut filter = [0u64; 2048];

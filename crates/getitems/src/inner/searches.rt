@@ -3,7 +3,6 @@ ghost use Rattle.std.specs.Prelude.{◌+◌, ◌≤◌, ◌<◌, ◌/◌, ◌^�
 ghost use Rattle.std.proofs.Math.Option.{none};
 ghost use Rattle.column.specs.Questions.{ends_valid};
 ghost use Rattle.getitems.specs.Workers.{block_size, sought, found, Begun, Halvings, Searched, Kept};
-ghost use Rattle.column.specs.Lent.{given, after};
 
 use column::sequence;
 
@@ -12,7 +11,7 @@ pub const BLOCK: usize = 16;
 
 // What is looked for: the position as clamped to the sequence, or the one before it.
 fn place(ends: &[i64], position: i64, back: usize) -> usize
-    ensures { (result ≡ sought (given ends) back position) × (result < 2 ^ 63) }
+    ensures { (result ≡ sought ends.now back position) × (result < 2 ^ 63) }
 {
     let length = sequence::to_nat(sequence::length(ends));
     let clamped = num::smaller_count(sequence::to_nat(position), length);
@@ -29,7 +28,7 @@ fn start(
     lows: &mut [usize],
 )
     requires { (length places.old ≡ block_size) × (length lows.old ≡ block_size) × (from < 2 ^ 63) }
-    ensures { Begun (given ends) (given positions) from back (after places) (after lows) }
+    ensures { Begun ends.now positions.now from back places.new lows.new }
 {
     let mut k: usize = 0;
     while k < BLOCK {
@@ -43,7 +42,7 @@ fn start(
 // A step of each.
 fn halve(ends: &[i64], size: usize, places: &[usize], lows: &mut [usize])
     requires { Halvings ends.now places.now lows.old size × (0 < size) }
-    ensures { Halvings (given ends) (given places) (after lows) (size / 2) }
+    ensures { Halvings ends.now places.now lows.new (size / 2) }
 {
     let mut k: usize = 0;
     while k < BLOCK {
@@ -57,7 +56,7 @@ fn halve(ends: &[i64], size: usize, places: &[usize], lows: &mut [usize])
 // The searches of the block at `from`.
 fn search(ends: &[i64], positions: &[i64], from: usize, back: usize, block: &mut [usize])
     requires { (length block.old ≡ block_size) × (from < 2 ^ 63) }
-    ensures { Searched (given ends) (given positions) back from (after block) }
+    ensures { Searched ends.now positions.now back from block.new }
 {
     let mut places = [0usize; BLOCK];
     start(ends, positions, from, back, &mut places, &mut *block);
@@ -77,9 +76,9 @@ pub fn find_next(
     block: &mut [usize],
 ) -> usize
     requires { (i < length positions.now) × Kept ends.now positions.now back block.old i }
-    ensures { (result ≤ length (given ends)) ×
-        (ends_valid (given ends) ≡ none → result ≡ found (given ends) back (get_or (given positions) i (pos 0)))
-        × Kept (given ends) (given positions) back (after block) (i + 1) }
+    ensures { (result ≤ length ends.now) ×
+        (ends_valid ends.now ≡ none → result ≡ found ends.now back (get_or positions.now i (pos 0)))
+        × Kept ends.now positions.now back block.new (i + 1) }
 {
     let slot = i % BLOCK;
     if slot == 0 {

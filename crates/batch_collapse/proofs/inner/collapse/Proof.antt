@@ -51,7 +51,7 @@ few c = omega (
 )
 
 slice-write-out-offsets : tie.Need-slice-write-out-offsets invariant-loop decreases-loop
-slice-write-out-offsets c = omega (arith, c.before.before.before.before.before.before.before.before.requires.1.room-offsets)
+slice-write-out-offsets c = omega (arith, c.before.before.before.before.before.before.before.before.requires.1.room_offsets)
 
 unlinked-requires : tie.Need-unlinked-requires invariant-loop decreases-loop
 unlinked-requires c κs = search rules
@@ -96,7 +96,7 @@ mul-out-keys c = omega (
 
 slice-write-out-keys : tie.Need-slice-write-out-keys invariant-loop decreases-loop
 slice-write-out-keys c = let s = c.before.before.before.before.before.before.before.before.before.before.before.before.before.before.before.before.before.before.before.before.before.before.before in
-    omega (arith, few c.before, s.pre.1.room-keys, c.before.before.before.loop.invariant.3.laying.keys.long)
+    omega (arith, few c.before, s.pre.1.room_keys, c.before.before.before.loop.invariant.3.laying.keys.long)
 
 mul-collapse-group : tie.Need-overflow-mul-collapse-group invariant-loop decreases-loop
 mul-collapse-group c = omega (
@@ -104,8 +104,8 @@ mul-collapse-group c = omega (
   (room c.before.before.before).0,
   (room c.before.before.before).1,
   c.before.before.before.before.before.before.before.before.before.before.before.before.before.before.before.before.before.before.before.before.before.before.before.before.before.well-formed,
-  c.before.before.before.before.before.loop.invariant.3.laying.laying.long-ends,
-  c.before.before.before.before.before.loop.invariant.3.laying.laying.long-values,
+  c.before.before.before.before.before.loop.invariant.3.laying.laying.long_ends,
+  c.before.before.before.before.before.loop.invariant.3.laying.laying.long_values,
 )
 
 sub-collapse-group : tie.Need-overflow-sub-collapse-group invariant-loop decreases-loop
@@ -123,8 +123,8 @@ mul-collapse-group-2 c = omega (
   (room c.before.before.before.before).0,
   (room c.before.before.before.before).1,
   c.before.before.before.before.before.before.before.before.before.before.before.before.before.before.before.before.before.before.before.before.before.before.before.before.before.before.well-formed,
-  c.before.before.before.before.before.before.loop.invariant.3.laying.laying.long-ends,
-  c.before.before.before.before.before.before.loop.invariant.3.laying.laying.long-values,
+  c.before.before.before.before.before.before.loop.invariant.3.laying.laying.long_ends,
+  c.before.before.before.before.before.before.loop.invariant.3.laying.laying.long_values,
 )
 
 sub-collapse-group-2 : tie.Need-overflow-sub-collapse-group-2 invariant-loop decreases-loop
@@ -175,8 +175,8 @@ slice-write-out-offsets-2 c = let s = c.before.before.before.before.before.befor
     omega (
       arith,
       few c.before.before.before.before.before.before.before.before.before.before.before.before,
-      s.pre.1.room-offsets,
-      c.before.before.before.before.before.before.before.before.before.before.before.before.before.before.loop.invariant.3.laying.laying.long-offsets,
+      s.pre.1.room_offsets,
+      c.before.before.before.before.before.before.before.before.before.before.before.before.before.before.loop.invariant.3.laying.laying.long_offsets,
       length-set s.args.out-offsets.now 0 0,
     )
 
@@ -249,13 +249,13 @@ same-length-4 : tie.Need-same-length-4 invariant-loop decreases-loop
 same-length-4 c = c.before.before.loop.invariant.3.laying.keys.long
 
 same-length-5 : tie.Need-same-length-5 invariant-loop decreases-loop
-same-length-5 c = rw length-set at c.before.before.loop.invariant.3.laying.laying.long-offsets
+same-length-5 c = rw length-set at c.before.before.loop.invariant.3.laying.laying.long_offsets
 
 same-length-6 : tie.Need-same-length-6 invariant-loop decreases-loop
-same-length-6 c = c.before.before.loop.invariant.3.laying.laying.long-ends
+same-length-6 c = c.before.before.loop.invariant.3.laying.laying.long_ends
 
 same-length-7 : tie.Need-same-length-7 invariant-loop decreases-loop
-same-length-7 c = c.before.before.loop.invariant.3.laying.laying.long-values
+same-length-7 c = c.before.before.loop.invariant.3.laying.laying.long_values
 
 same-length-8 : tie.Need-same-length-8 invariant-loop decreases-loop
 same-length-8 c = c.before.before.loop.invariant.3.scratch_ends.long

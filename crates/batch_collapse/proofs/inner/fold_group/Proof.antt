@@ -93,10 +93,10 @@ loop-again c = (
 )
 
 same_length : tie.Need-same-length invariant-loop decreases-loop
-same_length c = c.before.before.loop.invariant.0.folded.long-ends
+same_length c = c.before.before.loop.invariant.0.folded.long_ends
 
 same-length-2 : tie.Need-same-length-2 invariant-loop decreases-loop
-same-length-2 c = c.before.before.loop.invariant.0.folded.long-values
+same-length-2 c = c.before.before.loop.invariant.0.folded.long_values
 
 same-length-3 : tie.Need-same-length-3 invariant-loop decreases-loop
 same-length-3 c = let loop = c.before.before in

@@ -2,7 +2,7 @@ use mathlib.Core.Path.{refl}
 use Rattle.batch_index.proofs.Lowest.{no_test}
 use Prim.Native.Nat.{◌-◌}
 use lib.ListN.{length}
-use Rattle.batch_collapse.proofs.Together.{Level, level-start, level-next, level-end}
+use Rattle.batch_collapse.proofs.Together.{Level, level_start, level_next, level_end}
 use borrow.Author.Rules.{rules}
 use Rattle.batch_collapse.proofs.inner.never_fall.Statement.{statement}
 use Rattle.batch_collapse.proofs.inner.never_fall.Tie as tie
@@ -14,7 +14,7 @@ abbrev decreases-loop : tie.decreases-loop
 decreases-loop keys i₀ i = length keys - i
 
 loop-holds : tie.Need-loop-init invariant-loop decreases-loop
-loop-holds c = level-start _
+loop-holds c = level_start _
 
 sub-before : tie.Need-overflow-sub-before invariant-loop decreases-loop
 sub-before c = search rules
@@ -41,10 +41,10 @@ loop-less : tie.Need-loop-smaller invariant-loop decreases-loop
 loop-less c = search rules
 
 loop-again : tie.Need-loop-preserved invariant-loop decreases-loop
-loop-again c = level-next _ _ c.before.before.before.before.loop.invariant c.if1.false
+loop-again c = level_next _ _ c.before.before.before.before.loop.invariant c.if1.false
 
 returns-2 : tie.Need-returns-2 invariant-loop decreases-loop
-returns-2 c = λ e. level-end _ _ c.before.loop.invariant c.loop-test.false
+returns-2 c = λ e. level_end _ _ c.before.loop.invariant c.loop-test.false
 
 pub never-fall-spec : {M : Type 1} → statement M
 never-fall-spec =

@@ -2,7 +2,7 @@ use borrow.Author.Tests.{not-true, not-false}
 use mathlib.Core.Path.{sym, ◌∙◌}
 use Prim.Native.Nat.{◌-◌}
 use lib.ListN.{length}
-use Rattle.batch_collapse.proofs.Next.{PastGroup, past-start, past_next, group_found, group_end_lem}
+use Rattle.batch_collapse.proofs.Next.{PastGroup, past_start, past_next, group_found, group_end_lem}
 use mathlib.Core.Path.{◌≡◌, refl}
 use Prim.Native.Nat.{◌≤◌}
 use native.Mathlib.Omega.{arith}
@@ -23,7 +23,7 @@ decreases-loop keys together from first₀ next₀ positions₀ links₀ i₀ fi
     length keys - i
 
 loop-holds : tie.Need-loop-init invariant-loop decreases-loop
-loop-holds c = let pre = c.before.before.before.before.requires in (refl, refl, refl, past-start _ pre.1, pre.2, pre.3)
+loop-holds c = let pre = c.before.before.before.before.requires in (refl, refl, refl, past_start _ pre.1, pre.2, pre.3)
 
 link-requires : tie.Need-link-requires invariant-loop decreases-loop
 link-requires c κs = let inv = c.before.before.before.before.loop.invariant in (

@@ -1,5 +1,5 @@
 use borrow.Author.Tests.{eqb-true}
-use Rattle.batch_collapse.proofs.Together.{single-together}
+use Rattle.batch_collapse.proofs.Together.{single_together}
 use borrow.Author.Rules.{rules}
 use Rattle.batch_collapse.proofs.inner.stand_together.Statement.{statement}
 use Rattle.batch_collapse.proofs.inner.stand_together.Tie as tie
@@ -14,7 +14,7 @@ first-duplicate-requires : tie.Need-first-duplicate-requires
 first-duplicate-requires c κs = search rules
 
 returns-2 : tie.Need-returns-2
-returns-2 c = λ e. single-together _ c.first-duplicate.ensures (eqb-true _ _ e)
+returns-2 c = λ e. single_together _ c.first-duplicate.ensures (eqb-true _ _ e)
 
 pub stand-together-spec : {M : Type 1} → statement M
 stand-together-spec =

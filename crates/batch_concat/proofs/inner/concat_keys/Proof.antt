@@ -36,7 +36,7 @@ add-places : tie.Need-overflow-add-places invariant-loop decreases-loop
 add-places c = search rules
 
 slice-write-out-offsets : tie.Need-slice-write-out-offsets invariant-loop decreases-loop
-slice-write-out-offsets c = let s = c.before.before.before.before.before.before.before in omega (arith, s.requires.0.room-offsets)
+slice-write-out-offsets c = let s = c.before.before.before.before.before.before.before in omega (arith, s.requires.0.room_offsets)
 
 next-key-requires : tie.Need-next-key-requires invariant-loop decreases-loop
 next-key-requires c κs = let start = c.before.before.before.before.before.before.before.before in
@@ -72,7 +72,7 @@ part-at-requires-4 c κs = search rules
 mul-concat-two : tie.Need-overflow-mul-concat-two invariant-loop decreases-loop
 mul-concat-two c = let loop = c.before.before.before.before.before.before in
     let start = loop.before.before.before.before.before.before.before.before.before.before.before.before in
-    omega (arith, (room c).0, loop.loop.invariant.0.laying.laying.long-ends, start.well-formed)
+    omega (arith, (room c).0, loop.loop.invariant.0.laying.laying.long_ends, start.well-formed)
 
 sub-concat-two : tie.Need-overflow-sub-concat-two invariant-loop decreases-loop
 sub-concat-two c = omega (arith, (room c).0, (room c).1)
@@ -87,7 +87,7 @@ mul-concat-two-2 : tie.Need-overflow-mul-concat-two-2 invariant-loop decreases-l
 mul-concat-two-2 c = let place = c.before in
     let loop = place.before.before.before.before.before.before in
     let start = loop.before.before.before.before.before.before.before.before.before.before.before.before in
-    omega (arith, (room place).1, loop.loop.invariant.0.laying.laying.long-values, start.well-formed)
+    omega (arith, (room place).1, loop.loop.invariant.0.laying.laying.long_values, start.well-formed)
 
 sub-concat-two-2 : tie.Need-overflow-sub-concat-two-2 invariant-loop decreases-loop
 sub-concat-two-2 c = omega (arith, (room c.before).0, (room c.before).1)
@@ -116,7 +116,7 @@ add-used c = let concat-two = c.before.before in
     let start = loop.before.before.before.before.before.before.before.before.before.before.before.before in
     let used = write-used _ _ _ _ _ _ _ _ start.requires.0 loop.loop.invariant.0 if1.if1.true part-at2.before.part_at.ensures
     part-at2.part-at2.ensures place.before.part-at3.ensures place.part-at4.ensures concat-two.concat-two.ensures in
-    omega (arith, (room place).0, used, loop.loop.invariant.0.laying.laying.long-ends, start.well-formed)
+    omega (arith, (room place).0, used, loop.loop.invariant.0.laying.laying.long_ends, start.well-formed)
 
 add-n : tie.Need-overflow-add-n invariant-loop decreases-loop
 add-n c = let if1 = c.before.before.before.before.before.before.before.before.before in
@@ -137,7 +137,7 @@ slice-write-out-offsets-2 c = let if1 = c.before.before.before.before.before.bef
     omega (
       arith,
       (write-within _ _ _ _ _ _ _ _ start.requires.0 loop.loop.invariant.0 if1.if1.true).1,
-      loop.loop.invariant.0.laying.laying.long-offsets,
+      loop.loop.invariant.0.laying.laying.long_offsets,
       length-set start.args.out-offsets.now 0 0,
     )
 
@@ -189,13 +189,13 @@ same-length-2 : tie.Need-same-length-2 invariant-loop decreases-loop
 same-length-2 c = c.before.before.loop.invariant.0.laying.keys.long
 
 same-length-3 : tie.Need-same-length-3 invariant-loop decreases-loop
-same-length-3 c = rw length-set at c.before.before.loop.invariant.0.laying.laying.long-offsets
+same-length-3 c = rw length-set at c.before.before.loop.invariant.0.laying.laying.long_offsets
 
 same-length-4 : tie.Need-same-length-4 invariant-loop decreases-loop
-same-length-4 c = c.before.before.loop.invariant.0.laying.laying.long-ends
+same-length-4 c = c.before.before.loop.invariant.0.laying.laying.long_ends
 
 same-length-5 : tie.Need-same-length-5 invariant-loop decreases-loop
-same-length-5 c = c.before.before.loop.invariant.0.laying.laying.long-values
+same-length-5 c = c.before.before.loop.invariant.0.laying.laying.long_values
 
 returns : tie.Need-returns invariant-loop decreases-loop
 returns c = let loop = c.before.before in

@@ -53,7 +53,7 @@ wrote c = let part-at2 = c.before.before.before in
     c.slice.ensures
 
 slice-write-out-offsets : tie.Need-slice-write-out-offsets invariant-loop decreases-loop
-slice-write-out-offsets c = omega (arith, c.before.before.before.before.before.requires.0.room-offsets)
+slice-write-out-offsets c = omega (arith, c.before.before.before.before.before.requires.0.room_offsets)
 
 loop-holds : tie.Need-loop-init invariant-loop decreases-loop
 loop-holds c = let start = c.before.before.before.before.before in
@@ -92,7 +92,7 @@ mul-slice : tie.Need-overflow-mul-slice invariant-loop decreases-loop
 mul-slice c = let place = c.before.before.before.before.before.before.before.before.before in
     let loop = place.before in
     let start = loop.before.before.before.before.before.before in
-    omega (arith, (room place).0, loop.loop.invariant.0.long-ends, start.well-formed)
+    omega (arith, (room place).0, loop.loop.invariant.0.long_ends, start.well-formed)
 
 sub_slice : tie.Need-overflow-sub-slice invariant-loop decreases-loop
 sub_slice c = let r = room c.before.before.before.before.before.before.before.before.before in omega (arith, r.0, r.1)
@@ -107,7 +107,7 @@ mul-slice-2 : tie.Need-overflow-mul-slice-2 invariant-loop decreases-loop
 mul-slice-2 c = let place = c.before.before.before.before.before.before.before.before.before.before in
     let loop = place.before in
     let start = loop.before.before.before.before.before.before in
-    omega (arith, (room place).0, loop.loop.invariant.0.long-ends, start.well-formed)
+    omega (arith, (room place).0, loop.loop.invariant.0.long_ends, start.well-formed)
 
 sub-slice-2 : tie.Need-overflow-sub-slice-2 invariant-loop decreases-loop
 sub-slice-2 c = let r = room c.before.before.before.before.before.before.before.before.before.before in omega (arith, r.0, r.1)
@@ -135,7 +135,7 @@ add-used c = let place = c.before.before in
     let parts = place.before.before.before.before.before.before.before.before.before.before.before.before in
     let loop = parts.before in
     let start = loop.before.before.before.before.before.before in
-    omega (arith, (room parts).0, (wrote place).count, loop.loop.invariant.0.long-ends, start.well-formed)
+    omega (arith, (room parts).0, (wrote place).count, loop.loop.invariant.0.long_ends, start.well-formed)
 
 add-i : tie.Need-overflow-add-i invariant-loop decreases-loop
 add-i c = let test = c.before.before.before.before.before.before.before.before.before.before.before.before.before.before in
@@ -151,7 +151,7 @@ slice-write-out-offsets-2 : tie.Need-slice-write-out-offsets-2 invariant-loop de
 slice-write-out-offsets-2 c = let test = c.before.before.before.before.before.before.before.before.before.before.before.before.before.before in
     let loop = test.before in
     let start = loop.before.before.before.before.before.before in
-    omega (arith, test.loop-test.true, start.requires.0.room-offsets, loop.loop.invariant.0.long-offsets, length-set start.args.out-offsets.now 0 0)
+    omega (arith, test.loop-test.true, start.requires.0.room_offsets, loop.loop.invariant.0.long_offsets, length-set start.args.out-offsets.now 0 0)
 
 loop-less : tie.Need-loop-smaller invariant-loop decreases-loop
 loop-less c = search rules
@@ -171,13 +171,13 @@ same_length : tie.Need-same-length invariant-loop decreases-loop
 same_length c = c.before.loop.invariant.2
 
 same-length-2 : tie.Need-same-length-2 invariant-loop decreases-loop
-same-length-2 c = rw length-set at c.before.loop.invariant.0.long-offsets
+same-length-2 c = rw length-set at c.before.loop.invariant.0.long_offsets
 
 same-length-3 : tie.Need-same-length-3 invariant-loop decreases-loop
-same-length-3 c = c.before.loop.invariant.0.long-ends
+same-length-3 c = c.before.loop.invariant.0.long_ends
 
 same-length-4 : tie.Need-same-length-4 invariant-loop decreases-loop
-same-length-4 c = c.before.loop.invariant.0.long-values
+same-length-4 c = c.before.loop.invariant.0.long_values
 
 returns : tie.Need-returns invariant-loop decreases-loop
 returns c = laid_end c.before.before.before.before.before.before.before.requires.0 c.before.loop.invariant.0 c.loop-test.false

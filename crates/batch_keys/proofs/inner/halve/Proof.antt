@@ -1,5 +1,5 @@
 use native.Mathlib.Omega.{arith}
-use Rattle.batch_keys.proofs.Ascending.{Halved, halved-start, halved-inside, halved-next, halved-found, halved_none}
+use Rattle.batch_keys.proofs.Ascending.{Halved, halved_start, halved-inside, halved-next, halved-found, halved_none}
 use borrow.Author.Rules.{rules}
 use Rattle.batch_keys.proofs.inner.halve.Statement.{statement}
 use Rattle.batch_keys.proofs.inner.halve.Tie as tie
@@ -11,7 +11,7 @@ abbrev decreases-loop : tie.decreases-loop
 decreases-loop keys key low₀ size₀ low size = size
 
 loop-holds : tie.Need-loop-init invariant-loop decreases-loop
-loop-holds c = halved-start _ _ c.before.requires
+loop-holds c = halved_start _ _ c.before.requires
 
 sub-step : tie.Need-overflow-sub-step invariant-loop decreases-loop
 sub-step c = search rules

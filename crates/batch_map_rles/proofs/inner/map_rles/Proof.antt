@@ -26,7 +26,7 @@ room : (c : tie.In-loop invariant-loop decreases-loop) → let l = c.before in l
 room c = let l = c.before in map-room l.before.before.before.before.before.requires l.loop.invariant c.loop-test.true
 
 slice-write-out-offsets : tie.Need-slice-write-out-offsets invariant-loop decreases-loop
-slice-write-out-offsets c = omega (arith, c.before.before.before.before.requires.room-offsets)
+slice-write-out-offsets c = omega (arith, c.before.before.before.before.requires.room_offsets)
 
 loop-holds : tie.Need-loop-init invariant-loop decreases-loop
 loop-holds c = map-start c.before.before.before.before.requires
@@ -43,7 +43,7 @@ mul-out-keys c = search rules
 slice-write-out-keys : tie.Need-slice-write-out-keys invariant-loop decreases-loop
 slice-write-out-keys c = let loop = c.before.before in
     let start = loop.before.before.before.before.before in
-    omega (arith, loop.loop.invariant.keys.long, start.requires.room-keys, c.before.loop-test.true)
+    omega (arith, loop.loop.invariant.keys.long, start.requires.room_keys, c.before.loop-test.true)
 
 part-at-requires : tie.Need-part-at-requires invariant-loop decreases-loop
 part-at-requires c κs = search rules
@@ -90,7 +90,7 @@ add-used c = let Map-runs = c.before.before in
     let start = loop.before.before.before.before.before in
     let used = map-used start.requires loop.loop.invariant test.loop-test.true part_at.part_at.ensures part-at2.part-at2.ensures
     Map-runs.Map-runs.ensures in
-    omega (arith, used, loop.loop.invariant.laying.long-ends, start.well-formed)
+    omega (arith, used, loop.loop.invariant.laying.long_ends, start.well-formed)
 
 add-k : tie.Need-overflow-add-k invariant-loop decreases-loop
 add-k c = search rules
@@ -102,7 +102,7 @@ slice-write-out-offsets-2 : tie.Need-slice-write-out-offsets-2 invariant-loop de
 slice-write-out-offsets-2 c = let n = c.before.before.before.before.before.before.before.before in
     let l = n.before in
     let s = l.before.before.before.before.before in
-    omega (arith, n.loop-test.true, s.requires.room-offsets, l.loop.invariant.laying.long-offsets, length-set s.args.out-offsets.now 0 0)
+    omega (arith, n.loop-test.true, s.requires.room_offsets, l.loop.invariant.laying.long_offsets, length-set s.args.out-offsets.now 0 0)
 
 loop-less : tie.Need-loop-smaller invariant-loop decreases-loop
 loop-less c = search rules
@@ -119,13 +119,13 @@ same_length : tie.Need-same-length invariant-loop decreases-loop
 same_length c = c.before.loop.invariant.keys.long
 
 same-length-2 : tie.Need-same-length-2 invariant-loop decreases-loop
-same-length-2 c = rw length-set at c.before.loop.invariant.laying.long-offsets
+same-length-2 c = rw length-set at c.before.loop.invariant.laying.long_offsets
 
 same-length-3 : tie.Need-same-length-3 invariant-loop decreases-loop
-same-length-3 c = c.before.loop.invariant.laying.long-ends
+same-length-3 c = c.before.loop.invariant.laying.long_ends
 
 same-length-4 : tie.Need-same-length-4 invariant-loop decreases-loop
-same-length-4 c = c.before.loop.invariant.laying.long-values
+same-length-4 c = c.before.loop.invariant.laying.long_values
 
 returns : tie.Need-returns invariant-loop decreases-loop
 returns c = map-end c.before.before.before.before.before.before.requires c.before.loop.invariant c.loop-test.false

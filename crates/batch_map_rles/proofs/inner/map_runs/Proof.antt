@@ -7,7 +7,7 @@ use Rattle.column.specs.Questions.{ends_valid}
 use Rattle.slice.specs.Workers.{touched_by}
 use Rattle.slice.proofs.Asks.{slice-filled}
 use Rattle.batch_map_rles.specs.Calls.{shift_runs}
-use Rattle.batch_map_rles.proofs.Mapping.{slice-touches}
+use Rattle.batch_map_rles.proofs.Mapping.{slice_touches}
 use borrow.Author.Rules.{rules}
 use Rattle.batch_map_rles.proofs.inner.map_runs.Statement.{statement}
 use Rattle.batch_map_rles.proofs.inner.map_runs.Tie as tie
@@ -52,7 +52,7 @@ slice-requires : tie.Need-slice-requires
 slice-requires c κs = let t = c.before.before in
     let m = t.before.before in
     let p = rw m.mapping2.given.1 at m.before.before.requires in
-    slice-touches _ _ _ _ _ _ (found t) p.0 p.1 (omega arith) (omega arith)
+    slice_touches _ _ _ _ _ _ (found t) p.0 p.1 (omega arith) (omega arith)
 
 same_length : tie.Need-same-length
 same_length c = search rules

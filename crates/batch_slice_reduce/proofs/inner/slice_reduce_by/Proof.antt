@@ -75,7 +75,7 @@ slice-write-out-kinds : tie.Need-slice-write-out-kinds invariant-loop decreases-
 slice-write-out-kinds c = let test = c.before.before.before.before.before.before.before.before.before.before in
     let loop = test.before in
     let start = loop.before.before.before.before.before.before.before in
-    omega (arith, loop.loop.invariant.0.kinds.long, start.requires.0.room-kinds, test.loop-test.true)
+    omega (arith, loop.loop.invariant.0.kinds.long, start.requires.0.room_kinds, test.loop-test.true)
 
 bits-requires : tie.Need-bits-requires invariant-loop decreases-loop
 bits-requires c κs = c.before.reduce-slice.ensures.1
@@ -89,7 +89,7 @@ slice-write-out-bits : tie.Need-slice-write-out-bits invariant-loop decreases-lo
 slice-write-out-bits c = let test = c.before.before.before.before.before.before.before.before.before.before.before in
     let loop = test.before in
     let start = loop.before.before.before.before.before.before.before in
-    omega (arith, loop.loop.invariant.0.bits.long, start.requires.0.room-bits, test.loop-test.true)
+    omega (arith, loop.loop.invariant.0.bits.long, start.requires.0.room_bits, test.loop-test.true)
 
 add-i : tie.Need-overflow-add-i invariant-loop decreases-loop
 add-i c = let test = c.before.before.before.before.before.before.before.before.before.before.before in
@@ -109,7 +109,7 @@ loop-again c = let reduce-slice = c.before.before in
     let entry = loop.before.before.before.before.before.before.before in
     let q = entry.requires.0 in
     let m = reductions-many q.intervals entry.args.code (to_z w64 (of_z w64 entry.args.ddof)) in (
-      filling_next loop.loop.invariant.0 (rw m test.loop-test.true) (rw m q.room-kinds) (rw m q.room-bits)
+      filling_next loop.loop.invariant.0 (rw m test.loop-test.true) (rw m q.room_kinds) (rw m q.room_bits)
           _ (item_reduced q.intervals test.loop-test.true (back _ stop.before.start.given) (back _ stop.stop.given)
           refl find-next.find-next.ensures.0 part_at.part_at.ensures reduce-slice.before.part-at2.ensures entry.args.code
           _ reduce-slice.reduce-slice.ensures.0) c.before.kind.ensures c.bits.ensures,

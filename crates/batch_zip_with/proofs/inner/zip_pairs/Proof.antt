@@ -52,7 +52,7 @@ places-requires : tie.Need-places-requires invariant-loop decreases-loop
 places-requires c κs = search rules
 
 slice-write-out-offsets : tie.Need-slice-write-out-offsets invariant-loop decreases-loop
-slice-write-out-offsets c = omega (arith, c.before.before.before.before.before.before.before.before.requires.0.room-offsets)
+slice-write-out-offsets c = omega (arith, c.before.before.before.before.before.before.before.before.requires.0.room_offsets)
 
 next-pair-requires : tie.Need-next-pair-requires invariant-loop decreases-loop
 next-pair-requires c κs = let start = c.before.before.before.before.before.before.before.before.before in
@@ -88,49 +88,49 @@ mul-zip-with : tie.Need-overflow-mul-zip-with invariant-loop decreases-loop
 mul-zip-with c = let t = c.before.before.before.before in
     let l = t.before.before in
     let s = l.before.before.before.before.before.before.before.before.before.before.before.before.before in
-    omega (arith, room t, l.loop.invariant.0.laying.laying.long-ends, l.loop.invariant.0.laying.laying.long-values, s.well-formed)
+    omega (arith, room t, l.loop.invariant.0.laying.laying.long_ends, l.loop.invariant.0.laying.laying.long_values, s.well-formed)
 
 sub-zip-with : tie.Need-overflow-sub-zip-with invariant-loop decreases-loop
 sub-zip-with c = let t = c.before.before.before.before in
     let l = t.before.before in
     let s = l.before.before.before.before.before.before.before.before.before.before.before.before.before in
-    omega (arith, room t, l.loop.invariant.0.laying.laying.long-ends, l.loop.invariant.0.laying.laying.long-values, s.well-formed)
+    omega (arith, room t, l.loop.invariant.0.laying.laying.long_ends, l.loop.invariant.0.laying.laying.long_values, s.well-formed)
 
 part-zip-with-start : tie.Need-slice-bounds-zip-with-start invariant-loop decreases-loop
 part-zip-with-start c = let t = c.before.before.before.before in
     let l = t.before.before in
     let s = l.before.before.before.before.before.before.before.before.before.before.before.before.before in
-    omega (arith, room t, l.loop.invariant.0.laying.laying.long-ends, l.loop.invariant.0.laying.laying.long-values, s.well-formed)
+    omega (arith, room t, l.loop.invariant.0.laying.laying.long_ends, l.loop.invariant.0.laying.laying.long_values, s.well-formed)
 
 part-zip-with-end : tie.Need-slice-bounds-zip-with-end invariant-loop decreases-loop
 part-zip-with-end c = let t = c.before.before.before.before in
     let l = t.before.before in
     let s = l.before.before.before.before.before.before.before.before.before.before.before.before.before in
-    omega (arith, room t, l.loop.invariant.0.laying.laying.long-ends, l.loop.invariant.0.laying.laying.long-values, s.well-formed)
+    omega (arith, room t, l.loop.invariant.0.laying.laying.long_ends, l.loop.invariant.0.laying.laying.long_values, s.well-formed)
 
 mul-zip-with-2 : tie.Need-overflow-mul-zip-with-2 invariant-loop decreases-loop
 mul-zip-with-2 c = let t = c.before.before.before.before.before in
     let l = t.before.before in
     let s = l.before.before.before.before.before.before.before.before.before.before.before.before.before in
-    omega (arith, room t, l.loop.invariant.0.laying.laying.long-ends, l.loop.invariant.0.laying.laying.long-values, s.well-formed)
+    omega (arith, room t, l.loop.invariant.0.laying.laying.long_ends, l.loop.invariant.0.laying.laying.long_values, s.well-formed)
 
 sub-zip-with-2 : tie.Need-overflow-sub-zip-with-2 invariant-loop decreases-loop
 sub-zip-with-2 c = let t = c.before.before.before.before.before in
     let l = t.before.before in
     let s = l.before.before.before.before.before.before.before.before.before.before.before.before.before in
-    omega (arith, room t, l.loop.invariant.0.laying.laying.long-ends, l.loop.invariant.0.laying.laying.long-values, s.well-formed)
+    omega (arith, room t, l.loop.invariant.0.laying.laying.long_ends, l.loop.invariant.0.laying.laying.long_values, s.well-formed)
 
 part-zip-with-start-2 : tie.Need-slice-bounds-zip-with-start-2 invariant-loop decreases-loop
 part-zip-with-start-2 c = let t = c.before.before.before.before.before in
     let l = t.before.before in
     let s = l.before.before.before.before.before.before.before.before.before.before.before.before.before in
-    omega (arith, room t, l.loop.invariant.0.laying.laying.long-ends, l.loop.invariant.0.laying.laying.long-values, s.well-formed)
+    omega (arith, room t, l.loop.invariant.0.laying.laying.long_ends, l.loop.invariant.0.laying.laying.long_values, s.well-formed)
 
 part-zip-with-end-2 : tie.Need-slice-bounds-zip-with-end-2 invariant-loop decreases-loop
 part-zip-with-end-2 c = let t = c.before.before.before.before.before in
     let l = t.before.before in
     let s = l.before.before.before.before.before.before.before.before.before.before.before.before.before in
-    omega (arith, room t, l.loop.invariant.0.laying.laying.long-ends, l.loop.invariant.0.laying.laying.long-values, s.well-formed)
+    omega (arith, room t, l.loop.invariant.0.laying.laying.long_ends, l.loop.invariant.0.laying.laying.long_values, s.well-formed)
 
 zip-with-requires : tie.Need-zip-with-requires invariant-loop decreases-loop
 zip-with-requires c κs = let part-at4 = c.before.before in
@@ -150,7 +150,7 @@ add-used c = let zip-with = c.before.before in
     let start = loop.before.before.before.before.before.before.before.before.before.before.before.before.before in
     let used = zipping-used _ _ _ _ _ _ start.requires.0 loop.loop.invariant.0 (goes place) part-at2.before.part_at.ensures part-at2.part-at2.ensures
     part-at4.before.part-at3.ensures part-at4.part-at4.ensures zip-with.zip-with.ensures in
-    omega (arith, start.well-formed, loop.loop.invariant.0.laying.laying.long-ends, used)
+    omega (arith, start.well-formed, loop.loop.invariant.0.laying.laying.long_ends, used)
 
 add-n : tie.Need-overflow-add-n invariant-loop decreases-loop
 add-n c = let t = c.before.before.before.before.before.before.before.before.before in
@@ -162,7 +162,7 @@ mul-out-offsets : tie.Need-overflow-mul-out-offsets invariant-loop decreases-loo
 mul-out-offsets c = let t = c.before.before.before.before.before.before.before.before.before in
     let l = t.before.before in
     let s = l.before.before.before.before.before.before.before.before.before.before.before.before.before in
-    omega (arith, places t, l.loop.invariant.0.laying.laying.long-offsets, length-set s.args.out-offsets.now 0 0, s.well-formed)
+    omega (arith, places t, l.loop.invariant.0.laying.laying.long_offsets, length-set s.args.out-offsets.now 0 0, s.well-formed)
 
 slice-write-out-offsets-2 : tie.Need-slice-write-out-offsets-2 invariant-loop decreases-loop
 slice-write-out-offsets-2 c = (places c.before.before.before.before.before.before.before.before.before).1
@@ -209,13 +209,13 @@ same-length-2 : tie.Need-same-length-2 invariant-loop decreases-loop
 same-length-2 c = c.before.before.loop.invariant.0.laying.keys.long
 
 same-length-3 : tie.Need-same-length-3 invariant-loop decreases-loop
-same-length-3 c = rw length-set at c.before.before.loop.invariant.0.laying.laying.long-offsets
+same-length-3 c = rw length-set at c.before.before.loop.invariant.0.laying.laying.long_offsets
 
 same-length-4 : tie.Need-same-length-4 invariant-loop decreases-loop
-same-length-4 c = c.before.before.loop.invariant.0.laying.laying.long-ends
+same-length-4 c = c.before.before.loop.invariant.0.laying.laying.long_ends
 
 same-length-5 : tie.Need-same-length-5 invariant-loop decreases-loop
-same-length-5 c = c.before.before.loop.invariant.0.laying.laying.long-values
+same-length-5 c = c.before.before.loop.invariant.0.laying.laying.long_values
 
 returns : tie.Need-returns invariant-loop decreases-loop
 returns c = let loop = c.before.before in

@@ -3,10 +3,7 @@ use mir.Syntax.{w64}
 use mathlib.Core.Path.{sym, ◌∙◌}
 use native.Mathlib.Omega.{arith}
 use Rattle.num.proofs.Bits.{back, end_nat, end_cast}
-use Prim.Native.Nat.{◌-◌}
-use lib.ListN.{length}
-use Rattle.column.proofs.Appending.{Appending, append_at, append-start, append-room, append-next, append-end}
-use borrow.Author.Rules.{rules}
+use Rattle.column.proofs.Appending.{append_at, append-start, append-room, append-next, append-end}
 use Rattle.column.proofs.inner.append_merged.Goals as goal
 
 pub loop-r-init : goal.loop-r-init
@@ -45,10 +42,10 @@ loop-r-preserved c =
     c.push_merged-next.ensures (let n = end_nat a.0 c.end-1.given in rw n (to_z_pos w64 a.2))
 
 pub shape_of-out_ends : goal.shape_of-out_ends
-shape_of-out_ends c = (c.loop-r.invariant.pushed _ _ _ _ c.requires.behind).long-ends ∙ sym c.requires.behind.merging.long_ends
+shape_of-out_ends c = (c.loop-r.invariant.pushed _ _ _ _ c.requires.behind).long_ends ∙ sym c.requires.behind.merging.long_ends
 
 pub shape_of-out_values : goal.shape_of-out_values
-shape_of-out_values c = (c.loop-r.invariant.pushed _ _ _ _ c.requires.behind).long-values ∙ sym c.requires.behind.merging.long_values
+shape_of-out_values c = (c.loop-r.invariant.pushed _ _ _ _ c.requires.behind).long_values ∙ sym c.requires.behind.merging.long_values
 
 pub returns : goal.returns
 returns c = append-end _ _ _ _ _ _ _ c.requires.movable c.loop-r.invariant c.loop-r-test.false

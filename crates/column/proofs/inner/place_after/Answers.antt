@@ -1,6 +1,5 @@
 use mathlib.Core.Path.{sym}
 use Rattle.num.proofs.Bits.{bits-eq_z, bits_ne_z}
-use borrow.Author.Rules.{rules}
 use Rattle.column.proofs.inner.place_after.Goals as goal
 
 pub returns-then-value-last : goal.returns-then-value-last

@@ -1,5 +1,4 @@
 use borrow.Author.Tests.{eq-eqb, ne_eqb}
-use borrow.Author.Rules.{rules}
 use Rattle.column.proofs.mask.count_if_one.Goals as goal
 
 pub returns-then-byte-eq1 : goal.returns-then-byte-eq1

@@ -1,7 +1,4 @@
-use Prim.Native.Nat.{◌-◌}
-use lib.ListN.{length}
-use Rattle.column.proofs.Masks.{Listed, listed-none, listed_next, listed-not, listed-all}
-use borrow.Author.Rules.{rules}
+use Rattle.column.proofs.Masks.{listed-none, listed_next, listed-not, listed-all}
 use Rattle.column.proofs.mask.first_unlisted.Goals as goal
 
 pub loop-i-init : goal.loop-i-init

@@ -1,8 +1,5 @@
-use Prim.Native.Nat.{◌-◌}
 use mathlib.Core.Path.{refl}
-use lib.ListN.{length}
-use Rattle.column.proofs.Masks.{Ones, ones_none, ones_next, ones_all}
-use borrow.Author.Rules.{rules}
+use Rattle.column.proofs.Masks.{ones_none, ones_next, ones_all}
 use Rattle.column.proofs.mask.mask_ones.Goals as goal
 
 pub loop-i-init : goal.loop-i-init

@@ -1,7 +1,6 @@
 use mathlib.Core.Path.{◌∙◌}
 use Rattle.num.proofs.Bits.{back}
 use Rattle.column.proofs.Sequences.{before-none, before-some}
-use borrow.Author.Rules.{rules}
 use Rattle.column.proofs.sequence.end_before.Goals as goal
 
 pub returns-then-index-eq0 : goal.returns-then-index-eq0

@@ -3,7 +3,6 @@ use lib.IntN.{pos}
 use lib.ListN.{get_or-eq_default}
 use mir.Facts.{to_z-of_z}
 use Rattle.num.proofs.Bits.{back, get_d_any}
-use borrow.Author.Rules.{rules}
 use Rattle.column.proofs.sequence.entry_or.Goals as goal
 
 pub returns-then-index-entries : goal.returns-then-index-entries

@@ -1,7 +1,6 @@
 use mathlib.Core.Path.{sym, ◌∙◌}
 use Rattle.num.proofs.Bits.{back}
 use Rattle.column.proofs.Sequences.{length_none, length_last}
-use borrow.Author.Rules.{rules}
 use Rattle.column.proofs.sequence.length.Goals as goal
 
 pub returns-then-n-eq0 : goal.returns-then-n-eq0

@@ -16,7 +16,7 @@ push-merged-requires : tie.Need-push-merged-requires
 push-merged-requires c κs = let test = c.before.before in
     let s = test.before.before.before.requires in
     let q = s.1 in
-    stretch-room q.written q.room-ends q.room-values (omega (arith, q.within)) _ s.0 q.within
+    stretch-room q.written q.room_ends q.room_values (omega (arith, q.within)) _ s.0 q.within
     (test.before.all-equal.ensures test.if1.true) (omega arith)
 
 push-values-requires : tie.Need-push-values-requires
@@ -33,7 +33,7 @@ returns c = let push = c.before.before in
     let test = push.before.before.before in
     let s = test.before.before.before.requires in
     let q = s.1 in
-    encoded_stretch q.written q.room-ends q.room-values (omega (arith, q.within)) _ s.0 q.within
+    encoded_stretch q.written q.room_ends q.room_values (omega (arith, q.within)) _ s.0 q.within
     (test.before.all-equal.ensures test.if1.true) push.push-merged.ensures (to_z_pos w64 (omega arith))
 
 same-length-3 : tie.Need-same-length-3

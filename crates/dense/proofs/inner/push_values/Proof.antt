@@ -36,7 +36,7 @@ push-merged-requires : tie.Need-push-merged-requires invariant-loop decreases-lo
 push-merged-requires c κs = let l = c.before.before.before.before.loop in
     let s = c.before.before.before.before.before.requires in
     let h = c.before.before.before.loop-test.true in
-    value_room l.invariant.2 s.room-ends s.room-values (omega arith) (omega arith) (back _ c.before.before.value.given) (omega arith)
+    value_room l.invariant.2 s.room_ends s.room_values (omega arith) (omega arith) (back _ c.before.before.value.given) (omega arith)
 
 loop-less : tie.Need-loop-smaller invariant-loop decreases-loop
 loop-less c = search rules
@@ -47,15 +47,15 @@ loop-again c = let l = c.before.before.before.before.before.before.before in
     let h = c.before.before.before.before.before.before.loop-test.true in (
       omega arith,
       omega arith,
-      encoded_value l.loop.invariant.2 s.room-ends s.room-values (omega arith) (omega arith)
+      encoded_value l.loop.invariant.2 s.room_ends s.room_values (omega arith) (omega arith)
           (back _ c.before.before.before.before.before.value.given) c.before.before.push-merged.ensures (to_z_pos w64 (omega arith)),
     )
 
 same_length : tie.Need-same-length invariant-loop decreases-loop
-same_length c = let s = c.before.before.requires in (encoded_long c.before.loop.invariant.2 s.room-ends s.room-values (omega arith)).0
+same_length c = let s = c.before.before.requires in (encoded_long c.before.loop.invariant.2 s.room_ends s.room_values (omega arith)).0
 
 same-length-2 : tie.Need-same-length-2 invariant-loop decreases-loop
-same-length-2 c = let s = c.before.before.requires in (encoded_long c.before.loop.invariant.2 s.room-ends s.room-values (omega arith)).1
+same-length-2 c = let s = c.before.before.requires in (encoded_long c.before.loop.invariant.2 s.room_ends s.room_values (omega arith)).1
 
 returns : tie.Need-returns invariant-loop decreases-loop
 returns c = let e : c.before.loop.i ≡ c.before.before.args.to = omega arith in rw e at c.before.loop.invariant.2

@@ -31,8 +31,8 @@ record Inv (runs values e₀ v₀ e v : List ℤ) (end : ℤ) (n i : ℕ) : Type
   reached : end ≡ pos p
   within : i ≤ length runs
   few : n ≤ i
-  long-ends : length e ≡ length e₀
-  long-values : length v ≡ length v₀
+  long_ends : length e ≡ length e₀
+  long_values : length v ≡ length v₀
 
 inv-start : (runs values e₀ v₀ : List ℤ) → run_by_run 0 0 runs ≡ none → Inv runs values e₀ v₀ e₀ v₀ (pos 0) 0 0
 inv-start runs values e₀ v₀ h = record {
@@ -44,8 +44,8 @@ inv-start runs values e₀ v₀ h = record {
   reached = refl;
   within = omega arith;
   few = omega arith;
-  long-ends = refl;
-  long-values = refl;
+  long_ends = refl;
+  long_values = refl;
 }
 
 module _ {runs values e₀ v₀ e v : List ℤ} {end : ℤ} {n i : ℕ} (m : Inv runs values e₀ v₀ e v end n i) where
@@ -85,8 +85,8 @@ module _ {runs values e₀ v₀ e v : List ℤ} {end : ℤ} {n i : ℕ} (m : Inv
           reached = q;
           within = omega arith;
           few = let s = put_few d in omega (arith, m.few);
-          long-ends = put_long_ends d ∙ m.long-ends;
-          long-values = put_long_values d ∙ m.long-values;
+          long_ends = put_long_ends d ∙ m.long_ends;
+          long_values = put_long_values d ∙ m.long_values;
         }
 
 abbrev invariant-loop : tie.invariant-loop
@@ -118,7 +118,7 @@ put-run-requires c κs = let test = c.before.before.before.before in
     let l = test.before in
     let inv = l.loop.invariant in
     let t = test.loop-test.true in
-    (omega (arith, t, inv.few, inv.long-ends, l.before.requires.2), omega (arith, t, inv.few, inv.long-values, l.before.requires.3))
+    (omega (arith, t, inv.few, inv.long_ends, l.before.requires.2), omega (arith, t, inv.few, inv.long_values, l.before.requires.3))
 
 add-i : tie.Need-overflow-add-i invariant-loop decreases-loop
 add-i c = search rules
@@ -138,10 +138,10 @@ loop-again c = let put = c.before.before in
     inv-more l.loop.invariant t s.0 s.2 s.3 r (back _ value.value.given) (to_z-of_z (inv-fits l.loop.invariant t r)) put.put-run.ensures
 
 same_length : tie.Need-same-length invariant-loop decreases-loop
-same_length c = c.before.loop.invariant.long-ends
+same_length c = c.before.loop.invariant.long_ends
 
 same-length-2 : tie.Need-same-length-2 invariant-loop decreases-loop
-same-length-2 c = c.before.loop.invariant.long-values
+same-length-2 c = c.before.loop.invariant.long_values
 
 returns : tie.Need-returns invariant-loop decreases-loop
 returns c = inv-end c.before.loop.invariant c.loop-test.false

@@ -6,7 +6,7 @@ use lib.ListN.{get_or, take, drop, length-set, length}
 use Rattle.num.proofs.Bits.{back}
 use Rattle.column.specs.Runs.{Runs, runs_of, Filled}
 use Rattle.getitems.specs.Calls.{interval_runs}
-use Rattle.column.proofs.Laying.{Laying, laying-start, laying-room, laying-next, laying-end}
+use Rattle.column.proofs.Laying.{Laying, laying_start, laying-room, laying-next, laying_end}
 use Rattle.column.proofs.Blocks.{block_start}
 use Rattle.getitems.specs.Workers.{Kept}
 use Rattle.getitems.proofs.Items.{length-items, item_sliceable, item-filled}
@@ -36,7 +36,7 @@ room : (c : tie.In-loop invariant-loop decreases-loop) → let l = c.before in
 room c = let l = c.before in
     let s = l.before.before in
     let r = laying-room l.loop.invariant.0 (rw (items l) c.loop-test.true) in
-    (rw l.loop.invariant.0.long-ends (r _ s.requires.room-ends), rw l.loop.invariant.0.long-values (r _ s.requires.room-values))
+    (rw l.loop.invariant.0.long_ends (r _ s.requires.room_ends), rw l.loop.invariant.0.long_values (r _ s.requires.room_values))
 
 -- what the worker left in the rest of the buffers
 wrote : (c : tie.After-slice-at invariant-loop decreases-loop) → let l = c.before.before.before.before.before.before.before.before.before in
@@ -54,10 +54,10 @@ wrote c = let p = c.before.before.before.before.before.before in
     (back _ p.before.start.given) (back _ p.stop.given) c.slice_at.ensures
 
 slice-write-out-offsets : tie.Need-slice-write-out-offsets invariant-loop decreases-loop
-slice-write-out-offsets c = omega (arith, c.before.requires.room-offsets)
+slice-write-out-offsets c = omega (arith, c.before.requires.room_offsets)
 
 loop-holds : tie.Need-loop-init invariant-loop decreases-loop
-loop-holds c = (laying-start c.before.args.out-offsets.now (omega (arith, c.before.requires.room-offsets)) _ _ _, block_start refl)
+loop-holds c = (laying_start c.before.args.out-offsets.now (omega (arith, c.before.requires.room_offsets)) _ _ _, block_start refl)
 
 mul-start : tie.Need-overflow-mul-start invariant-loop decreases-loop
 mul-start c = search rules
@@ -116,18 +116,18 @@ slice-at-requires c κs = let f = c.before.before.before in
 add-used : tie.Need-overflow-add-used invariant-loop decreases-loop
 add-used c = let w = c.before.before in
     let n = w.before.before.before.before.before.before.before.before in
-    omega (arith, (room n).0, (wrote w).count, n.before.loop.invariant.0.long-ends, n.before.before.before.well-formed)
+    omega (arith, (room n).0, (wrote w).count, n.before.loop.invariant.0.long_ends, n.before.before.before.well-formed)
 
 add-i : tie.Need-overflow-add-i invariant-loop decreases-loop
 add-i c = search rules
 
 mul-out-offsets : tie.Need-overflow-mul-out-offsets invariant-loop decreases-loop
 mul-out-offsets c = let l = c.before.before.before.before.before.before.before.before.before.before.before in
-    omega (arith, l.before.before.requires.room-offsets)
+    omega (arith, l.before.before.requires.room_offsets)
 
 slice-write-out-offsets-2 : tie.Need-slice-write-out-offsets-2 invariant-loop decreases-loop
 slice-write-out-offsets-2 c = let l = c.before.before.before.before.before.before.before.before.before.before.before in
-    omega (arith, l.before.before.requires.room-offsets, l.loop.invariant.0.long-offsets, length-set l.before.before.args.out-offsets.now 0 0)
+    omega (arith, l.before.before.requires.room_offsets, l.loop.invariant.0.long_offsets, length-set l.before.before.args.out-offsets.now 0 0)
 
 loop-less : tie.Need-loop-smaller invariant-loop decreases-loop
 loop-less c = search rules
@@ -138,24 +138,24 @@ loop-again c = let w = c.before.before in
     let n = f.before.before.before.before in
     let l = n.before in
     let s = l.before.before in (
-      laying-next l.loop.invariant.0 (rw (items l) n.loop-test.true) (wrote w) s.requires.room-ends s.requires.room-values
-          (rw (items l, length-set s.args.out-offsets.now 0 0) (omega (arith, s.requires.room-offsets))),
+      laying-next l.loop.invariant.0 (rw (items l) n.loop-test.true) (wrote w) s.requires.room_ends s.requires.room_values
+          (rw (items l, length-set s.args.out-offsets.now 0 0) (omega (arith, s.requires.room_offsets))),
       f.find-next.ensures.2,
     )
 
 same_length : tie.Need-same-length invariant-loop decreases-loop
-same_length c = rw length-set at c.before.loop.invariant.0.long-offsets
+same_length c = rw length-set at c.before.loop.invariant.0.long_offsets
 
 same-length-2 : tie.Need-same-length-2 invariant-loop decreases-loop
-same-length-2 c = c.before.loop.invariant.0.long-ends
+same-length-2 c = c.before.loop.invariant.0.long_ends
 
 same-length-3 : tie.Need-same-length-3 invariant-loop decreases-loop
-same-length-3 c = c.before.loop.invariant.0.long-values
+same-length-3 c = c.before.loop.invariant.0.long_values
 
 returns : tie.Need-returns invariant-loop decreases-loop
 returns c = let l = c.before in
     let s = l.before.before in
-    laying-end s.args.out-offsets.now (omega (arith, s.requires.room-offsets)) l.loop.invariant.0 (rw (items l) c.loop-test.false)
+    laying_end s.args.out-offsets.now (omega (arith, s.requires.room_offsets)) l.loop.invariant.0 (rw (items l) c.loop-test.false)
 
 pub getitems-spec : {M : Type 1} → statement M
 getitems-spec =

@@ -12,7 +12,7 @@ use Rattle.slice.specs.Workers.{touched_by, Touches}
 use Rattle.slice.specs.declared.inner.search.TouchedRuns.{TouchedRuns}
 use Rattle.slice.proofs.Slicing.{next_fits}
 use Rattle.slice.proofs.Touching.{Clamped, clamped-told}
-use Rattle.getitems.proofs.Until.{Until, count_none, count-some, held-touched, slice-none, until_touches, until_start, until-more, until-next, until_end}
+use Rattle.getitems.proofs.Until.{Until, count_none, count-some, held-touched, slice_none, until_touches, until_start, until-more, until-next, until_end}
 use borrow.Author.Rules.{rules}
 use Rattle.getitems.proofs.inner.slice_at.Statement.{statement}
 use Rattle.getitems.proofs.inner.slice_at.Tie as tie
@@ -62,7 +62,7 @@ clamped-requires : tie.Need-clamped-requires invariant-loop decreases-loop
 clamped-requires c κs = search rules
 
 returns : tie.Need-returns invariant-loop decreases-loop
-returns c = let s = c.before.before.before.before in slice-none s.requires (count_none (interval c.before) s.requires.valid c.if1.true)
+returns c = let s = c.before.before.before.before in slice_none s.requires (count_none (interval c.before) s.requires.valid c.if1.true)
 
 loop-holds : tie.Need-loop-init invariant-loop decreases-loop
 loop-holds c = let s = c.before.before.before.before in until_start s.requires (held c) (count-some (interval c.before) s.requires.valid c.if1.false)
@@ -99,14 +99,14 @@ mul-t17 c = omega (arith, inside c.before.before.before)
 
 slice-set-from-out-ends : tie.Need-slice-set-from-out-ends invariant-loop decreases-loop
 slice-set-from-out-ends c = let i = c.before.before.before in
-    omega (arith, one i, i.before.loop.invariant.slicing.ends.long, (room i.before.before).room-ends)
+    omega (arith, one i, i.before.loop.invariant.slicing.ends.long, (room i.before.before).room_ends)
 
 mul-value-2 : tie.Need-overflow-mul-value-2 invariant-loop decreases-loop
 mul-value-2 c = omega (arith, inside c.before.before.before)
 
 slice-set-from-value : tie.Need-slice-set-from-value invariant-loop decreases-loop
 slice-set-from-value c = let i = c.before.before.before in
-    omega (arith, one i, i.before.loop.invariant.slicing.values.long, (room i.before.before).room-values)
+    omega (arith, one i, i.before.loop.invariant.slicing.values.long, (room i.before.before).room_values)
 
 add-n : tie.Need-overflow-add-n invariant-loop decreases-loop
 add-n c = omega (arith, inside c.before.before.before)

@@ -50,7 +50,7 @@ kind-requires c κs = search rules
 slice-write-out-kinds : tie.Need-slice-write-out-kinds invariant-loop decreases-loop
 slice-write-out-kinds c = let n = c.before.before.before.before in
     let l = n.before in
-    omega (arith, l.loop.invariant.kinds.long, l.before.before.before.requires.room-kinds, n.loop-test.true)
+    omega (arith, l.loop.invariant.kinds.long, l.before.before.before.requires.room_kinds, n.loop-test.true)
 
 bits-requires : tie.Need-bits-requires invariant-loop decreases-loop
 bits-requires c κs = c.before.reduce-slice.ensures.1
@@ -61,7 +61,7 @@ mul-out-bits c = search rules
 slice-write-out-bits : tie.Need-slice-write-out-bits invariant-loop decreases-loop
 slice-write-out-bits c = let n = c.before.before.before.before.before in
     let l = n.before in
-    omega (arith, l.loop.invariant.bits.long, l.before.before.before.requires.room-bits, n.loop-test.true)
+    omega (arith, l.loop.invariant.bits.long, l.before.before.before.requires.room_bits, n.loop-test.true)
 
 add-i : tie.Need-overflow-add-i invariant-loop decreases-loop
 add-i c = search rules
@@ -78,7 +78,7 @@ loop-again c = let w = c.before.before in
     let p = s.requires in
     let a = s.args in
     let m = many s in
-    filling_next l.loop.invariant (rw m n.loop-test.true) (rw m p.room-kinds) (rw m p.room-bits)
+    filling_next l.loop.invariant (rw m n.loop-test.true) (rw m p.room_kinds) (rw m p.room_bits)
     _ (interval_reduced a.starts.now a.stops.now (runs_of a.ends.now a.values.now) a.code _ p.intervals l.loop.i
     n.loop-test.true (back _ t.before.start.given) (back _ t.stop.given) w.reduce-slice.ensures.0) c.before.kind.ensures
     c.bits.ensures

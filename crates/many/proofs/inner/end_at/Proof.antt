@@ -1,5 +1,5 @@
 use Rattle.num.proofs.Bits.{end_nat, end_cast}
-use Rattle.many.proofs.Entries.{end-natural, end-inside, end-past}
+use Rattle.many.proofs.Entries.{end_natural, end-inside, end-past}
 use borrow.Author.Rules.{rules}
 use Rattle.many.proofs.inner.end_at.Statement.{statement}
 use Rattle.many.proofs.inner.end_at.Tie as tie
@@ -14,13 +14,13 @@ shared-slice-copy-out-end : tie.Need-shared-slice-copy-out-end
 shared-slice-copy-out-end c = search rules
 
 cast-result : tie.Need-overflow-cast-result
-cast-result c = let q = c.before.before.requires in end_cast (end-natural _ _ _ _ q.0 q.1 c.before.if1.true) c.end.given
+cast-result c = let q = c.before.before.requires in end_cast (end_natural _ _ _ _ q.0 q.1 c.before.if1.true) c.end.given
 
 returns : tie.Need-returns
 returns c =
     let q = c.before.before.requires in
     let inside = c.before.if1.true in
-    let end = end_nat (end-natural _ _ _ _ q.0 q.1 inside) c.end.given in
+    let end = end_nat (end_natural _ _ _ _ q.0 q.1 inside) c.end.given in
     end-inside _ _ _ _ q.0 q.1 inside end (record { sfits = c.end.given })
 
 returns-2 : tie.Need-returns-2

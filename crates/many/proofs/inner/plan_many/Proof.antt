@@ -32,9 +32,9 @@ plan-walk-requires : tie.Need-plan-walk-requires
 plan-walk-requires c κs =
     let q = c.before.before.before.before.before.before.before.requires in (
       record { offsets = q.offsets; valid = q.valid; first = take-zeros _ 128 q.columns },
-      record { paired = q.paired; room-ends = refl; room-values = length_front (pos 0) _ 128 q.columns ∙ sym (length_front 0 _ 128 q.columns) },
-      q.room-ends,
-      q.room-indexes,
+      record { paired = q.paired; room_ends = refl; room_values = length_front (pos 0) _ 128 q.columns ∙ sym (length_front 0 _ 128 q.columns) },
+      q.room_ends,
+      q.room_indexes,
     )
 
 same_length : tie.Need-same-length

@@ -6,7 +6,7 @@ use mir.Syntax.{w64}
 use Rattle.plan.proofs.Segments.{left}
 use Rattle.many.specs.Workers.{places_of, Kept}
 use Rattle.many.proofs.Planning.{Planning, planning-start, planning-end, planning-ends, planning-indexes, planning-next}
-use Rattle.many.proofs.Walking.{walk-placed, walk-less}
+use Rattle.many.proofs.Walking.{walk_placed, walk-less}
 use Rattle.many.proofs.inner.plan_walk.Statement.{statement}
 use Rattle.many.proofs.inner.plan_walk.Tie as tie
 
@@ -33,12 +33,12 @@ abbrev begun : tie.At-loop invariant-loop decreases-loop → tie.Start invariant
 begun l = start (reading (stepped l))
 
 read-current-requires : tie.Need-read-current-requires invariant-loop decreases-loop
-read-current-requires c κs = let s = c.before.before.before.before.before.before.before in (walk-placed _ _ s.requires.0, s.requires.1)
+read-current-requires c κs = let s = c.before.before.before.before.before.before.before in (walk_placed _ _ s.requires.0, s.requires.1)
 
 step-requires : tie.Need-step-requires invariant-loop decreases-loop
 step-requires c κs = let read = c.before.before.before.before.before.before in
     let s = start read in
-    (walk-placed _ _ s.pre.0, s.pre.1.paired, read.read-current.ensures, omega arith)
+    (walk_placed _ _ s.pre.0, s.pre.1.paired, read.read-current.ensures, omega arith)
 
 loop-holds : tie.Need-loop-init invariant-loop decreases-loop
 loop-holds c = let first = c.before.before.before.before.before in
@@ -93,17 +93,17 @@ loop-again c = let next = c.before.before.before.before.before in
     )
 
 same_length : tie.Need-same-length invariant-loop decreases-loop
-same_length c = let l = c.before in omega (arith, l.loop.invariant.0.walk.placed.count, (walk-placed _ _ (begun l).requires.0).count)
+same_length c = let l = c.before in omega (arith, l.loop.invariant.0.walk.placed.count, (walk_placed _ _ (begun l).requires.0).count)
 
 same-length-2 : tie.Need-same-length-2 invariant-loop decreases-loop
 same-length-2 c = let l = c.before in
     let s = begun l in
-    omega (arith, l.loop.invariant.0.walk.placed.count, (walk-placed _ _ s.pre.0).count, l.loop.invariant.1.long-ends, s.pre.1.room-ends)
+    omega (arith, l.loop.invariant.0.walk.placed.count, (walk_placed _ _ s.pre.0).count, l.loop.invariant.1.long_ends, s.pre.1.room_ends)
 
 same-length-3 : tie.Need-same-length-3 invariant-loop decreases-loop
 same-length-3 c = let l = c.before in
     let s = begun l in
-    omega (arith, l.loop.invariant.0.walk.placed.count, (walk-placed _ _ s.pre.0).count, l.loop.invariant.1.long-values, s.pre.1.room-values)
+    omega (arith, l.loop.invariant.0.walk.placed.count, (walk_placed _ _ s.pre.0).count, l.loop.invariant.1.long_values, s.pre.1.room_values)
 
 same-length-4 : tie.Need-same-length-4 invariant-loop decreases-loop
 same-length-4 c = let l = c.before in l.loop.invariant.0.ends.long

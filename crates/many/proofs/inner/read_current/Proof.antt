@@ -61,13 +61,13 @@ mul-current : tie.Need-overflow-mul-current invariant-loop decreases-loop
 mul-current c = search rules
 
 slice-write-current : tie.Need-slice-write-current invariant-loop decreases-loop
-slice-write-current c = let t = c.before.before.before.before.before in omega (arith, t.before.loop.invariant.long-ends, t.loop-test.true)
+slice-write-current c = let t = c.before.before.before.before.before in omega (arith, t.before.loop.invariant.long_ends, t.loop-test.true)
 
 mul-value : tie.Need-overflow-mul-value invariant-loop decreases-loop
 mul-value c = search rules
 
 slice-set-from-value : tie.Need-slice-set-from-value invariant-loop decreases-loop
-slice-set-from-value c = let t = c.before.before.before.before.before in omega (arith, t.before.loop.invariant.long-values, t.loop-test.true)
+slice-set-from-value c = let t = c.before.before.before.before.before in omega (arith, t.before.loop.invariant.long_values, t.loop-test.true)
 
 add-c : tie.Need-overflow-add-c invariant-loop decreases-loop
 add-c c = search rules
@@ -80,10 +80,10 @@ loop-again c = let t = c.before.before.before.before.before in
     kept_more t.before.loop.invariant t.loop-test.true c.before.end-at.ensures (back _ c.value-at.type-inv ∙ c.value-at.ensures)
 
 same_length : tie.Need-same-length invariant-loop decreases-loop
-same_length c = let l = c.before in omega (arith, l.loop.invariant.long-ends, (start l).requires.1.room-ends)
+same_length c = let l = c.before in omega (arith, l.loop.invariant.long_ends, (start l).requires.1.room_ends)
 
 same-length-2 : tie.Need-same-length-2 invariant-loop decreases-loop
-same-length-2 c = let l = c.before in omega (arith, l.loop.invariant.long-values, (start l).requires.1.room-values)
+same-length-2 c = let l = c.before in omega (arith, l.loop.invariant.long_values, (start l).requires.1.room_values)
 
 returns : tie.Need-returns invariant-loop decreases-loop
 returns c = let l = c.before in rw (to_z-of_z (start l).ranges.fill) at (kept_fewer l.loop.invariant _ c.loop-test.false)

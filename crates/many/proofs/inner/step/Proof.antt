@@ -63,10 +63,10 @@ same_length : tie.Need-same-length invariant-loop decreases-loop
 same_length c = step-long c.before.loop.invariant.0
 
 same-length-2 : tie.Need-same-length-2 invariant-loop decreases-loop
-same-length-2 c = let l = c.before in let k = l.loop.invariant in omega (arith, step-long k.0, k.1.long-ends, (start l).requires.2.long-ends)
+same-length-2 c = let l = c.before in let k = l.loop.invariant in omega (arith, step-long k.0, k.1.long_ends, (start l).requires.2.long_ends)
 
 same-length-3 : tie.Need-same-length-3 invariant-loop decreases-loop
-same-length-3 c = let l = c.before in let k = l.loop.invariant in omega (arith, step-long k.0, k.1.long-values, (start l).requires.2.long-values)
+same-length-3 c = let l = c.before in let k = l.loop.invariant in omega (arith, step-long k.0, k.1.long_values, (start l).requires.2.long_values)
 
 returns : tie.Need-returns invariant-loop decreases-loop
 returns c = let l = c.before in

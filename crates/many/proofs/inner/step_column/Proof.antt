@@ -11,7 +11,7 @@ mul-end : tie.Need-overflow-mul-end
 mul-end c = search rules
 
 slice-read-end : tie.Need-slice-read-end
-slice-read-end c = let s = c.before.before.before.before in omega (arith, s.requires.3.long-ends, s.requires.1)
+slice-read-end c = let s = c.before.before.before.before in omega (arith, s.requires.3.long_ends, s.requires.1)
 
 returns : tie.Need-returns
 returns c = let s = c.before.before.before.before.before in column-stays s.requires.3 s.requires.1 c.if1.true
@@ -62,13 +62,13 @@ mul-current : tie.Need-overflow-mul-current
 mul-current c = search rules
 
 slice-write-current : tie.Need-slice-write-current
-slice-write-current c = let q = (start c.before.before.before.before.before).requires in omega (arith, q.3.long-ends, q.1)
+slice-write-current c = let q = (start c.before.before.before.before.before).requires in omega (arith, q.3.long_ends, q.1)
 
 mul-value : tie.Need-overflow-mul-value
 mul-value c = search rules
 
 slice-set-from-value : tie.Need-slice-set-from-value
-slice-set-from-value c = let q = (start c.before.before.before.before.before).requires in omega (arith, q.3.long-values, q.1)
+slice-set-from-value c = let q = (start c.before.before.before.before.before).requires in omega (arith, q.3.long_values, q.1)
 
 same_length : tie.Need-same-length
 same_length c = search rules

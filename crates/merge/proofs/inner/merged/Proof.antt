@@ -20,7 +20,7 @@ ready : (c : tie.After-first) → let a = c.before.before.before.args in
     Ready a.ends.now a.values.now a.out-ends.now a.out-values.now (to_z w64 (of_z w64 (get_or a.values.now 0 (pos 0))))
 ready c =
     let q = c.before.before.before.requires in
-    record { valid = q.0; paired = q.1; room-ends = q.2; room-values = q.3; starts = back _ c.first.given }
+    record { valid = q.0; paired = q.1; room_ends = q.2; room_values = q.3; starts = back _ c.first.given }
 
 length-requires : tie.Need-length-requires
 length-requires c κs = search rules

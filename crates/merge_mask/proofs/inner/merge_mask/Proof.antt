@@ -58,11 +58,11 @@ add-result : tie.Need-overflow-add-result invariant-loop decreases-loop
 add-result c = omega (arith, c.before.before.loop.invariant.1.merging.few, c.before.before.loop.invariant.1.within)
 
 same_length : tie.Need-same-length invariant-loop decreases-loop
-same_length c = let l = c.before.before in omega (arith, l.loop.invariant.1.merging.long-ends, (wrote_long l.before.before.before.write-run.ensures).0)
+same_length c = let l = c.before.before in omega (arith, l.loop.invariant.1.merging.long_ends, (wrote_long l.before.before.before.write-run.ensures).0)
 
 same-length-2 : tie.Need-same-length-2 invariant-loop decreases-loop
 same-length-2 c = let l = c.before.before in
-    omega (arith, l.loop.invariant.1.merging.long-values, (wrote_long l.before.before.before.write-run.ensures).1)
+    omega (arith, l.loop.invariant.1.merging.long_values, (wrote_long l.before.before.before.write-run.ensures).1)
 
 returns-2 : tie.Need-returns-2 invariant-loop decreases-loop
 returns-2 c = let l = c.before.before in

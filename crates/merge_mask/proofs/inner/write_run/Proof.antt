@@ -9,7 +9,7 @@ use Rattle.merge_mask.proofs.inner.write_run.Tie as tie
 
 kept_run : (c : tie.After-end) → c.before.kept-after.result < length c.before.before.before.args.values.now
 kept_run c = let s = c.before.before.before in
-    omega (arith, c.before.kept-after.ensures, kept_le s.args.joins s.args.last s.requires.kept, s.requires.run-values)
+    omega (arith, c.before.kept-after.ensures, kept_le s.args.joins s.args.last s.requires.kept, s.requires.run_values)
 
 place-after-requires : tie.Need-place-after-requires
 place-after-requires c κs = search rules

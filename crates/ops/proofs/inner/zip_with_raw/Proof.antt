@@ -59,21 +59,21 @@ few : (c : tie.Then1 invariant-loop decreases-loop) → let l = c.before.before 
 few c = let l = c.before.before in omega (arith, listed-few _ _ _ _ _ _ _ _ _ (start l).requires l.loop.invariant, left c)
 
 mul-end : tie.Need-overflow-mul-end invariant-loop decreases-loop
-mul-end c = let t = c.before.before.before in let s = start t.before.before in omega (arith, few t, s.pre.room-ends, s.good)
+mul-end c = let t = c.before.before.before in let s = start t.before.before in omega (arith, few t, s.pre.room_ends, s.good)
 
 slice-set-from-end : tie.Need-slice-set-from-end invariant-loop decreases-loop
-slice-set-from-end c = let t = c.before.before.before in let l = t.before.before in omega (arith, few t, l.loop.invariant.ends.long, (start l).requires.room-ends)
+slice-set-from-end c = let t = c.before.before.before in let l = t.before.before in omega (arith, few t, l.loop.invariant.ends.long, (start l).requires.room_ends)
 
 mul-value : tie.Need-overflow-mul-value invariant-loop decreases-loop
-mul-value c = let t = c.before.before.before in let s = start t.before.before in omega (arith, few t, s.pre.room-ends, s.good)
+mul-value c = let t = c.before.before.before in let s = start t.before.before in omega (arith, few t, s.pre.room_ends, s.good)
 
 slice-set-from-value : tie.Need-slice-set-from-value invariant-loop decreases-loop
 slice-set-from-value c = let t = c.before.before.before in
     let l = t.before.before in
-    omega (arith, few t, l.loop.invariant.values.long, (start l).requires.room-values)
+    omega (arith, few t, l.loop.invariant.values.long, (start l).requires.room_values)
 
 add-n : tie.Need-overflow-add-n invariant-loop decreases-loop
-add-n c = let t = c.before.before.before in let s = start t.before.before in omega (arith, few t, s.pre.room-ends, s.good)
+add-n c = let t = c.before.before.before in let s = start t.before.before in omega (arith, few t, s.pre.room_ends, s.good)
 
 loop-less : tie.Need-loop-smaller invariant-loop decreases-loop
 loop-less c = let n = c.before.before.before in

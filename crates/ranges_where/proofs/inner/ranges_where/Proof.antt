@@ -71,10 +71,10 @@ room-starts : (c : tie.After-before2 invariant-loop decreases-loop) → let a = 
     length a.ends.now ≤ length (set a.out-starts.now 0 (to_z w64 (of_z w64 c.before.end_before.result)))
 room-starts c = rw length-set c.before.before.before.before.requires.4
 
-room-ends : (c : tie.After-before2 invariant-loop decreases-loop) → let f = c.before.before.before in
+room_ends : (c : tie.After-before2 invariant-loop decreases-loop) → let f = c.before.before.before in
     let a = f.before.args in
     length a.ends.now ≤ length (set a.out-ends.now 0 (to_z w64 (of_z w64 (get_or a.ends.now f.first-passing.result (pos 0)))))
-room-ends c = rw length-set c.before.before.before.before.requires.5
+room_ends c = rw length-set c.before.before.before.before.requires.5
 
 mul-end : tie.Need-overflow-mul-end invariant-loop decreases-loop
 mul-end c = search rules
@@ -125,7 +125,7 @@ mul-last-end c = let s = c.before.before.before.before.before.before.before.befo
 
 slice-set-from-last-end : tie.Need-slice-set-from-last-end invariant-loop decreases-loop
 slice-set-from-last-end c = let l = c.before.before.before.before.before.before.before in
-    omega (arith, at c, l.loop.invariant.ends.long, room-ends l.before)
+    omega (arith, at c, l.loop.invariant.ends.long, room_ends l.before)
 
 add-r-2 : tie.Need-overflow-add-r-2 invariant-loop decreases-loop
 add-r-2 c = search rules
@@ -143,7 +143,7 @@ loop-again c = let next = c.before.before in
     let s = l.before.before.before.before.before in
     let es = s.args.ends.now in
     range-next _ es s.args.values.now (rising es s.requires.2) s.requires.3 l.loop.invariant t.loop-test.true (room-starts l.before)
-    (room-ends l.before) (holds.holds.ensures ∙ comparison-operation _ _ _ s.requires.0 s.requires.1
+    (room_ends l.before) (holds.holds.ensures ∙ comparison-operation _ _ _ s.requires.0 s.requires.1
     ∙ ap (λ (w : ℤ). eq_z (operation s.args.code w (to_z w64 (of_z w64 s.args.number))) (pos 1)) (back _ value.value.given))
     next.next-range.ensures (back _ up_to_lem.end.given) (start c.before) (end c)
 

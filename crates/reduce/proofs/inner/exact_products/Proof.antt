@@ -10,7 +10,7 @@ use Rattle.num.proofs.Bits.{back}
 use Rattle.column.specs.Runs.{to_nat}
 use Rattle.reduce.specs.Workers.{ExactProducts, ExactRun}
 use Rattle.reduce.proofs.Terms.{product-kept}
-use Rattle.reduce.proofs.Walking.{end-natural, run_fits, run-held, run_small, walked_start, walked_next, exact-next, held_at}
+use Rattle.reduce.proofs.Walking.{end_natural, run_fits, run-held, run_small, walked_start, walked_next, exact-next, held_at}
 use borrow.Author.Rules.{rules}
 use borrow.Author.Tests.{not-false}
 use Rattle.reduce.proofs.inner.exact_products.Statement.{statement}
@@ -50,19 +50,19 @@ shared-slice-copy-out-value : tie.Need-shared-slice-copy-out-value invariant-loo
 shared-slice-copy-out-value c = search rules
 
 is-exact-requires : tie.Need-is-exact-requires invariant-loop decreases-loop
-is-exact-requires c κs = end-natural c.before.before.before.loop.invariant.walked
+is-exact-requires c κs = end_natural c.before.before.before.loop.invariant.walked
 
 returns : tie.Need-returns invariant-loop decreases-loop
 returns c = let l = c.before.before.before.before.before in rw (to_z-of_z l.before.ranges.start) at l.loop.invariant
 
 sub-add-exact-product : tie.Need-overflow-sub-add-exact-product invariant-loop decreases-loop
-sub-add-exact-product c = let e = c.before.before.before in run_fits (end-natural e.before.before.loop.invariant.walked) _ (exact c).rises (end_fits e)
+sub-add-exact-product c = let e = c.before.before.before in run_fits (end_natural e.before.before.loop.invariant.walked) _ (exact c).rises (end_fits e)
 
 add-exact-product-requires : tie.Need-add-exact-product-requires invariant-loop decreases-loop
 add-exact-product-requires c κs = let v = c.before.before in
     let w = v.before.before.before.loop.invariant.walked in
     let x = exact c in
-    (run-held (end-natural w) _ x.rises (end_fits v.before), rw (to_z-of_z (sub-add-exact-product c)) x.short, x.small)
+    (run-held (end_natural w) _ x.rises (end_fits v.before), rw (to_z-of_z (sub-add-exact-product c)) x.short, x.small)
 
 add-i : tie.Need-overflow-add-i invariant-loop decreases-loop
 add-i c = search rules
@@ -80,7 +80,7 @@ loop-again c = let o = c.before in
     let end = back _ v.before.end.given in
     let value = back _ v.value.given in
     let product = c.add-exact-product.ensures in
-    let small = run_small (end-natural w) _ (exact o).rises (end_fits v.before) in
+    let small = run_small (end_natural w) _ (exact o).rises (end_fits v.before) in
     record {
       walked = walked_next w _ (exact o).rises s.requires.0 n.loop-test.true end value (to_z-of_z (sub-add-exact-product o))
           product (rw product (product-kept _ _ _ w.kept small (rw value (record { sfits = v.value.given }))));

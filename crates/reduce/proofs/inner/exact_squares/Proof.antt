@@ -13,7 +13,7 @@ use Rattle.num.proofs.Bits.{back}
 use Rattle.column.specs.Runs.{to_nat, last_from}
 use Rattle.reduce.specs.Workers.{WalkedSquares, ExactRun}
 use Rattle.reduce.proofs.Terms.{square_kept}
-use Rattle.reduce.proofs.Walking.{end-natural, run_fits, run-held, run_small, rising_at, walked_start, walked_next, held_at}
+use Rattle.reduce.proofs.Walking.{end_natural, run_fits, run-held, run_small, rising_at, walked_start, walked_next, held_at}
 use borrow.Author.Rules.{rules}
 use Rattle.reduce.proofs.inner.exact_squares.Statement.{statement}
 use Rattle.reduce.proofs.inner.exact_squares.Tie as tie
@@ -63,7 +63,7 @@ shared-slice-copy-out-end : tie.Need-shared-slice-copy-out-end invariant-loop de
 shared-slice-copy-out-end c = let l = c.before in let s = l.before in omega (arith, s.requires.1.inside)
 
 sub-add-exact-square : tie.Need-overflow-sub-add-exact-square invariant-loop decreases-loop
-sub-add-exact-square c = run_fits (end-natural c.before.before.loop.invariant) _ (rises c) (end_fits c)
+sub-add-exact-square c = run_fits (end_natural c.before.before.loop.invariant) _ (rises c) (end_fits c)
 
 mul-add-exact-square : tie.Need-overflow-mul-add-exact-square invariant-loop decreases-loop
 mul-add-exact-square c = search rules
@@ -74,7 +74,7 @@ shared-slice-copy-out-add-exact-square c = let l = c.before.before in let s = l.
 add-exact-square-requires : tie.Need-add-exact-square-requires invariant-loop decreases-loop
 add-exact-square-requires c κs = let e = c.before in
     let x = exact-run c in
-    (run-held (end-natural e.before.before.loop.invariant) _ (rises e) (end_fits e), rw (to_z-of_z (sub-add-exact-square e)) x.short, x.small)
+    (run-held (end_natural e.before.before.loop.invariant) _ (rises e) (end_fits e), rw (to_z-of_z (sub-add-exact-square e)) x.short, x.small)
 
 add-i : tie.Need-overflow-add-i invariant-loop decreases-loop
 add-i c = search rules
@@ -91,7 +91,7 @@ loop-again c = let e = c.before.before in
     let p = s.requires.1 in
     let g = c.before.add-exact-square-arg.given in
     let square = c.add-exact-square.ensures in
-    let small = run_small (end-natural w) _ (rises e) (end_fits e) in
+    let small = run_small (end_natural w) _ (rises e) (end_fits e) in
     walked_next w _ (rises e) p.paired (omega (arith, n.loop-test.true, p.inside)) (back _ e.end.given) (back _ g) (to_z-of_z (sub-add-exact-square e))
     square (rw square (square_kept _ _ _ _ p.bounded w.kept small (rw (back _ g) (record { sfits = g }))))
 

@@ -15,9 +15,9 @@ use Rattle.column.specs.Runs.{to_nat}
 use Rattle.reduce.specs.Workers.{AllProducts, ProductsOf, Totalled, body_of}
 use Rattle.reduce.specs.Calls.{add_product, plus_zero}
 use Rattle.reduce.proofs.Terms.{product-kept}
-use Rattle.reduce.proofs.Totals.{body_is, body_long, bodies_paired, body_walked, end_in_body, last-end, last-value, walked-paired, walked-inside}
+use Rattle.reduce.proofs.Totals.{body_is, body_long, bodies_paired, body_walked, end_in_body, last-end, last_value, walked-paired, walked-inside}
 use Rattle.reduce.proofs.Totals.{total-none, total-refused, total-passed}
-use Rattle.reduce.proofs.Walking.{end-natural, run_fits, run-natural, walked_next}
+use Rattle.reduce.proofs.Walking.{end_natural, run_fits, run-natural, walked_next}
 use borrow.Author.Rules.{rules}
 use Rattle.reduce.proofs.inner.product_window.Statement.{statement}
 use Rattle.reduce.proofs.inner.product_window.Tie as tie
@@ -71,7 +71,7 @@ rises c = let m = c.before.before.before in
 run : (c : tie.Else3) → let k = c.before.before.before.before in
     let a = k.before.before.before.before.before.before.args in
     SFits w64 (a.window.end -ℤ k.products.result.end)
-run c = let k = c.before.before.before.before in run_fits (end-natural (body k).stopped.walked) _ (rises c) (end-small k.before.before.before)
+run c = let k = c.before.before.before.before in run_fits (end_natural (body k).stopped.walked) _ (rises c) (end-small k.before.before.before)
 
 held : (c : tie.Else3) → let k = c.before.before.before.before in
     let a = k.before.before.before.before.before.before.args in
@@ -158,7 +158,7 @@ shared-slice-copy-out-add-product : tie.Need-shared-slice-copy-out-add-product
 shared-slice-copy-out-add-product c = search rules
 
 add-product-requires : tie.Need-add-product-requires
-add-product-requires c κs = let o = c.before in rw (held o) (run-natural (end-natural (body o.before.before.before.before).stopped.walked) _ (rises o))
+add-product-requires c κs = let o = c.before in rw (held o) (run-natural (end_natural (body o.before.before.before.before).stopped.walked) _ (rises o))
 
 returns-4 : tie.Need-returns-4
 returns-4 c = let o = c.before.before in
@@ -174,8 +174,8 @@ returns-4 c = let o = c.before.before in
     let g = c.before.add-product-arg.given in
     let product = c.add-product.ensures in
     let end = sym (last-end _ _ _ s.requires l _ e) in
-    let value = back _ g ∙ sym (last-value _ _ _ s.requires l _ e) in
-    let natural = run-natural (end-natural (body k).stopped.walked) _ (rises o) in
+    let value = back _ g ∙ sym (last_value _ _ _ s.requires l _ e) in
+    let natural = run-natural (end_natural (body k).stopped.walked) _ (rises o) in
     with-exact k _ _
     (total-passed _ _ _ s.requires
     l (walked_next w _ (rises o) (walked-paired _ _ _ s.requires l w) (walked-inside _ _ _ s.requires l w i) end value (held o)

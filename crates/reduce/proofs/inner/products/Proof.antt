@@ -13,7 +13,7 @@ use Rattle.num.proofs.Bits.{back}
 use Rattle.column.specs.Runs.{to_nat}
 use Rattle.reduce.specs.Workers.{WalkedProducts, StoppedProducts, AllProducts}
 use Rattle.reduce.proofs.Terms.{product-kept}
-use Rattle.reduce.proofs.Walking.{end-natural, run_fits, run-held, run_small, walked_next, stopped-here, stopped-end, held_at}
+use Rattle.reduce.proofs.Walking.{end_natural, run_fits, run-held, run_small, walked_next, stopped-here, stopped-end, held_at}
 use borrow.Author.Rules.{rules}
 use Rattle.reduce.proofs.inner.products.Statement.{statement}
 use Rattle.reduce.proofs.inner.products.Tie as tie
@@ -68,7 +68,7 @@ returns c = let l = c.before.before.before in
     all l.before _ _ _ (stopped-here l.loop.invariant (back _ c.before.end.given) low)
 
 sub-add-product : tie.Need-overflow-sub-add-product invariant-loop decreases-loop
-sub-add-product c = run_fits (end-natural c.before.before.before.loop.invariant) _ (rises c) (end_fits c.before)
+sub-add-product c = run_fits (end_natural c.before.before.before.loop.invariant) _ (rises c) (end_fits c.before)
 
 mul-add-product : tie.Need-overflow-mul-add-product invariant-loop decreases-loop
 mul-add-product c = search rules
@@ -77,7 +77,7 @@ shared-slice-copy-out-add-product : tie.Need-shared-slice-copy-out-add-product i
 shared-slice-copy-out-add-product c = search rules
 
 add-product-requires : tie.Need-add-product-requires invariant-loop decreases-loop
-add-product-requires c κs = let o = c.before in run-held (end-natural o.before.before.before.loop.invariant) _ (rises o) (end_fits o.before)
+add-product-requires c κs = let o = c.before in run-held (end_natural o.before.before.before.loop.invariant) _ (rises o) (end_fits o.before)
 
 add-i : tie.Need-overflow-add-i invariant-loop decreases-loop
 add-i c = search rules
@@ -93,7 +93,7 @@ loop-again c = let o = c.before.before in
     let w = l.loop.invariant in
     let g = c.before.add-product-arg.given in
     let product = c.add-product.ensures in
-    let small = run_small (end-natural w) _ (rises o) (end_fits e) in
+    let small = run_small (end_natural w) _ (rises o) (end_fits e) in
     walked_next w _ (rises o) s.requires.0 e.before.loop-test.true (back _ e.end.given) (back _ g) (to_z-of_z (sub-add-product o))
     product (rw product (product-kept _ _ _ w.kept small (rw (back _ g) (record { sfits = g }))))
 

@@ -13,9 +13,9 @@ use Rattle.num.proofs.Bits.{back}
 use Rattle.column.specs.Runs.{to_nat}
 use Rattle.reduce.specs.Workers.{WalkedSquares, AroundMean, body_of}
 use Rattle.reduce.proofs.Terms.{square_kept}
-use Rattle.reduce.proofs.Totals.{body_is, body_long, bodies_paired, body_walked, body_rises, last-end, last-value, walked-paired, walked-inside}
+use Rattle.reduce.proofs.Totals.{body_is, body_long, bodies_paired, body_walked, body_rises, last-end, last_value, walked-paired, walked-inside}
 use Rattle.reduce.proofs.Totals.{total-passed}
-use Rattle.reduce.proofs.Walking.{end-natural, run_fits, run-natural, walked_next}
+use Rattle.reduce.proofs.Walking.{end_natural, run_fits, run-natural, walked_next}
 use borrow.Author.Rules.{rules}
 use Rattle.reduce.proofs.inner.square_window.Statement.{statement}
 use Rattle.reduce.proofs.inner.square_window.Tie as tie
@@ -51,7 +51,7 @@ rises c = let s = c.before.before.before.before.before in
     rw ((body c).last, take_all (length b) b (omega arith)) (body_rises _ _ _ s.requires.window (some s) s.requires.rising).1
 
 run : (c : tie.After-squares) → SFits w64 (c.before.before.before.before.before.args.window.end -ℤ c.squares.result.end)
-run c = run_fits (end-natural (body c)) _ (rises c) (end-small c.before.before.before)
+run c = run_fits (end_natural (body c)) _ (rises c) (end-small c.before.before.before)
 
 held : (c : tie.After-struct-told3) → let k = c.before in
     let a = k.before.before.before.before.before.args in
@@ -116,7 +116,7 @@ shared-slice-copy-out-add-square : tie.Need-shared-slice-copy-out-add-square
 shared-slice-copy-out-add-square c = search rules
 
 add-square-requires : tie.Need-add-square-requires
-add-square-requires c κs = let k = c.before.before in rw (held c.before) (run-natural (end-natural (body k)) _ (rises k))
+add-square-requires c κs = let k = c.before.before in rw (held c.before) (run-natural (end_natural (body k)) _ (rises k))
 
 returns : tie.Need-returns
 returns c = let d = c.before.before in
@@ -133,8 +133,8 @@ returns c = let d = c.before.before in
     let q = p.window in
     let square = c.add-square.ensures in
     let end = sym (last-end _ _ _ q (some s) _ l) in
-    let value = back _ g ∙ sym (last-value _ _ _ q (some s) _ l) in
-    let natural = run-natural (end-natural (body k)) _ (rises k) in
+    let value = back _ g ∙ sym (last_value _ _ _ q (some s) _ l) in
+    let natural = run-natural (end_natural (body k)) _ (rises k) in
     let t = total-passed _ _ _ q (some s)
     (walked_next w _ (rises k) (walked-paired _ _ _ q (some s) w) (walked-inside _ _ _ q (some s) w i) end value (held d)
     square (rw square (square_kept _ _ _ _ p.bounded w.kept (rw (held d, ← natural) (run k)) (rw (back _ g) (record { sfits = g }))))) j in

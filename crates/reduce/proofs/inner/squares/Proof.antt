@@ -12,7 +12,7 @@ use Rattle.num.proofs.Bits.{back}
 use Rattle.column.specs.Runs.{to_nat, last_from}
 use Rattle.reduce.specs.Workers.{WalkedSquares}
 use Rattle.reduce.proofs.Terms.{square_kept}
-use Rattle.reduce.proofs.Walking.{end-natural, run_fits, run-held, run_small, rising_at, walked_next, held_at}
+use Rattle.reduce.proofs.Walking.{end_natural, run_fits, run-held, run_small, rising_at, walked_next, held_at}
 use borrow.Author.Rules.{rules}
 use Rattle.reduce.proofs.inner.squares.Statement.{statement}
 use Rattle.reduce.proofs.inner.squares.Tie as tie
@@ -58,7 +58,7 @@ shared-slice-copy-out-end : tie.Need-shared-slice-copy-out-end invariant-loop de
 shared-slice-copy-out-end c = let l = c.before in let s = l.before.before.before in omega (arith, s.requires.1.inside)
 
 sub-add-square : tie.Need-overflow-sub-add-square invariant-loop decreases-loop
-sub-add-square c = run_fits (end-natural c.before.before.loop.invariant) _ (rises c) (end_fits c)
+sub-add-square c = run_fits (end_natural c.before.before.loop.invariant) _ (rises c) (end_fits c)
 
 mul-add-square : tie.Need-overflow-mul-add-square invariant-loop decreases-loop
 mul-add-square c = search rules
@@ -67,7 +67,7 @@ shared-slice-copy-out-add-square : tie.Need-shared-slice-copy-out-add-square inv
 shared-slice-copy-out-add-square c = let l = c.before.before in let s = l.before.before.before in omega (arith, s.requires.1.inside, s.requires.1.paired)
 
 add-square-requires : tie.Need-add-square-requires invariant-loop decreases-loop
-add-square-requires c κs = let e = c.before in run-held (end-natural e.before.before.loop.invariant) _ (rises e) (end_fits e)
+add-square-requires c κs = let e = c.before in run-held (end_natural e.before.before.loop.invariant) _ (rises e) (end_fits e)
 
 add-i : tie.Need-overflow-add-i invariant-loop decreases-loop
 add-i c = search rules
@@ -84,7 +84,7 @@ loop-again c = let e = c.before.before in
     let p = s.requires.1 in
     let g = c.before.add-square-arg.given in
     let square = c.add-square.ensures in
-    let small = run_small (end-natural w) _ (rises e) (end_fits e) in
+    let small = run_small (end_natural w) _ (rises e) (end_fits e) in
     walked_next w _ (rises e) p.paired (omega (arith, n.loop-test.true, p.inside)) (back _ e.end.given) (back _ g) (to_z-of_z (sub-add-square e))
     square (rw square (square_kept _ _ _ _ p.bounded w.kept small (rw (back _ g) (record { sfits = g }))))
 

@@ -12,7 +12,7 @@ use Rattle.num.proofs.Tests.{both_true}
 use Rattle.num.proofs.Bits.{back}
 use Rattle.column.specs.Runs.{to_nat}
 use Rattle.reduce.specs.Workers.{WalkedSum}
-use Rattle.reduce.proofs.Walking.{end-natural, run_fits, run-held, walked_start, walked_next, held_at}
+use Rattle.reduce.proofs.Walking.{end_natural, run_fits, run-held, walked_start, walked_next, held_at}
 use borrow.Author.Rules.{rules}
 use borrow.Author.Tests.{not-false}
 use Rattle.reduce.proofs.inner.sum_pairs.Statement.{statement}
@@ -49,7 +49,7 @@ one c = let o = c.before.before in
     let w = l.loop.invariant in
     let end = back _ f.first.given in
     let value = back _ c.before.add-weight-arg.given in
-    let run = to_z-of_z (run_fits (end-natural w) _ (rise o).0 (first_fits f)) in
+    let run = to_z-of_z (run_fits (end_natural w) _ (rise o).0 (first_fits f)) in
     let sum = back _ c.add-weight.type-inv ∙ c.add-weight.ensures in
     walked_next w _ (rise o).0 s.requires.0 (omega (arith, f.before.loop-test.true)) end value run sum tt
 
@@ -81,7 +81,7 @@ returns : tie.Need-returns invariant-loop decreases-loop
 returns c = let l = c.before.before.before.before.before in rw (to_z-of_z l.before.ranges.start) at l.loop.invariant
 
 sub-add-weight : tie.Need-overflow-sub-add-weight invariant-loop decreases-loop
-sub-add-weight c = let f = c.before.before.before in run_fits (end-natural f.before.before.loop.invariant) _ (rise c).0 (first_fits f)
+sub-add-weight c = let f = c.before.before.before in run_fits (end_natural f.before.before.loop.invariant) _ (rise c).0 (first_fits f)
 
 mul-add-weight : tie.Need-overflow-mul-add-weight invariant-loop decreases-loop
 mul-add-weight c = search rules
@@ -92,10 +92,10 @@ shared-slice-copy-out-add-weight c = search rules
 add-weight-requires : tie.Need-add-weight-requires invariant-loop decreases-loop
 add-weight-requires c κs = let o = c.before in
     let l = o.before.before.before.before.before in
-    run-held (end-natural l.loop.invariant) _ (rise o).0 (first_fits o.before.before.before)
+    run-held (end_natural l.loop.invariant) _ (rise o).0 (first_fits o.before.before.before)
 
 sub-add-weight-2 : tie.Need-overflow-sub-add-weight-2 invariant-loop decreases-loop
-sub-add-weight-2 c = let o = c.before.before in run_fits (end-natural (one c)) _ (rise o).1 (second_fits o.before.before)
+sub-add-weight-2 c = let o = c.before.before in run_fits (end_natural (one c)) _ (rise o).1 (second_fits o.before.before)
 
 add-add-weight : tie.Need-overflow-add-add-weight invariant-loop decreases-loop
 add-add-weight c = search rules
@@ -107,7 +107,7 @@ shared-slice-copy-out-add-weight-2 : tie.Need-shared-slice-copy-out-add-weight-2
 shared-slice-copy-out-add-weight-2 c = search rules
 
 add-weight-requires-2 : tie.Need-add-weight-requires-2 invariant-loop decreases-loop
-add-weight-requires-2 c κs = let d = c.before in let o = d.before.before in run-held (end-natural (one d)) _ (rise o).1 (second_fits o.before.before)
+add-weight-requires-2 c κs = let d = c.before in let o = d.before.before in run-held (end_natural (one d)) _ (rise o).1 (second_fits o.before.before)
 
 add-i : tie.Need-overflow-add-i invariant-loop decreases-loop
 add-i c = search rules
@@ -123,7 +123,7 @@ loop-again c = let d = c.before.before in
     let e : l.loop.i + 2 ≡ l.loop.i + 1 + 1 = omega arith in
     let end = back _ f.second.given in
     let value = back _ c.before.add-weight-arg2.given in
-    let run = to_z-of_z (run_fits (end-natural (one d)) _ (rise o).1 (second_fits f)) in
+    let run = to_z-of_z (run_fits (end_natural (one d)) _ (rise o).1 (second_fits f)) in
     let sum = back _ c.add-weight2.type-inv ∙ c.add-weight2.ensures in
     rw e (walked_next (one d) _ (rise o).1 l.before.requires.0 (omega (arith, f.before.before.loop-test.true)) end value run sum tt)
 

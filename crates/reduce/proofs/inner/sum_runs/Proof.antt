@@ -10,7 +10,7 @@ use Rattle.num.proofs.Tests.{le_lt}
 use Rattle.num.proofs.Bits.{back}
 use Rattle.column.specs.Runs.{to_nat}
 use Rattle.reduce.specs.Workers.{WalkedSum}
-use Rattle.reduce.proofs.Walking.{end-natural, run_fits, run-held, walked_next, stopped-here, stopped-end, held_at}
+use Rattle.reduce.proofs.Walking.{end_natural, run_fits, run-held, walked_next, stopped-here, stopped-end, held_at}
 use borrow.Author.Rules.{rules}
 use Rattle.reduce.proofs.inner.sum_runs.Statement.{statement}
 use Rattle.reduce.proofs.inner.sum_runs.Tie as tie
@@ -59,7 +59,7 @@ returns c = let l = c.before.before.before in
     rw (to_z-of_z s.ranges.start) at (stopped-here l.loop.invariant (back _ c.before.end.given) low)
 
 sub-add-weight : tie.Need-overflow-sub-add-weight invariant-loop decreases-loop
-sub-add-weight c = run_fits (end-natural c.before.before.before.loop.invariant) _ (rises c) (end_fits c.before)
+sub-add-weight c = run_fits (end_natural c.before.before.before.loop.invariant) _ (rises c) (end_fits c.before)
 
 mul-add-weight : tie.Need-overflow-mul-add-weight invariant-loop decreases-loop
 mul-add-weight c = search rules
@@ -68,7 +68,7 @@ shared-slice-copy-out-add-weight : tie.Need-shared-slice-copy-out-add-weight inv
 shared-slice-copy-out-add-weight c = search rules
 
 add-weight-requires : tie.Need-add-weight-requires invariant-loop decreases-loop
-add-weight-requires c κs = let o = c.before in run-held (end-natural o.before.before.before.loop.invariant) _ (rises o) (end_fits o.before)
+add-weight-requires c κs = let o = c.before in run-held (end_natural o.before.before.before.loop.invariant) _ (rises o) (end_fits o.before)
 
 add-i : tie.Need-overflow-add-i invariant-loop decreases-loop
 add-i c = search rules

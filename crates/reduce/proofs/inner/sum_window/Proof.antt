@@ -11,9 +11,9 @@ use Rattle.num.proofs.Tests.{le_lt}
 use Rattle.num.proofs.Bits.{back}
 use Rattle.column.specs.Runs.{to_nat}
 use Rattle.reduce.specs.Workers.{StoppedSum, body_of}
-use Rattle.reduce.proofs.Totals.{body_is, body_long, bodies_paired, body_walked, end_in_body, last-end, last-value, walked-paired, walked-inside}
+use Rattle.reduce.proofs.Totals.{body_is, body_long, bodies_paired, body_walked, end_in_body, last-end, last_value, walked-paired, walked-inside}
 use Rattle.reduce.proofs.Totals.{total-none, total-refused, total-passed}
-use Rattle.reduce.proofs.Walking.{end-natural, run_fits, run-natural, walked_next}
+use Rattle.reduce.proofs.Walking.{end_natural, run_fits, run-natural, walked_next}
 use borrow.Author.Rules.{rules}
 use Rattle.reduce.proofs.inner.sum_window.Statement.{statement}
 use Rattle.reduce.proofs.inner.sum_window.Tie as tie
@@ -62,7 +62,7 @@ rises c = let m = c.before.before.before in
 run : (c : tie.Else3) → let k = c.before.before.before.before in
     let a = k.before.before.before.before.before.before.args in
     SFits w64 (a.window.end -ℤ k.sum_runs.result.end)
-run c = let k = c.before.before.before.before in run_fits (end-natural (body k).walked) _ (rises c) (end-small k.before.before.before)
+run c = let k = c.before.before.before.before in run_fits (end_natural (body k).walked) _ (rises c) (end-small k.before.before.before)
 
 held : (c : tie.Else3) → let k = c.before.before.before.before in
     let a = k.before.before.before.before.before.before.args in
@@ -142,7 +142,7 @@ shared-slice-copy-out-add-weight : tie.Need-shared-slice-copy-out-add-weight
 shared-slice-copy-out-add-weight c = search rules
 
 add-weight-requires : tie.Need-add-weight-requires
-add-weight-requires c κs = let o = c.before.before in rw (held o) (run-natural (end-natural (body o.before.before.before.before).walked) _ (rises o))
+add-weight-requires c κs = let o = c.before.before in rw (held o) (run-natural (end_natural (body o.before.before.before.before).walked) _ (rises o))
 
 returns-4 : tie.Need-returns-4
 returns-4 c = let o = c.before.before.before in
@@ -156,7 +156,7 @@ returns-4 c = let o = c.before.before.before in
     let j : k.sum_runs.result.runs + 1 ≡ a.window.count = omega (arith, n.if1.false) in
     let l = n.if1.false in
     let end = sym (last-end _ _ _ s.requires l _ e) in
-    let value = back _ c.before.before.add-weight-arg.given ∙ sym (last-value _ _ _ s.requires l _ e) in
+    let value = back _ c.before.before.add-weight-arg.given ∙ sym (last_value _ _ _ s.requires l _ e) in
     let sum = rw (total-back c.before) at (back _ c.add-weight.type-inv ∙ c.add-weight.ensures) in
     total-passed _ _ _ s.requires l (walked_next w _ (rises o) (walked-paired _ _ _ s.requires l w) (walked-inside _ _ _ s.requires l w i) end value (held o) sum tt)
     j

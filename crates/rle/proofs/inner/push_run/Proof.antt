@@ -18,12 +18,12 @@ add-put-run c = let length = c.before.before in
     let s = part.before.before in
     let a = s.args in
     let q = s.requires in
-    let told = present-length a.ends.now a.values.now a.used q.valid q.room-ends q.room-values in
+    let told = present-length a.ends.now a.values.now a.used q.valid q.room_ends q.room_values in
     let x = back length.length.result length.length.type-inv ∙ told length.length.ensures part.part.ensures in
     push_fits _ _ _ _ q x (to_z-of_z s.ranges.run)
 
 put-run-requires : tie.Need-put-run-requires
-put-run-requires c κs = let q = c.before.before.before.before.before.requires in (q.room-ends, q.room-values)
+put-run-requires c κs = let q = c.before.before.before.before.before.requires in (q.room_ends, q.room_values)
 
 same_length : tie.Need-same-length
 same_length c = search rules
@@ -39,7 +39,7 @@ returns c = let put = c.before.before in
     let a = s.args in
     let q = s.requires in
     let run = to_z-of_z s.ranges.run in
-    let told = present-length a.ends.now a.values.now a.used q.valid q.room-ends q.room-values in
+    let told = present-length a.ends.now a.values.now a.used q.valid q.room_ends q.room_values in
     let x = back length.length.result length.length.type-inv ∙ told length.length.ensures part.part.ensures in
     let end = to_z-of_z (push_fits _ _ _ _ q x run) ∙ push_sum _ _ _ _ q x run in
     push_filled _ _ _ _ q run end (to_z-of_z s.ranges.value) put.put-run.ensures

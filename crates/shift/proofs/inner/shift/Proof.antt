@@ -7,7 +7,7 @@ use mir.Facts.{to_z_pos, to_z-of_z}
 use mir.Syntax.{w64}
 use mir.Val.{to_z, of_z}
 use Rattle.shift.specs.Workers.{Shiftable}
-use Rattle.shift.proofs.Shifting.{LengthKnown, length-known, fill-place, fill-run, fill-kept, filled, shift_none, shift-all, shift_up, shift-down}
+use Rattle.shift.proofs.Shifting.{LengthKnown, length-known, fill_place, fill_run, fill-kept, filled, shift_none, shift-all, shift_up, shift-down}
 use Rattle.shift.proofs.Shifting.{above_zero, up_some, shiftable}
 use borrow.Author.Rules.{rules}
 use Rattle.shift.proofs.inner.shift.Statement.{statement}
@@ -48,7 +48,7 @@ cast-push-merged : tie.Need-overflow-cast-push-merged
 cast-push-merged c = record { sfits = (known c.before.before.before.before.before).fitting }
 
 push-merged-requires : tie.Need-push-merged-requires
-push-merged-requires c κs = let i = c.before.before.before.before in fill-place (some i) (to_z w64 (of_z w64 i.before.before.before.args.fill))
+push-merged-requires c κs = let i = c.before.before.before.before in fill_place (some i) (to_z w64 (of_z w64 i.before.before.before.args.fill))
 
 -- the buffers stay as long, and the place is one of theirs
 kept : (c : tie.After-push-merged) → let a = c.before.before.before.before.before.before.before.before.args in
@@ -71,7 +71,7 @@ returns-2 c = let e = c.before.before.before in
     let i = t.before.before in
     let s = i.before.before.before in
     let k = known i.before in
-    let run = fill-run (some i) (to_z w64 (of_z w64 s.args.fill)) _ (omega (arith, i.if1.false)) e.push-merged.ensures (to_z_pos w64 k.fitting) in
+    let run = fill_run (some i) (to_z w64 (of_z w64 s.args.fill)) _ (omega (arith, i.if1.false)) e.push-merged.ensures (to_z_pos w64 k.fitting) in
     let all = shift-all s.args.ends.now s.args.values.now k.valid s.args.distance s.args.fill
     (omega (arith, by t.before, k.whole, t.if2.true)) in
     rw (k.whole, to_z-of_z s.ranges.fill, all) at (filled (some i) _ run (rw length-replicate (omega (arith, i.if1.false))))

@@ -8,7 +8,7 @@ use mir.Syntax.{w64}
 use mir.Val.{to_z, of_z}
 use Rattle.num.proofs.Bits.{back}
 use Rattle.slice.specs.Calls.{first_end_above}
-use Rattle.shift.proofs.Shifting.{DownCut, found, first-inside, down_appendable, down-long, down-at, down-whole, down-room, down-kept, down-end}
+use Rattle.shift.proofs.Shifting.{DownCut, found, first_inside, down_appendable, down-long, down-at, down-whole, down-room, down-kept, down-end}
 use borrow.Author.Rules.{rules}
 use Rattle.shift.proofs.inner.shift_down.Statement.{statement}
 use Rattle.shift.proofs.inner.shift_down.Tie as tie
@@ -34,7 +34,7 @@ mul-value : tie.Need-overflow-mul-value
 mul-value c = search rules
 
 shared-slice-copy-out-value : tie.Need-shared-slice-copy-out-value
-shared-slice-copy-out-value c = let q = c.before.requires in omega (arith, first-inside q (first c), q.paired)
+shared-slice-copy-out-value c = let q = c.before.requires in omega (arith, first_inside q (first c), q.paired)
 
 part-requires : tie.Need-part-requires
 part-requires c κs = search rules

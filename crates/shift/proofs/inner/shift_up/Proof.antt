@@ -6,7 +6,7 @@ use mir.Facts.{to_z_pos, to_z-of_z}
 use mir.Syntax.{w64}
 use mir.Val.{to_z, of_z}
 use Rattle.num.proofs.Bits.{back}
-use Rattle.shift.proofs.Shifting.{UpCut, found, fill-place, last-inside, up-appendable, up_room, up_kept, up-end}
+use Rattle.shift.proofs.Shifting.{UpCut, found, fill_place, last_inside, up-appendable, up_room, up_kept, up-end}
 use borrow.Author.Rules.{rules}
 use Rattle.shift.proofs.inner.shift_up.Statement.{statement}
 use Rattle.shift.proofs.inner.shift_up.Tie as tie
@@ -27,7 +27,7 @@ cast-push-merged : tie.Need-overflow-cast-push-merged
 cast-push-merged c = let q = c.before.before.requires.1 in omega (arith, q.short, q.fitting)
 
 push-merged-requires : tie.Need-push-merged-requires
-push-merged-requires c κs = let s = c.before.before in fill-place s.requires.1 (to_z w64 (of_z w64 s.args.fill))
+push-merged-requires c κs = let s = c.before.before in fill_place s.requires.1 (to_z w64 (of_z w64 s.args.fill))
 
 sub-first-end-above : tie.Need-overflow-sub-first-end-above
 sub-first-end-above c = let s = c.before.before.before.before.before in omega (arith, s.requires.1.short)
@@ -59,7 +59,7 @@ mul-value c = search rules
 shared-slice-copy-out-value : tie.Need-shared-slice-copy-out-value
 shared-slice-copy-out-value c = let p = c.before.before.before.before.before in
     let q = p.before.before.before.before.before.before.before.before.requires.1 in
-    omega (arith, last-inside q (cut p).first, q.paired)
+    omega (arith, last_inside q (cut p).first, q.paired)
 
 cast-push-merged-2 : tie.Need-overflow-cast-push-merged-2
 cast-push-merged-2 c = let p = c.before.before.before.before.before.before.before.before in

@@ -2,7 +2,7 @@ use Rattle.std.proofs.Common.{◌≡◌, ℕ, ◌-◌, ℤ, ◌∙◌, arith, to
 use Rattle.num.proofs.Bits.{back}
 use Rattle.slice.specs.declared.inner.search.TouchedRuns.{TouchedRuns}
 use Rattle.slice.specs.Workers.{Touches}
-use Rattle.slice.proofs.Slicing.{Slicing, slicing-start, next_fits, slicing-next, slicing-end}
+use Rattle.slice.proofs.Slicing.{Slicing, slicing_start, next_fits, slicing-next, slicing-end}
 use Rattle.slice.proofs.inner.slice.Statement.{statement}
 use Rattle.slice.proofs.inner.slice.Tie as tie
 
@@ -29,7 +29,7 @@ held : (c : tie.After-struct-told2 invariant-loop decreases-loop) → let a = c.
 held c = rw (start_back c.before, end_back c) c.before.before.requires
 
 loop-holds : tie.Need-loop-init invariant-loop decreases-loop
-loop-holds c = slicing-start (held c)
+loop-holds c = slicing_start (held c)
 
 add-end : tie.Need-overflow-add-end invariant-loop decreases-loop
 add-end c = search rules
@@ -62,13 +62,13 @@ mul-t14 : tie.Need-overflow-mul-t14 invariant-loop decreases-loop
 mul-t14 c = search rules
 
 slice-set-from-out-ends : tie.Need-slice-set-from-out-ends invariant-loop decreases-loop
-slice-set-from-out-ends c = let l = c.before.before.before.before in omega (arith, l.loop.invariant.ends.long, l.before.before.before.requires.room-ends)
+slice-set-from-out-ends c = let l = c.before.before.before.before in omega (arith, l.loop.invariant.ends.long, l.before.before.before.requires.room_ends)
 
 mul-value-2 : tie.Need-overflow-mul-value-2 invariant-loop decreases-loop
 mul-value-2 c = search rules
 
 slice-set-from-value : tie.Need-slice-set-from-value invariant-loop decreases-loop
-slice-set-from-value c = let l = c.before.before.before.before in omega (arith, l.loop.invariant.values.long, l.before.before.before.requires.room-values)
+slice-set-from-value c = let l = c.before.before.before.before in omega (arith, l.loop.invariant.values.long, l.before.before.before.requires.room_values)
 
 add-n : tie.Need-overflow-add-n invariant-loop decreases-loop
 add-n c = search rules

@@ -95,10 +95,10 @@ add-result : tie.Need-overflow-add-result invariant-loop decreases-loop
 add-result c = let i = c.before.before.loop.invariant in omega (arith, i.few, i.entries, i.fitting, i.merging.at_last)
 
 same_length : tie.Need-same-length invariant-loop decreases-loop
-same_length c = c.before.before.loop.invariant.merging.long-ends
+same_length c = c.before.before.loop.invariant.merging.long_ends
 
 same-length-2 : tie.Need-same-length-2 invariant-loop decreases-loop
-same-length-2 c = c.before.before.loop.invariant.merging.long-values
+same-length-2 c = c.before.before.loop.invariant.merging.long_values
 
 returns-2 : tie.Need-returns-2 invariant-loop decreases-loop
 returns-2 c = let l = c.before.before in

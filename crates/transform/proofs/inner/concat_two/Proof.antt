@@ -54,7 +54,7 @@ same_length c = let append-merged2 = c.before.before.before in
     let first-value = append-merged.before.before.before in
     let p = first-value.before.before.requires in
     (after-second p (after_first p (back _ first-value.first-value.type-inv ∙ first-value.first-value.ensures) append-merged.append-merged.ensures)
-    to-nat.to-nat.ensures (back _ length.length.type-inv ∙ length.length.ensures) append-merged2.append-merged2.ensures).long-ends
+    to-nat.to-nat.ensures (back _ length.length.type-inv ∙ length.length.ensures) append-merged2.append-merged2.ensures).long_ends
 
 same-length-2 : tie.Need-same-length-2
 same-length-2 c = let append-merged2 = c.before.before.before in
@@ -64,7 +64,7 @@ same-length-2 c = let append-merged2 = c.before.before.before in
     let first-value = append-merged.before.before.before in
     let p = first-value.before.before.requires in
     (after-second p (after_first p (back _ first-value.first-value.type-inv ∙ first-value.first-value.ensures) append-merged.append-merged.ensures)
-    to-nat.to-nat.ensures (back _ length.length.type-inv ∙ length.length.ensures) append-merged2.append-merged2.ensures).long-values
+    to-nat.to-nat.ensures (back _ length.length.type-inv ∙ length.length.ensures) append-merged2.append-merged2.ensures).long_values
 
 returns-2 : tie.Need-returns-2
 returns-2 c = let append-merged2 = c.before.before.before in

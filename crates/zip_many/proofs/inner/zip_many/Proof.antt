@@ -35,10 +35,10 @@ zip-walk-requires c κs =
       record {
         walkable = record { offsets = q.offsets; valid = q.valid; first = take-zeros _ 128 q.columns };
         paired = q.paired;
-        room-ends = q.room-ends;
-        room-values = q.room-values;
+        room_ends = q.room_ends;
+        room_values = q.room_values;
       },
-      record { paired = q.paired; room-ends = refl; room-values = length_front (pos 0) _ 128 q.columns ∙ sym (length_front 0 _ 128 q.columns) },
+      record { paired = q.paired; room_ends = refl; room_values = length_front (pos 0) _ 128 q.columns ∙ sym (length_front 0 _ 128 q.columns) },
     )
 
 same_length : tie.Need-same-length

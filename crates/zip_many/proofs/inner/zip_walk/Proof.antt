@@ -9,7 +9,7 @@ use Rattle.num.proofs.Bits.{back}
 use Rattle.column.specs.Combine.{folded}
 use Rattle.plan.proofs.Segments.{left}
 use Rattle.many.specs.Workers.{places_of, Kept}
-use Rattle.many.proofs.Walking.{walk-placed, walk_start, walk-less}
+use Rattle.many.proofs.Walking.{walk_placed, walk_start, walk-less}
 use Rattle.many.proofs.Keeping.{kept-shown}
 use Rattle.zip_many.proofs.Zips.{Zipped, zipped-none, zipped-start, zipped-last, zipped-end, zipped-room, zipped-more}
 use Rattle.zip_many.proofs.Flats.{placed-some}
@@ -45,18 +45,18 @@ abbrev begun : tie.At-loop invariant-loop decreases-loop → tie.Start invariant
 begun l = start (some (reading (stepped l)))
 
 read-current-requires : tie.Need-read-current-requires invariant-loop decreases-loop
-read-current-requires c κs = let s = start c.before.before.before in (walk-placed _ _ s.pre.0.walkable, s.pre.1)
+read-current-requires c κs = let s = start c.before.before.before in (walk_placed _ _ s.pre.0.walkable, s.pre.1)
 
 step-requires : tie.Need-step-requires invariant-loop decreases-loop
 step-requires c κs = let read = c.before.before.before.before.before.before in
     let s = start (some read) in
-    (walk-placed _ _ s.pre.0.walkable, s.pre.0.paired, read.read-current.ensures, omega arith)
+    (walk_placed _ _ s.pre.0.walkable, s.pre.0.paired, read.read-current.ensures, omega arith)
 
 fold-requires : tie.Need-fold-requires invariant-loop decreases-loop
 fold-requires c κs = let first = c.before.before.before.before.before.before in
     let e = some (reading first) in
     let walk = walk_start _ _ (start e).pre.0.walkable first.step.ensures.0 in
-    omega (arith, first.step.ensures.1.long-values, placed-some walk.placed (omega (arith, e.if1.left)))
+    omega (arith, first.step.ensures.1.long_values, placed-some walk.placed (omega (arith, e.if1.left)))
 
 loop-holds : tie.Need-loop-init invariant-loop decreases-loop
 loop-holds c = let first = c.before.before.before.before.before.before.before in
@@ -69,7 +69,7 @@ loop-holds c = let first = c.before.before.before.before.before.before.before in
 fold-requires-2 : tie.Need-fold-requires-2 invariant-loop decreases-loop
 fold-requires-2 c κs = let l = c.before.before in
     let e = some (reading (stepped l)) in
-    omega (arith, l.loop.invariant.1.long-values, placed-some l.loop.invariant.0.walk.placed (omega (arith, e.if1.left)))
+    omega (arith, l.loop.invariant.1.long_values, placed-some l.loop.invariant.0.walk.placed (omega (arith, e.if1.left)))
 
 cast-push-merged : tie.Need-overflow-cast-push-merged invariant-loop decreases-loop
 cast-push-merged c = let t = c.before.before.before.before in record { sfits = t.before.loop.invariant.0.walk.small t.loop-test.true }
@@ -120,25 +120,25 @@ add-result : tie.Need-overflow-add-result invariant-loop decreases-loop
 add-result c = let l = c.before.before in omega (arith, zipped-last _ _ _ _ _ _ _ l.loop.invariant.0, (begun l).well-formed)
 
 same_length : tie.Need-same-length invariant-loop decreases-loop
-same_length c = let l = c.before.before in omega (arith, l.loop.invariant.0.walk.placed.count, (walk-placed _ _ (begun l).requires.0.walkable).count)
+same_length c = let l = c.before.before in omega (arith, l.loop.invariant.0.walk.placed.count, (walk_placed _ _ (begun l).requires.0.walkable).count)
 
 same-length-2 : tie.Need-same-length-2 invariant-loop decreases-loop
 same-length-2 c = let l = c.before.before in
     let k = l.loop.invariant in
     let s = begun l in
-    omega (arith, k.0.walk.placed.count, (walk-placed _ _ s.pre.0.walkable).count, k.1.long-ends, s.pre.1.room-ends)
+    omega (arith, k.0.walk.placed.count, (walk_placed _ _ s.pre.0.walkable).count, k.1.long_ends, s.pre.1.room_ends)
 
 same-length-3 : tie.Need-same-length-3 invariant-loop decreases-loop
 same-length-3 c = let l = c.before.before in
     let k = l.loop.invariant in
     let s = begun l in
-    omega (arith, k.0.walk.placed.count, (walk-placed _ _ s.pre.0.walkable).count, k.1.long-values, s.pre.1.room-values)
+    omega (arith, k.0.walk.placed.count, (walk_placed _ _ s.pre.0.walkable).count, k.1.long_values, s.pre.1.room_values)
 
 same-length-4 : tie.Need-same-length-4 invariant-loop decreases-loop
-same-length-4 c = c.before.before.loop.invariant.0.merging.long-ends
+same-length-4 c = c.before.before.loop.invariant.0.merging.long_ends
 
 same-length-5 : tie.Need-same-length-5 invariant-loop decreases-loop
-same-length-5 c = c.before.before.loop.invariant.0.merging.long-values
+same-length-5 c = c.before.before.loop.invariant.0.merging.long_values
 
 returns-2 : tie.Need-returns-2 invariant-loop decreases-loop
 returns-2 c = let l = c.before.before in

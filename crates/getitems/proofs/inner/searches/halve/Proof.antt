@@ -1,7 +1,7 @@
 use Prim.Native.Nat.{◌-◌}
 use native.Mathlib.Omega.{arith}
 use Rattle.getitems.specs.Workers.{block_size}
-use Rattle.getitems.proofs.Searches.{Halved, halved-start, halved-next, halved-end}
+use Rattle.getitems.proofs.Searches.{Halved, halved_start, halved-next, halved-end}
 use borrow.Author.Rules.{rules}
 use Rattle.getitems.proofs.inner.searches.halve.Statement.{statement}
 use Rattle.getitems.proofs.inner.searches.halve.Tie as tie
@@ -13,7 +13,7 @@ abbrev decreases-loop : tie.decreases-loop
 decreases-loop ends size places lows₀ k₀ lows k = block_size - k
 
 loop-holds : tie.Need-loop-init invariant-loop decreases-loop
-loop-holds c = halved-start c.before.before.requires.0
+loop-holds c = halved_start c.before.before.requires.0
 
 mul_low : tie.Need-overflow-mul-low invariant-loop decreases-loop
 mul_low c = search rules

@@ -37,7 +37,7 @@ loop-again : tie.Need-loop-preserved invariant-loop decreases-loop
 loop-again c = let l = c.before.before.before.before.before.before in (c.before.before.halve.ensures, l.loop.invariant.1)
 
 same_length : tie.Need-same-length invariant-loop decreases-loop
-same_length c = c.before.loop.invariant.0.lows-many ∙ sym c.before.before.before.before.before.before.before.before.before.requires.0
+same_length c = c.before.loop.invariant.0.lows_many ∙ sym c.before.before.before.before.before.before.before.before.before.requires.0
 
 returns : tie.Need-returns invariant-loop decreases-loop
 returns c = searches_end c.before.loop.invariant.1 c.before.loop.invariant.0 c.loop-test.false
