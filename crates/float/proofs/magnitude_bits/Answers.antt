@@ -1,0 +1,59 @@
+use borrow.Author.Rules.{rules}
+use mathlib.Core.Path.{◌≡◌, sym, ap, ◌∙◌, subst}
+use Prim.Native.Nat.{ℕ, suc, ◌+◌, ◌-◌, ◌*◌, ◌^◌, ◌<◌}
+use native.Mathlib.Nat.{add_comm, le_of_eq}
+use native.Mathlib.Omega.{arith}
+use lib.Count.{count_leading_zeros, leading_le, leading_top}
+use lib.Pow.{shl_exact}
+use lib.IntN.{pos}
+use lib.Ieee.{binary64, to_bits, of_int}
+use lib.Ieee.Nearest.{closest}
+use mir.Syntax.{w64}
+use mir.Val.{Fits}
+use Rattle.float.specs.Float.{converted}
+use Rattle.float.proofs.Patterns.{size-bits, bits_fit}
+use Rattle.float.proofs.magnitude_bits.Goals as goal
+
+-- HELPER
+not-zero : (n : ℕ) → (n ≡ 0 → ⊥) → 0 < n
+not-zero n h = omega arith
+
+-- HELPER
+zeros-lt : (n : ℕ) → (n ≡ 0 → ⊥) → n < 2 ^ 64 → count_leading_zeros 64 n < 64
+zeros-lt n h k = let t = leading_top 64 n (not-zero n h) k in let e : count_leading_zeros 64 n + suc t.0 ≡ 64 = t.1 in omega arith
+
+-- HELPER
+written : (c : goal.After-nearest_of-kept)
+    → (1085 - count_leading_zeros 64 c.args.n) * 2 ^ 52 + c.nearest_of-kept.result
+    ≡ to_bits binary64 (converted (pos c.args.n))
+unfolding converted of_int
+written c =
+    let n = c.args.n in
+    let z = count_leading_zeros 64 n in
+    let t = leading_top 64 n (not-zero n c.if-n-eq0.false) c.ranges.n.ranges in
+    ap (λ (q : ℕ). (1085 - z) * 2 ^ 52 + q)
+    (c.nearest_of-kept.ensures ∙ ap (λ (m : ℕ). closest m 2048) (shl_exact (suc t.0) z 64 t.3 (le_of_eq (add_comm (suc t.0) z ∙ t.1))))
+    ∙ sym (size-bits n z t.0 t.1 t.2 t.3)
+
+pub returns-then-n-eq0 : goal.returns-then-n-eq0
+unfolding converted to_bits of_int
+returns-then-n-eq0 c = ap (λ (n : ℕ). to_bits binary64 (converted (pos n))) (sym c.if-n-eq0.true)
+
+pub overflow_cast-zeros : goal.overflow_cast-zeros
+overflow_cast-zeros c = omega (arith, leading_le 64 c.args.n)
+
+pub overflow_shl-n : goal.overflow_shl-n
+overflow_shl-n c = zeros-lt c.args.n c.if-n-eq0.false c.ranges.n.ranges
+
+pub overflow_cast-exponent : goal.overflow_cast-exponent
+overflow_cast-exponent c = omega (arith, leading_le 64 c.args.n)
+
+pub overflow_sub-exponent : goal.overflow_sub-exponent
+overflow_sub-exponent c = omega (arith, leading_le 64 c.args.n)
+
+pub overflow_add-result : goal.overflow_add-result
+overflow_add-result c = subst (Fits w64) (sym (written c)) (bits_fit (pos c.args.n))
+
+pub returns : goal.returns
+returns c = written c
+
