@@ -1,7 +1,6 @@
 use mathlib.Core.Path.{◌∙◌}
 use borrow.Author.Tests.{le-leb, lt-leb}
 use Rattle.column.specs.Questions.{listed}
-use borrow.Author.Rules.{rules}
 use Rattle.questions.proofs.ask_code.Goals as goal
 
 pub returns-then-code-low : goal.returns-then-code-low
@@ -15,4 +14,3 @@ returns-then-high-code c = c.no-then-high-code.ensures ∙ simp (le-leb _ _ c.if
 pub returns : goal.returns
 unfolding listed
 returns c = simp (le-leb _ _ c.if-code-low.false, le-leb _ _ c.if-high-code.false)
-

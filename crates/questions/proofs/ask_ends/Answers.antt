@@ -1,7 +1,6 @@
 use mathlib.Core.Path.{sym, ◌∙◌}
 use Rattle.num.proofs.Bits.{back}
 use Rattle.column.specs.Questions.{ends_valid}
-use borrow.Author.Rules.{rules}
 use Rattle.questions.proofs.ask_ends.Goals as goal
 
 pub returns-then-quarters_rise : goal.returns-then-quarters_rise
@@ -12,4 +11,3 @@ returns-then-quarters_rise c =
 pub returns-else-quarters_rise : goal.returns-else-quarters_rise
 unfolding ends_valid
 returns-else-quarters_rise c = c.ask_ends_from-else-quarters_rise.ensures
-

@@ -1,14 +1,9 @@
-use mathlib.Core.Path.{◌≡◌, refl, sym, ◌∙◌}
-use Prim.Native.Nat.{◌-◌}
-use lib.ListN.{length, get_or, drop}
+use mathlib.Core.Path.{refl, sym, ◌∙◌}
+use lib.ListN.{get_or}
 use lib.IntN.{pos}
-use mir.Syntax.{w64}
-use mir.Val.{to_z}
 use mir.Facts.{to_z-of_z}
 use Rattle.num.proofs.Bits.{back}
-use Rattle.column.specs.Questions.{ends_from}
 use Rattle.column.proofs.YesNo.{ends_next, ends-refused, ends-end}
-use borrow.Author.Rules.{rules}
 use Rattle.questions.proofs.ask_ends_from.Goals as goal
 
 pub loop-i-init : goal.loop-i-init
@@ -28,4 +23,3 @@ loop-i-preserved c =
 
 pub returns : goal.returns
 returns c = sym (rw (to_z-of_z c.ranges.first) at c.loop-i.invariant ∙ ends-end _ _ _ c.loop-i-test.false)
-

@@ -1,14 +1,7 @@
-use mathlib.Core.Path.{◌≡◌, refl, sym, ◌∙◌}
+use mathlib.Core.Path.{◌≡◌}
 use Prim.Native.Nat.{◌-◌}
-use lib.ListN.{length, get_or, drop}
-use lib.IntN.{pos}
-use mir.Syntax.{w64}
-use mir.Val.{to_z}
-use mir.Facts.{to_z-of_z}
-use Rattle.num.proofs.Bits.{back}
+use lib.ListN.{length, drop}
 use Rattle.column.specs.Questions.{ends_from}
-use Rattle.column.proofs.YesNo.{ends_next, ends-refused, ends-end}
-use borrow.Author.Rules.{rules}
 use Rattle.questions.proofs.ask_ends_from.Given as goal
 
 abbrev pub invariant-loop-i : goal.invariant-loop-i
@@ -16,4 +9,3 @@ invariant-loop-i l = ends_from l.from l.first (drop l.from l.ends) ≡ ends_from
 
 abbrev pub decreases-loop-i : goal.decreases-loop-i
 decreases-loop-i l = length l.ends - l.i
-

@@ -2,7 +2,6 @@ use mathlib.Core.Path.{sym, ◌∙◌}
 use Rattle.num.proofs.Bits.{back}
 use mir.Facts.{to_z-of_z}
 use Rattle.column.proofs.YesNo.{longer_of_two, fills_first, fills-second, fills-yes}
-use borrow.Author.Rules.{rules}
 use Rattle.questions.proofs.ask_fills.Goals as goal
 
 pub returns-then-lacks : goal.returns-then-lacks
@@ -34,4 +33,3 @@ returns c =
     sym (fills-yes _ _ c.args.fill_left c.args.fill_right
     e (rw (to_z-of_z c.ranges.left, back n.result n.type_inv) at (sym c.lacks.ensures ∙ c.if-lacks.false))
     (rw (to_z-of_z c.ranges.right, back n.result n.type_inv) at (sym c.lacks-2.ensures ∙ c.if-lacks-2.false)))
-

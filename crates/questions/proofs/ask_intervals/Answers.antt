@@ -1,11 +1,9 @@
 use Rattle.num.proofs.Bits.{back}
 use lib.IntN.{pos}
 use Rattle.column.proofs.YesNo.{interval_negative, interval_reversed, interval_yes}
-use mathlib.Core.Path.{◌≡◌, refl, sym, ◌∙◌}
-use Prim.Native.Nat.{◌≤◌, ◌-◌}
-use lib.ListN.{length, get_or, drop}
-use Rattle.column.specs.Asking.{each_from}
-use Rattle.column.specs.Questions.{interval_at, intervals}
+use mathlib.Core.Path.{refl, sym, ◌∙◌}
+use lib.ListN.{get_or}
+use Rattle.column.specs.Questions.{intervals}
 use Rattle.column.proofs.FirstNo.{each_next, each-refused, each-end}
 use borrow.Author.Rules.{rules}
 use Rattle.questions.proofs.ask_intervals.Goals as goal
@@ -42,4 +40,3 @@ loop-i-preserved c =
 
 pub returns : goal.returns
 returns c = sym (c.loop-i.invariant.1 ∙ each-end _ _ _ (pos 0) c.loop-i-test.false)
-

@@ -1,13 +1,8 @@
-use Rattle.num.proofs.Bits.{back}
-use lib.IntN.{pos}
-use Rattle.column.proofs.YesNo.{interval_negative, interval_reversed, interval_yes}
-use mathlib.Core.Path.{◌≡◌, refl, sym, ◌∙◌}
+use mathlib.Core.Path.{◌≡◌}
 use Prim.Native.Nat.{◌≤◌, ◌-◌}
-use lib.ListN.{length, get_or, drop}
+use lib.ListN.{length, drop}
 use Rattle.column.specs.Asking.{each_from}
 use Rattle.column.specs.Questions.{interval_at, intervals}
-use Rattle.column.proofs.FirstNo.{each_next, each-refused, each-end}
-use borrow.Author.Rules.{rules}
 use Rattle.questions.proofs.ask_intervals.Given as goal
 
 abbrev pub invariant-loop-i : goal.invariant-loop-i
@@ -15,4 +10,3 @@ invariant-loop-i l = (l.i ≤ length l.starts) × (intervals l.starts l.ends ≡
 
 abbrev pub decreases-loop-i : goal.decreases-loop-i
 decreases-loop-i l = length l.starts - l.i
-

@@ -2,7 +2,6 @@ use mathlib.Core.Path.{sym, ◌∙◌}
 use mir.Facts.{to_z-of_z}
 use Rattle.column.proofs.YesNo.{long-yes, long-refused}
 use Rattle.num.proofs.Bits.{told_lt}
-use borrow.Author.Rules.{rules}
 use Rattle.questions.proofs.ask_length.Goals as goal
 
 pub returns-then-requested-required : goal.returns-then-requested-required
@@ -13,4 +12,3 @@ returns-then-requested-required c =
 
 pub returns-else-requested-required : goal.returns-else-requested-required
 returns-else-requested-required c = let f = c.ranges in sym (long-yes _ _ (told_lt f.requested f.required c.if-requested-required.false))
-

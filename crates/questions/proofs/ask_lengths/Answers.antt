@@ -1,7 +1,6 @@
 use mathlib.Core.Path.{◌∙◌}
 use borrow.Author.Tests.{eq-eqb, ne_eqb}
 use Rattle.column.specs.Questions.{agree}
-use borrow.Author.Rules.{rules}
 use Rattle.questions.proofs.ask_lengths.Goals as goal
 
 pub returns-then-left-right : goal.returns-then-left-right
@@ -11,4 +10,3 @@ returns-then-left-right c = simp (eq-eqb _ _ c.if-left-right.true)
 pub returns-else-left-right : goal.returns-else-left-right
 unfolding agree
 returns-else-left-right c = c.no.ensures ∙ simp (ne_eqb _ _ c.if-left-right.false)
-

@@ -1,13 +1,11 @@
-use Prim.Native.Nat.{◌≤◌, ◌<◌, ◌-◌, ◌^◌}
 use mir.Syntax.{w64}
 use mir.Val.{SFits}
 use Rattle.column.proofs.Naturals.{to_nat_cast, to_nat_abs, to_nat-below}
 use native.Mathlib.Omega.{arith}
-use mathlib.Core.Path.{◌≡◌, refl, sym, ◌∙◌}
-use lib.ListN.{length, get_or, drop}
+use mathlib.Core.Path.{refl, sym, ◌∙◌}
+use lib.ListN.{get_or}
 use lib.IntN.{pos}
 use Rattle.num.proofs.Bits.{back}
-use Rattle.column.specs.Questions.{run_by_run}
 use Rattle.column.proofs.YesNo.{runs_negative, runs-overflow, runs-next, runs-end}
 use borrow.Author.Rules.{rules}
 use Rattle.questions.proofs.ask_runs.Goals as goal
@@ -54,4 +52,3 @@ loop-i-preserved c =
 
 pub returns : goal.returns
 returns c = sym (c.loop-i.invariant.2 ∙ runs-end _ _ _ c.loop-i-test.false)
-

@@ -1,9 +1,7 @@
 use Rattle.column.specs.Questions.{paired}
 use Rattle.column.proofs.FirstNo.{asked-last}
-use borrow.Author.Rules.{rules}
 use Rattle.questions.proofs.ask_sequence.Goals as goal
 
 pub returns : goal.returns
 unfolding paired
 returns c = asked-last _ c.and.ensures c.ask_lengths.ensures (λ e. c.ask_ends.ensures)
-

@@ -1,11 +1,9 @@
-use mathlib.Core.Path.{◌≡◌, sym, ◌∙◌, ap}
+use mathlib.Core.Path.{◌≡◌}
 use Prim.Native.Nat.{◌≤◌, ◌-◌}
 use lib.ListN.{length}
-use native.Mathlib.Omega.{arith}
-use Rattle.column.specs.Asking.{each_from, refused_in_key, shown_asked}
+use Rattle.column.specs.Asking.{each_from}
 use Rattle.column.specs.Questions.{sequence_at, sequences_valid}
-use Rattle.column.proofs.Parts.{parts_at, sequences-start, sequences-next, sequences-refused, sequences-end}
-use borrow.Author.Rules.{rules}
+use Rattle.column.proofs.Parts.{parts_at}
 use Rattle.questions.proofs.ask_sequences.Given as goal
 
 abbrev pub invariant-loop-k : goal.invariant-loop-k
@@ -13,4 +11,3 @@ invariant-loop-k l = (l.k ≤ length l.offsets) × (sequences_valid l.offsets l.
 
 abbrev pub decreases-loop-k : goal.decreases-loop-k
 decreases-loop-k l = length l.offsets - l.k
-

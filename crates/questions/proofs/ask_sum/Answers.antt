@@ -1,7 +1,6 @@
 use native.Mathlib.Omega.{arith}
 use mir.Facts.{to_z-of_z}
 use Rattle.column.proofs.Naturals.{to_nat-below}
-use borrow.Author.Rules.{rules}
 use Rattle.questions.proofs.ask_sum.Goals as goal
 
 pub overflow_add-to_nat : goal.overflow_add-to_nat
@@ -11,4 +10,3 @@ overflow_add-to_nat c =
 
 pub returns : goal.returns
 returns c = rw (c.to_nat.ensures, c.to_nat-2.ensures, to_z-of_z c.ranges.length, to_z-of_z c.ranges.run) at c.ask_fits.ensures
-

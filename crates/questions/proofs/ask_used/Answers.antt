@@ -1,7 +1,6 @@
 use mathlib.Core.Path.{◌∙◌}
 use borrow.Author.Tests.{le-leb, lt-leb}
 use Rattle.column.specs.Questions.{used_within}
-use borrow.Author.Rules.{rules}
 use Rattle.questions.proofs.ask_used.Goals as goal
 
 pub returns-then-used-shorter : goal.returns-then-used-shorter
@@ -11,4 +10,3 @@ returns-then-used-shorter c = rw (← c.smaller_count-shorter.ensures) (simp (le
 pub returns-else-used-shorter : goal.returns-else-used-shorter
 unfolding used_within
 returns-else-used-shorter c = c.no.ensures ∙ rw (← c.smaller_count-shorter.ensures) (simp (lt-leb _ _ c.if-used-shorter.false))
-

@@ -1,25 +1,15 @@
-use Prim.Native.Nat.{◌*◌, ◌/◌, ◌-◌, ◌≤◌}
 use mathlib.Core.Bool.{false≢true}
 use mathlib.Core.Path.{◌∙◌}
 use native.Mathlib.Omega.{arith}
-use lib.ListN.{length}
-use mir.Syntax.{w64}
-use mir.Val.{to_z}
 use Rattle.num.proofs.Bits.{back}
-use Rattle.questions.proofs.Quarters.{Quarters, quarters_start, quarters_next, quarters_end}
-use borrow.Author.Rules.{rules}
+use Rattle.questions.proofs.Quarters.{quarters_start, quarters_next, quarters_end}
 use Rattle.questions.proofs.quarters_rise.Goals as goal
 
--- four quarters are no more than all
--- HELPER
-room : (c : goal.Start invariant-loop decreases-loop) → length c.args.ends.now / 4 * 4 ≤ length c.args.ends.now
-room c = omega arith
-
 pub overflow_mul-quarter : goal.overflow_mul-quarter
-overflow_mul-quarter c = omega (arith, room c)
+overflow_mul-quarter c = omega arith
 
 pub overflow_mul-quarter-2 : goal.overflow_mul-quarter-2
-overflow_mul-quarter-2 c = omega (arith, room c)
+overflow_mul-quarter-2 c = omega arith
 
 pub loop-i-init : goal.loop-i-init
 loop-i-init c =
@@ -27,43 +17,43 @@ loop-i-init c =
     (back _ c.end_before-third.type_inv ∙ c.end_before-third.ensures) (back _ c.end_before-fourth.type_inv ∙ c.end_before-fourth.ensures)
 
 pub offset_bounds-ends-i : goal.offset_bounds-ends-i
-offset_bounds-ends-i c = omega (arith, room c)
+offset_bounds-ends-i c = omega arith
 
 pub bounds-ends-i : goal.bounds-ends-i
-bounds-ends-i c = omega (arith, room c)
+bounds-ends-i c = omega arith
 
 pub overflow_add-b : goal.overflow_add-b
-overflow_add-b c = omega (arith, room c)
+overflow_add-b c = omega arith
 
 pub offset_bounds-ends-quarter : goal.offset_bounds-ends-quarter
-offset_bounds-ends-quarter c = omega (arith, room c)
+offset_bounds-ends-quarter c = omega arith
 
 pub bounds-ends-quarter : goal.bounds-ends-quarter
-bounds-ends-quarter c = omega (arith, room c)
+bounds-ends-quarter c = omega arith
 
 pub overflow_mul-c : goal.overflow_mul-c
-overflow_mul-c c = omega (arith, room c)
+overflow_mul-c c = omega arith
 
 pub overflow_add-c : goal.overflow_add-c
-overflow_add-c c = omega (arith, room c)
+overflow_add-c c = omega arith
 
 pub offset_bounds-ends-quarter-in-loop-i : goal.offset_bounds-ends-quarter-in-loop-i
-offset_bounds-ends-quarter-in-loop-i c = omega (arith, room c)
+offset_bounds-ends-quarter-in-loop-i c = omega arith
 
 pub bounds-ends-quarter-in-loop-i : goal.bounds-ends-quarter-in-loop-i
-bounds-ends-quarter-in-loop-i c = omega (arith, room c)
+bounds-ends-quarter-in-loop-i c = omega arith
 
 pub overflow_mul-d : goal.overflow_mul-d
-overflow_mul-d c = omega (arith, room c)
+overflow_mul-d c = omega arith
 
 pub overflow_add-d : goal.overflow_add-d
-overflow_add-d c = omega (arith, room c)
+overflow_add-d c = omega arith
 
 pub offset_bounds-ends-quarter-in-loop-i-2 : goal.offset_bounds-ends-quarter-in-loop-i-2
-offset_bounds-ends-quarter-in-loop-i-2 c = omega (arith, room c)
+offset_bounds-ends-quarter-in-loop-i-2 c = omega arith
 
 pub bounds-ends-quarter-in-loop-i-2 : goal.bounds-ends-quarter-in-loop-i-2
-bounds-ends-quarter-in-loop-i-2 c = omega (arith, room c)
+bounds-ends-quarter-in-loop-i-2 c = omega arith
 
 pub returns-then-a-first : goal.returns-then-a-first
 returns-then-a-first c = λ t. absurd (false≢true t)
@@ -87,5 +77,4 @@ loop-i-preserved c =
     c.if-b-second.false c.if-c-third.false c.if-d-fourth.false
 
 pub returns : goal.returns
-returns c = λ t. quarters_end _ _ c.loop-i.invariant c.loop-i-test.false (room c)
-
+returns c = λ t. quarters_end _ _ c.loop-i.invariant c.loop-i-test.false (omega arith)

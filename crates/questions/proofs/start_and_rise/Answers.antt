@@ -1,7 +1,4 @@
-use mathlib.Core.Path.{◌≡◌, sym, ◌∙◌}
-use Prim.Native.Nat.{◌≤◌, ◌-◌}
-use lib.ListN.{length, drop}
-use Rattle.column.specs.Questions.{rise, start_and_rise}
+use mathlib.Core.Path.{sym, ◌∙◌}
 use Rattle.column.proofs.Lists.{rise-next, rise_fall, rise-end, start_none, start-above, start-rise}
 use borrow.Author.Rules.{rules}
 use Rattle.questions.proofs.start_and_rise.Goals as goal
@@ -23,4 +20,3 @@ loop-i-preserved c = (search rules, c.loop-i.invariant.1 ∙ rise-next _ _ _ c.l
 
 pub returns : goal.returns
 returns c = sym (c.loop-i.invariant.1 ∙ rise-end _ _ _ c.loop-i-test.false)
-

@@ -1,9 +1,7 @@
-use mathlib.Core.Path.{◌≡◌, sym, ◌∙◌}
+use mathlib.Core.Path.{◌≡◌}
 use Prim.Native.Nat.{◌≤◌, ◌-◌}
 use lib.ListN.{length, drop}
 use Rattle.column.specs.Questions.{rise, start_and_rise}
-use Rattle.column.proofs.Lists.{rise-next, rise_fall, rise-end, start_none, start-above, start-rise}
-use borrow.Author.Rules.{rules}
 use Rattle.questions.proofs.start_and_rise.Given as goal
 
 abbrev pub invariant-loop-i : goal.invariant-loop-i
@@ -11,4 +9,3 @@ invariant-loop-i l = (l.i ≤ length l.offsets) × (start_and_rise l.offsets ≡
 
 abbrev pub decreases-loop-i : goal.decreases-loop-i
 decreases-loop-i l = length l.offsets - l.i
-
