@@ -10,21 +10,21 @@ ghost use Rattle.plan.specs.Calls.{segments_of};
 pub const SPENT: usize = usize::MAX;
 
 // Where a walk stands in a column: its current run, or its run count where it is spent, and where that ends.
-#[derive(Drop)]
+#[derive(Clone, Copy)]
 pub struct Cursor {
     pub index: usize,
     pub end: usize,
 }
 
 // Where a walk stands in two columns.
-#[derive(Drop)]
+#[derive(Clone, Copy)]
 pub struct Segments {
     pub a: Cursor,
     pub b: Cursor,
 }
 
 // Where a segment ends, and where the walk stands after it.
-#[derive(Drop)]
+#[derive(Clone, Copy)]
 pub struct Segment {
     pub end: i64,
     pub next: Segments,
