@@ -16,7 +16,7 @@ use column::answer::{Asked, Checked};
 use column::error::Refusal;
 
 // The answer of `get`.
-#[derive(Drop)]
+#[derive(Clone, Copy)]
 pub enum Got {
     Count(usize),
     Nothing,

@@ -7,7 +7,7 @@ ghost use Rattle.batch.specs.Batch.{both_lengths, both_content, both_valid, batc
 use column::answer::Asked;
 
 // What is at a place: whether it gives a key of the result, the key, and its position in each batch, past the last where it has none.
-#[derive(Drop)]
+#[derive(Clone, Copy)]
 pub struct Joined {
     pub at: usize,
     pub kept: bool,

@@ -20,7 +20,7 @@ use column::answer::{Asked, Fill, RleBatch};
 use column::sequence;
 
 // A group, as it is found: its first member, and the links by which the others are.
-#[derive(Drop)]
+#[derive(Clone, Copy)]
 pub struct Group {
     links: Links,
     first: Member,

@@ -15,7 +15,7 @@ use column::answer::{Asked, Found};
 use column::error::{Error, InKey, Refusal};
 
 // What is known of keys: each is above the one before it; or none is given twice.
-#[derive(Drop)]
+#[derive(Clone, Copy)]
 pub enum Order {
     Ascending,
     Distinct,

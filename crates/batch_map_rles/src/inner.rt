@@ -11,7 +11,7 @@ ghost use Rattle.batch_map_rles.specs.Workers.{mapped, more, Mappable};
 use batch::inner::part_at;
 
 // What is done to the sequence of each key.
-#[derive(Drop)]
+#[derive(Clone, Copy)]
 pub enum Mapping {
     Shift { distance: i64, fill: i64 },
     Reversed,

@@ -147,7 +147,7 @@ fn next_pair(
 }
 
 // 10 of all pairs, and how many runs they have, saturating at usize::MAX.
-#[derive(Drop)]
+#[derive(Clone, Copy)]
 pub struct PairsAsked {
     pub asked: Asked,
     pub runs: usize,

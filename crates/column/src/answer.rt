@@ -5,7 +5,7 @@ ghost use Rattle.column.specs.Combine.{value_of};
 use crate::error::Refusal;
 
 // What a question is answered.
-#[derive(Drop)]
+#[derive(Clone, Copy)]
 pub enum Asked {
     Yes,
     No(Refusal),
@@ -24,7 +24,7 @@ impl Asked {
 }
 
 // What stands where a column has ended.
-#[derive(Drop)]
+#[derive(Clone, Copy)]
 pub enum Fill {
     Value(i64),
     Missing,
@@ -43,21 +43,21 @@ impl Fill {
 }
 
 // The answer of a call that only checks.
-#[derive(Drop)]
+#[derive(Clone, Copy)]
 pub enum Checked {
     Valid,
     Refused(Refusal),
 }
 
 // The answer of a call that fills each output buffer with so many entries.
-#[derive(Drop)]
+#[derive(Clone, Copy)]
 pub enum Counted {
     Count(usize),
     Refused(Refusal),
 }
 
 // The answer of a search.
-#[derive(Drop)]
+#[derive(Clone, Copy)]
 pub enum Found {
     At(usize),
     Nothing,
@@ -65,14 +65,14 @@ pub enum Found {
 }
 
 // The counts of a batch; its offsets are one more than its keys.
-#[derive(Drop)]
+#[derive(Clone, Copy)]
 pub struct RleBatch {
     pub keys: usize,
     pub runs: usize,
 }
 
 // The answer of a call that fills the buffers of a batch.
-#[derive(Drop)]
+#[derive(Clone, Copy)]
 pub enum Batched {
     Batch(RleBatch),
     Refused(Refusal),

@@ -1,5 +1,5 @@
 // The refusals of document 01, numbers 1 to 12 in this order.
-#[derive(Drop)]
+#[derive(Clone, Copy)]
 pub enum Error {
     UnknownCode {
         code: u8,
@@ -45,13 +45,13 @@ pub enum Error {
 }
 
 // The key or sequence position that a refusal inside a batch or a many-way call also carries.
-#[derive(Drop)]
+#[derive(Clone, Copy)]
 pub enum InKey {
     Outside,
     Position(usize),
 }
 
-#[derive(Drop)]
+#[derive(Clone, Copy)]
 pub struct Refusal {
     pub error: Error,
     pub in_key: InKey,

@@ -4,7 +4,7 @@ ghost use Rattle.num.specs.Numbers.{eq_z};
 ghost use Rattle.column.specs.Workers.{place_after, next_place, PushedMerged, Appendable, Appended};
 
 // The last run that was written: its place and its value. Before the first run they are 0 and that run's own value.
-#[derive(Drop)]
+#[derive(Clone, Copy)]
 pub struct Writer {
     pub at: usize,
     pub last: i64,

@@ -12,7 +12,7 @@ use column::answer::Asked;
 use column::error::Refusal;
 
 // The answer of `equals`.
-#[derive(Drop)]
+#[derive(Clone, Copy)]
 pub enum Equality {
     Equal,
     Different,

@@ -18,7 +18,7 @@ use slice::{Part, Viewed};
 // A refusal: document 01's number, its values in document 01's order as 64 bits each (0 where it has fewer), and the position that it
 // may carry, with 1 in `in_key`. All 0 with an answer.
 #[repr(C)]
-#[derive(Drop)]
+#[derive(Clone, Copy)]
 pub struct RlRefusal {
     pub number: u64,
     pub first: u64,
@@ -30,7 +30,7 @@ pub struct RlRefusal {
 
 // The count is 0 with a refusal.
 #[repr(C)]
-#[derive(Drop)]
+#[derive(Clone, Copy)]
 pub struct RlCounted {
     pub refusal: RlRefusal,
     pub count: usize,
@@ -38,7 +38,7 @@ pub struct RlCounted {
 
 // 1 or 0; 0 with a refusal.
 #[repr(C)]
-#[derive(Drop)]
+#[derive(Clone, Copy)]
 pub struct RlEquality {
     pub refusal: RlRefusal,
     pub equal: u64,
@@ -46,7 +46,7 @@ pub struct RlEquality {
 
 // Both counts are 0 with a refusal.
 #[repr(C)]
-#[derive(Drop)]
+#[derive(Clone, Copy)]
 pub struct RlPlannedMany {
     pub refusal: RlRefusal,
     pub segments: usize,
@@ -55,7 +55,7 @@ pub struct RlPlannedMany {
 
 // `found` is 1 or 0, and 0 with a refusal; without a find the index is 0.
 #[repr(C)]
-#[derive(Drop)]
+#[derive(Clone, Copy)]
 pub struct RlFound {
     pub refusal: RlRefusal,
     pub found: u64,
@@ -64,7 +64,7 @@ pub struct RlFound {
 
 // `found` is 1 or 0, and 0 with a refusal; without a find the count is 0.
 #[repr(C)]
-#[derive(Drop)]
+#[derive(Clone, Copy)]
 pub struct RlGot {
     pub refusal: RlRefusal,
     pub found: u64,
@@ -73,7 +73,7 @@ pub struct RlGot {
 
 // All are 0 with a refusal.
 #[repr(C)]
-#[derive(Drop)]
+#[derive(Clone, Copy)]
 pub struct RlViewed {
     pub refusal: RlRefusal,
     pub first: usize,
@@ -83,7 +83,7 @@ pub struct RlViewed {
 
 // A part of a list: its first entry, and how many; both are 0 for an empty part.
 #[repr(C)]
-#[derive(Drop)]
+#[derive(Clone, Copy)]
 pub struct RlPart {
     pub first: usize,
     pub count: usize,
@@ -91,7 +91,7 @@ pub struct RlPart {
 
 // Both counts are 0 with a refusal.
 #[repr(C)]
-#[derive(Drop)]
+#[derive(Clone, Copy)]
 pub struct RlBatched {
     pub refusal: RlRefusal,
     pub keys: usize,
@@ -100,7 +100,7 @@ pub struct RlBatched {
 
 // The total is 0 with a refusal.
 #[repr(C)]
-#[derive(Drop)]
+#[derive(Clone, Copy)]
 pub struct RlSummed {
     pub refusal: RlRefusal,
     pub total: i64,
@@ -108,7 +108,7 @@ pub struct RlSummed {
 
 // `kind` is document 01's kind byte, and 0 with a refusal: 0 Nothing, 1 Whole, 2 Fraction. What the kind does not have is 0.
 #[repr(C)]
-#[derive(Drop)]
+#[derive(Clone, Copy)]
 pub struct RlReduced {
     pub refusal: RlRefusal,
     pub kind: u64,
@@ -119,14 +119,14 @@ pub struct RlReduced {
 
 // What stands where a column has ended: missing where `given` is 0, else the value.
 #[repr(C)]
-#[derive(Drop)]
+#[derive(Clone, Copy)]
 pub struct RlFill {
     pub given: u64,
     pub value: i64,
 }
 
 #[repr(C)]
-#[derive(Drop)]
+#[derive(Clone, Copy)]
 pub struct RlRle {
     pub runs: usize,
 }

@@ -12,7 +12,7 @@ use column::sequence;
 use plan::inner::SPENT;
 
 // How many segments were written, and how many indexes.
-#[derive(Drop)]
+#[derive(Clone, Copy)]
 pub struct Counts {
     pub segments: usize,
     pub indexes: usize,

@@ -13,7 +13,7 @@ use column::answer::Asked;
 use column::error::Refusal;
 
 // The answer of `plan_many`: how many segments, and how many indexes, one for each column of each.
-#[derive(Drop)]
+#[derive(Clone, Copy)]
 pub enum PlannedMany {
     Counts { segments: usize, indexes: usize },
     Refused(Refusal),

@@ -6,7 +6,7 @@ ghost use Rattle.column.specs.Workers.{place_after};
 ghost use Rattle.merge_mask.specs.Workers.{kept_after, Writable, WroteRun, Mergeable};
 
 // The group that is being written: its place, and the run whose value it keeps.
-#[derive(Drop)]
+#[derive(Clone, Copy)]
 pub struct GroupWriter {
     pub at: usize,
     pub kept: usize,

@@ -51,7 +51,7 @@ pub fn wrapping_mul(x: i64, y: i64) -> i64
 }
 
 // A number of 128 bits, by its halves.
-#[derive(Drop)]
+#[derive(Clone, Copy)]
 pub struct Product {
     pub high: u64,
     pub low: u64,

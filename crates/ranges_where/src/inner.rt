@@ -24,7 +24,7 @@ fn first_passing(values: &[i64], code: u8, number: i64) -> usize
 }
 
 // The last range so far, at its place, and whether the last run is in it.
-#[derive(Drop)]
+#[derive(Clone, Copy)]
 struct Open {
     at: usize,
     start: i64,

@@ -14,14 +14,14 @@ use slice::inner::search;
 use slice::inner::search::TouchedRuns;
 
 // How far a sum came: how many runs, the end of the last of them, and their total.
-#[derive(Drop)]
+#[derive(Clone, Copy)]
 pub struct WholeSum {
     pub runs: usize,
     pub end: i64,
     pub total: i64,
 }
 
-#[derive(Drop)]
+#[derive(Clone, Copy)]
 pub struct FloatSum {
     pub runs: usize,
     pub end: i64,
@@ -29,7 +29,7 @@ pub struct FloatSum {
 }
 
 // The products of a mean, and how many runs from the first on are converted with nothing rounded.
-#[derive(Drop)]
+#[derive(Clone, Copy)]
 pub struct ProductSum {
     pub runs: usize,
     pub end: i64,
@@ -38,7 +38,7 @@ pub struct ProductSum {
 }
 
 // What a window comes to, and how many of its runs have ends that rise.
-#[derive(Drop)]
+#[derive(Clone, Copy)]
 pub struct WindowReduction {
     pub runs: usize,
     pub reduction: Reduction,

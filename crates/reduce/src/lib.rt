@@ -16,21 +16,21 @@ use column::sequence;
 use slice::inner::search::TouchedRuns;
 
 // The answer of `sum`.
-#[derive(Drop)]
+#[derive(Clone, Copy)]
 pub enum Summed {
     Total(i64),
     Refused(Refusal),
 }
 
 // A mean, and the variance around it; a mean by itself stands in both.
-#[derive(Drop)]
+#[derive(Clone, Copy)]
 pub struct Moments {
     pub mean: f64,
     pub variance: f64,
 }
 
 // What a reduction comes to.
-#[derive(Drop)]
+#[derive(Clone, Copy)]
 pub enum Reduction {
     Whole(i64),
     Fraction(Moments),
@@ -38,7 +38,7 @@ pub enum Reduction {
 }
 
 // The answer of `reduce`.
-#[derive(Drop)]
+#[derive(Clone, Copy)]
 pub enum Reduced {
     Answer(Reduction),
     Refused(Refusal),

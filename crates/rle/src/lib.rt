@@ -13,7 +13,7 @@ use column::answer::{Asked, Counted};
 use column::sequence;
 
 // The used count of a sequence whose ends and values stand in lent buffers.
-#[derive(Drop)]
+#[derive(Clone, Copy)]
 pub struct Rle {
     pub runs: usize,
 }

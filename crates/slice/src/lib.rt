@@ -13,7 +13,7 @@ use column::error::Refusal;
 use inner::search;
 
 // A view of a slice: its first run, its start, and its length.
-#[derive(Drop)]
+#[derive(Clone, Copy)]
 pub struct View {
     pub first: usize,
     pub start: i64,
@@ -21,14 +21,14 @@ pub struct View {
 }
 
 // The answer of `slice_view`.
-#[derive(Drop)]
+#[derive(Clone, Copy)]
 pub enum Viewed {
     View(View),
     Refused(Refusal),
 }
 
 // A part of a list: its first entry, and how many; both are 0 for an empty part.
-#[derive(Drop)]
+#[derive(Clone, Copy)]
 pub struct Part {
     pub first: usize,
     pub count: usize,

@@ -15,7 +15,7 @@ ghost use Rattle.zip_many.specs.Workers.{LengthsOf};
 use column::answer::{Asked, Counted, Fill};
 
 // The least and the greatest length of columns.
-#[derive(Drop)]
+#[derive(Clone, Copy)]
 pub struct Lengths {
     pub least: i64,
     pub greatest: i64,

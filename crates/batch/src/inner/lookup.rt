@@ -5,7 +5,7 @@ ghost use Rattle.batch.specs.Workers.{KnownKeys, other_entry_at, KeptOther};
 use batch_keys::Order;
 
 // What is known of the keys of each batch, and whether they are indexed.
-#[derive(Drop)]
+#[derive(Clone, Copy)]
 pub struct Lookup {
     pub a: Order,
     pub b: Order,

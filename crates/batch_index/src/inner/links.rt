@@ -19,7 +19,7 @@ const NONE: u16 = 0xFFFF;
 const DROPPED: u16 = 0xFFFE;
 
 // The keys that begin from `from` up to `to` have `count` entries. If it is not known to be so, `linked` is false.
-#[derive(Drop)]
+#[derive(Clone, Copy)]
 pub struct Links {
     pub linked: bool,
     from: usize,
@@ -39,7 +39,7 @@ pub fn unlinked(from: usize, to: usize) -> Links
 }
 
 // A position, and its entry if it is linked.
-#[derive(Drop)]
+#[derive(Clone, Copy)]
 pub struct Member {
     pub at: usize,
     pub entry: usize,

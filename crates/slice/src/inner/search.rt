@@ -51,7 +51,7 @@ fn exponential_search(ends: &[i64], position: i64) -> usize
 }
 
 // An interval, which is empty unless its end is above its start.
-#[derive(Drop)]
+#[derive(Clone, Copy)]
 pub struct Interval {
     pub start: i64,
     pub end: i64,
@@ -68,7 +68,7 @@ pub fn clamped(ends: &[i64], start: i64, end: i64) -> Interval
 }
 
 // The runs that a slice touches, and the slice as clamped: all 0 where it is empty.
-#[derive(Drop)]
+#[derive(Clone, Copy)]
 pub struct TouchedRuns {
     pub first: usize,
     pub count: usize,

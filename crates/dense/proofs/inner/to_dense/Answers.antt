@@ -44,7 +44,7 @@ loop-r-preserved c =
     let q = c.requires in
     let a = at-run c.loop-r.invariant t q.1 in
     let fill = c.fill in
-    inv-more c.loop-r.invariant t q.1 (end_nat a.0 c.end-1.given) (back _ c.value-1.given) fill.auto.0 fill.ensures
+    inv-more c.loop-r.invariant t q.1 (end_nat a.0 c.end-1.given) (back _ c.value-1.given) fill.auto.out fill.ensures
 
 pub shape_of-out : goal.shape_of-out
 shape_of-out c = c.loop-r.invariant.long
