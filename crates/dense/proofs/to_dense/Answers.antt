@@ -1,7 +1,6 @@
 use Rattle.column.proofs.Promised.{asked-yes, asked_no, entries-written, entries-refused}
 use Rattle.dense.specs.Calls.{to_dense}
 use Rattle.dense.proofs.Yes.{to_dense-yes}
-use borrow.Author.Rules.{rules}
 use Rattle.dense.proofs.to_dense.Goals as goal
 
 pub to_dense-n-requires : goal.to_dense-n-requires

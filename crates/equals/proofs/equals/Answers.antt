@@ -2,7 +2,6 @@ use mathlib.Core.Path.{sym, ◌∙◌}
 use Rattle.column.proofs.Promised.{asked-yes, asked_no, value-answered, value-refused}
 use Rattle.equals.specs.Calls.{equals}
 use Rattle.equals.proofs.Asks.{equals-yes}
-use borrow.Author.Rules.{rules}
 use Rattle.equals.proofs.equals.Goals as goal
 
 pub equals-requires : goal.equals-requires
@@ -23,4 +22,3 @@ returns-else-equals c =
 pub returns-in-No : goal.returns-in-No
 unfolding equals
 returns-in-No c = value-refused _ (asked_no _ c.equals_asks-asked.ensures c.in-No.is)
-

@@ -9,7 +9,6 @@ use mathlib.Core.List.{[], ◌∷◌}
 use mathlib.Core.Path.{ap, ◌∙◌}
 use native.Mathlib.Omega.{arith}
 use mir.Facts.{to_z-of_z}
-use borrow.Author.Rules.{rules}
 use Rattle.rle.proofs.extend_to_asks.Goals as goal
 
 pub returns : goal.returns
@@ -26,4 +25,3 @@ returns c =
     let asked = asks_then asked c.and-2.ensures
     (λ y. rw f at c.ask_length.ensures ∙ ap (long_enough a.length) (used-length e v a.used [] y c.part-present.ensures present)) in
     (asks_then asked c.and-3.ensures (λ y. used-room e v a.used (reached ∷ []) y (omega arith) c.room_for_one.ensures)).told
-

@@ -10,7 +10,6 @@ use mathlib.Core.List.{[], ◌∷◌}
 use mathlib.Core.Path.{ap, ◌∙◌}
 use native.Mathlib.Omega.{arith}
 use mir.Facts.{to_z-of_z}
-use borrow.Author.Rules.{rules}
 use Rattle.rle.proofs.push_run_asks.Goals as goal
 
 pub returns : goal.returns
@@ -30,4 +29,3 @@ returns c =
     (λ y. rw f at c.ask_sum.ensures
     ∙ ap (λ (x : ℤ). fits (to_nat x + to_nat a.run)) (used-length e v a.used (sign ∷ []) y c.part-present.ensures present)) in
     (asks_then asked c.and-4.ensures (λ y. used-room e v a.used (sign ∷ sum_fits ∷ []) y (omega arith) c.room_for_one.ensures)).told
-

@@ -3,7 +3,6 @@ use mathlib.Core.List.{[], ◌∷◌}
 use mathlib.Core.Path.{◌≡◌, ap, ◌∙◌}
 use native.Mathlib.Omega.{arith}
 use Rattle.column.specs.Questions.{room, both}
-use borrow.Author.Rules.{rules}
 use Rattle.rle.proofs.room_for_one.Goals as goal
 
 pub returns : goal.returns
@@ -13,4 +12,3 @@ returns c =
     let n = a.used in
     let e : min (n + 1) (2 ^ 64 - 1) ≡ n + 1 = omega arith in
     c.ask_both.ensures ∙ ap (λ (k : ℕ). room (both k) (a.ends ∷ a.values ∷ [])) (c.saturating_add.ensures ∙ e)
-

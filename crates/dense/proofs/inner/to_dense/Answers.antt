@@ -1,19 +1,7 @@
-use Prim.Native.Nat.{ℕ, ◌+◌, ◌-◌, ◌≤◌, ◌<◌}
-use mathlib.Core.List.{List, []}
-use mathlib.Core.Path.{◌≡◌, refl, sym, ap, ◌∙◌}
-use native.Mathlib.Numerals.{add-one}
 use native.Mathlib.Omega.{arith}
-use lib.IntN.{ℤ, pos}
-use lib.ListN.{length, get_or, take, drop, length-drop, drop_of_length-le}
-use lib.Seq.{drop-cons, take_all, length-take-le}
 use Rattle.num.proofs.Bits.{back, end_nat, end_cast}
-use Rattle.column.specs.Runs.{to_nat, runs_of, dense_from, dense, over}
-use Rattle.column.proofs.Buffer.{stretched, over-stretch}
-use Rattle.column.proofs.Dense.{Stretch, stretch}
 use Rattle.column.proofs.Ends.{rising}
-use borrow.Author.Rules.{rules}
-use Rattle.column.specs.Workers.{RisingEnds}
-use Rattle.dense.proofs.inner.to_dense.Invariants.{whole, Inv, inv-start, inv-end, at-run, run-stretch, inv-inside, inv-more}
+use Rattle.dense.proofs.inner.to_dense.Invariants.{inv-start, inv-end, at-run, inv-inside, inv-more}
 use Rattle.dense.proofs.inner.to_dense.Goals as goal
 
 pub loop-r-init : goal.loop-r-init

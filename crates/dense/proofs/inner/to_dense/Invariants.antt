@@ -6,12 +6,9 @@ use native.Mathlib.Omega.{arith}
 use lib.IntN.{ℤ, pos}
 use lib.ListN.{length, get_or, take, drop, length-drop, drop_of_length-le}
 use lib.Seq.{drop-cons, take_all, length-take-le}
-use Rattle.num.proofs.Bits.{back, end_nat, end_cast}
 use Rattle.column.specs.Runs.{to_nat, runs_of, dense_from, dense, over}
 use Rattle.column.proofs.Buffer.{stretched, over-stretch}
 use Rattle.column.proofs.Dense.{Stretch, stretch}
-use Rattle.column.proofs.Ends.{rising}
-use borrow.Author.Rules.{rules}
 use Rattle.column.specs.Workers.{RisingEnds}
 use Rattle.dense.proofs.inner.to_dense.Given as goal
 

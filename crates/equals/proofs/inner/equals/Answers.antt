@@ -1,15 +1,12 @@
-use Prim.Native.Nat.{◌+◌, ◌-◌}
 use mathlib.Core.Path.{◌≡◌, ap, sym, ◌∙◌, refl}
 use native.Mathlib.Omega.{arith}
-use lib.ListN.{length}
 use mir.Val.{to_z, of_z}
 use mir.Syntax.{w64}
 use Rattle.num.proofs.Bits.{back, bits-eq_z, bits_ne_z}
 use Rattle.column.specs.Runs.{length_of_ends}
 use Rattle.plan.proofs.Walking.{walk-moves}
 use Rattle.plan.proofs.Step.{more_left, none_more}
-use Rattle.equals.proofs.Comparing.{Compared, compared_start, compared-end, compared-next, compared-differ, other-lengths}
-use borrow.Author.Rules.{rules}
+use Rattle.equals.proofs.Comparing.{compared_start, compared-end, compared-next, compared-differ, other-lengths}
 use Rattle.equals.proofs.inner.equals.Goals as goal
 
 pub returns-then-length : goal.returns-then-length
@@ -57,4 +54,3 @@ returns c =
     let lengths : length_of_ends c.args.a_ends.now ≡ length_of_ends c.args.b_ends.now = sym c.length.ensures ∙ sym (back _ c.length.type_inv) ∙ ap (to_z w64) c.if-length.false ∙ back _ c.length-2.type_inv ∙ c.length-2.ensures in
     let k = c.loop-here.invariant in
     compared-end _ _ _ _ c.requires lengths k (none_more k.walk.standing c.more.ensures c.loop-here-test.false)
-

@@ -2,7 +2,6 @@ use Rattle.column.proofs.Promised.{asked-yes, asked_no, runs-written, runs-refus
 use mir.Facts.{to_z-of_z}
 use Rattle.rle.specs.Calls.{extend_to}
 use Rattle.rle.proofs.Yes.{extend_to-yes}
-use borrow.Author.Rules.{rules}
 use Rattle.rle.proofs.Rle.extend_to.Goals as goal
 
 pub extend_to-n-requires : goal.extend_to-n-requires
@@ -20,4 +19,3 @@ returns-in-Yes c =
 pub returns-in-No : goal.returns-in-No
 unfolding extend_to
 returns-in-No c = runs-refused _ (asked_no _ (rw (to_z-of_z c.ranges.length) at c.extend_to_asks-asked.ensures) c.in-No.is)
-

@@ -2,7 +2,6 @@ use Rattle.column.proofs.Promised.{asked-yes, asked_no, runs-written, runs-refus
 use mir.Facts.{to_z-of_z}
 use Rattle.rle.specs.Calls.{push_run}
 use Rattle.rle.proofs.Yes.{push_run-yes}
-use borrow.Author.Rules.{rules}
 use Rattle.rle.proofs.Rle.push_run.Goals as goal
 
 pub push_run-n-requires : goal.push_run-n-requires
@@ -20,4 +19,3 @@ returns-in-Yes c =
 pub returns-in-No : goal.returns-in-No
 unfolding push_run
 returns-in-No c = runs-refused _ (asked_no _ (rw (to_z-of_z c.ranges.run) at c.push_run_asks-asked.ensures) c.in-No.is)
-

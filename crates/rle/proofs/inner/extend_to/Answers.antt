@@ -6,7 +6,6 @@ use mir.Val.{to_z, of_z}
 use mir.Facts.{to_z-of_z}
 use Rattle.num.proofs.Bits.{back}
 use Rattle.rle.proofs.After.{present-length, extend_same, extend-at, extend-filled}
-use borrow.Author.Rules.{rules}
 use Rattle.rle.proofs.inner.extend_to.Goals as goal
 
 pub returns-then-length-present : goal.returns-then-length-present
@@ -44,4 +43,3 @@ returns c =
     rw (to_z-of_z c.ranges.value)
     at (extend-filled _ _ _ _ q r.0 r.1 r.2 (λ e. c.if-length-present.false (ap (of_z w64) (e ∙ sym x))) (to_z-of_z c.ranges.length)
     c.push_merged-next.ensures)
-
