@@ -1,0 +1,29 @@
+use mathlib.Core.Path.{refl, ◌∙◌, sym}
+use native.Mathlib.Omega.{arith}
+use lib.IntN.{pos}
+use Rattle.column.proofs.Flattened.{offsets-some}
+use Rattle.many.proofs.Walking.{take-zeros, length_front}
+use borrow.Author.Rules.{rules}
+use Rattle.many.proofs.inner.plan_many.Goals as goal
+
+pub overflow_sub-k : goal.overflow_sub-k
+overflow_sub-k c = omega (arith, offsets-some _ _ c.requires.offsets)
+
+pub slice_bounds-plan_walk-end : goal.slice_bounds-plan_walk-end
+slice_bounds-plan_walk-end c = let q = c.requires in sym (length_front 0 _ 128 q.columns)
+
+pub slice_bounds-plan_walk-end-2 : goal.slice_bounds-plan_walk-end-2
+slice_bounds-plan_walk-end-2 c = let q = c.requires in sym (length_front 0 _ 128 q.columns)
+
+pub slice_bounds-plan_walk-end-3 : goal.slice_bounds-plan_walk-end-3
+slice_bounds-plan_walk-end-3 c = let q = c.requires in sym (length_front (pos 0) _ 128 q.columns)
+
+pub plan_walk-requires : goal.plan_walk-requires
+plan_walk-requires c =
+    let q = c.requires in (
+      record { offsets = q.offsets; valid = q.valid; first = take-zeros _ 128 q.columns },
+      record { paired = q.paired; room_ends = refl; room_values = length_front (pos 0) _ 128 q.columns ∙ sym (length_front 0 _ 128 q.columns) },
+      q.room_ends,
+      q.room_indexes,
+    )
+

@@ -1,0 +1,19 @@
+use Prim.Native.Nat.{◌-◌}
+use mathlib.Core.Path.{refl}
+use native.Mathlib.Omega.{arith}
+use lib.ListN.{length}
+use mir.Facts.{to_z-of_z}
+use mir.Val.{to_z}
+use mir.Syntax.{w64}
+use Rattle.many.specs.Workers.{Kept}
+use Rattle.many.proofs.Stepping.{Stepping, step_start, step-long, step_end, step-placed, step-next}
+use Rattle.many.proofs.Keeping.{stepped-end}
+use borrow.Author.Rules.{rules}
+use Rattle.many.proofs.inner.step.Given as goal
+
+abbrev pub invariant-loop-c : goal.invariant-loop-c
+invariant-loop-c l = Stepping l.offsets l.ends l.start l.initial.places l.places l.least l.c × Kept l.offsets l.ends l.values l.fill l.places l.current l.shown (length l.places)
+
+abbrev pub decreases-loop-c : goal.decreases-loop-c
+decreases-loop-c l = length l.initial.places - l.c
+
