@@ -36,6 +36,10 @@ mul-within f i j (fin s m e) (fin t n d) J h k =
     round_at_most f (unlike s t) (m * up e * (n * up d)) (down e * down d) (i + j) (mul-pos (down_pos e) (down_pos d)) J
     (le_trans (mul-le-mul h k)
     (le_of_eq (mul-mul-mul_comm (2 ^ i) (down e) (2 ^ j) (down d) ∙ ap (λ (x : ℕ). x * (down e * down d)) (sym (pow-add 2 i j)))))
+mul-within f i j nan y J h k = elim h [ ]
+mul-within f i j (inf _) y J h k = elim h [ ]
+mul-within f i j (fin s m e) nan J h k = elim k [ ]
+mul-within f i j (fin s m e) (inf _) J h k = elim k [ ]
 
 -- ---- sums
 
@@ -80,6 +84,10 @@ add-within f i j (fin s m e) (fin t n d) I J h k =
     sum-within f s (m * up e * down d) t (n * up d * down e) (down e * down d) j (2 ^ i)
     (mul-pos (down_pos e) (down_pos d)) J (far_below f i j I)
     (both (m * up e) (n * up d) (2 ^ j) (2 ^ i) (down e) (down d) h k)
+add-within f i j nan y I J h k = elim h [ ]
+add-within f i j (inf _) y I J h k = elim h [ ]
+add-within f i j (fin s m e) nan I J h k = elim k [ ]
+add-within f i j (fin s m e) (inf _) I J h k = elim k [ ]
 
 -- x - y, where y is the larger
 pub sub_within : (f : Format) (i j : ℕ) (x y : Float) → i + prec f < j → j ≤ emax f → Within i x → Within j y → Within j (sub f x y)
@@ -89,6 +97,10 @@ sub_within f i j (fin s m e) (fin t n d) I J h k =
     (mul-pos (down_pos e) (down_pos d)) J (far_below f i j I)
     (subst (λ (x : ℕ). m * up e * down d + n * up d * down e ≤ x * (down e * down d)) (add_comm (2 ^ i) (2 ^ j))
     (both (m * up e) (n * up d) (2 ^ i) (2 ^ j) (down e) (down d) h k))
+sub_within f i j nan y I J h k = elim h [ ]
+sub_within f i j (inf _) y I J h k = elim h [ ]
+sub_within f i j (fin s m e) nan I J h k = elim k [ ]
+sub_within f i j (fin s m e) (inf _) I J h k = elim k [ ]
 
 -- ---- quotients
 
@@ -107,3 +119,7 @@ div-within f j (fin s m e) (fin t n d) J h k =
     (round_at_most f (unlike s t) (m * up e * down d) (n * up d * down e) j (mul-pos (lt_of_lt_of_le (down_pos d) k) (down_pos e)) J
     (le_trans (over (m * up e) (2 ^ j) (down e) (down d) h)
     (mul-le-mul_left (2 ^ j) (le_trans (le_of_eq (mul_comm (down e) (down d))) (mul-le-mul_right (down e) k)))))
+div-within f j nan y J h k = elim h [ ]
+div-within f j (inf _) y J h k = elim h [ ]
+div-within f j (fin s m e) nan J h k = elim k [ ]
+div-within f j (fin s m e) (inf _) J h k = elim k [ ]

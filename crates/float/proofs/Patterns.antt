@@ -12,7 +12,7 @@ use native.Mathlib.Omega.{arith}
 use lib.Dec.{T, ltb, lit≤}
 use lib.IntN.{ℤ, pos, negsuc}
 use lib.Pow.{pow-add, pow_pos, pow_mono, pow-lt, shl_lt}
-use lib.Ieee.{Float, inf, fin, Format, binary64, prec, low, up, down, size, odd, units, round, is_nan, hid, top, to_bits, of_bits, nan_bits, of_int}
+use lib.Ieee.{Float, nan, inf, fin, Format, binary64, prec, low, up, down, size, odd, units, round, is_nan, hid, top, to_bits, of_bits, nan_bits, of_int}
 use lib.Ieee.Digits.{size-lt, size-le}
 use lib.Ieee.Bits.{to_bits-lt, of_bits-to_bits, nan_bits_is}
 use lib.Ieee.Fits.{of_int-fits, round_is, two, two-le_pos, down_pos}
@@ -45,6 +45,8 @@ to_bits-value f (fin t m e) s a v =
     ap (λ (x : ℕ). cond t (top f) 0 + (size x - prec f) * hid f + x / 2 ^ (size x - prec f)) n
     ∙ add_assoc (cond t (top f) 0) ((size a - prec f) * hid f) (a / 2 ^ (size a - prec f))
     ∙ ap (λ (b : Bool). cond b (top f) 0 + written (prec f) a) v.0
+to_bits-value f nan s a v = elim v [ ]
+to_bits-value f (inf _) s a v = elim v [ ]
 
 -- ---- what is kept, q, and the k digits that were dropped, are written next to each other
 

@@ -111,6 +111,8 @@ within_of_value (fin t m e) s a l j L h v =
     le_of_mul-le-mul_right
     (le_trans (le_of_eq v.1) (le_trans (mul-le-mul_right (down e) h) (le_of_eq (mul_right_comm (2 ^ j) l (down e)))))
     L
+within_of_value nan s a l j L h v = elim v [ ]
+within_of_value (inf _) s a l j L h v = elim v [ ]
 
 digits_fit : (f : Format) (j : ℕ) → prec f ≤ j + low f
 digits_fit binary32 j = le_trans (lit≤ tt) (le-add_left 149 j)
@@ -193,6 +195,8 @@ one_of_value : (x : Float) (s : Bool) (a l : ℕ) → 0 < l → l ≤ a → HasV
 one_of_value (fin t m e) s a l L h v =
     le_of_mul-le-mul_right
     (le_trans (le_of_eq (mul_comm (down e) l)) (le_trans (mul-le-mul_right (down e) h) (le_of_eq (sym v.1)))) L
+one_of_value nan s a l L h v = elim v [ ]
+one_of_value (inf _) s a l L h v = elim v [ ]
 
 pub round-one : (f : Format) (s : Bool) (num den j : ℕ) → 0 < den → j ≤ emax f → num ≤ 2 ^ j * den → den ≤ num → OneOrMore (round f s num den)
 round-one f s num den j D J N O =

@@ -1,6 +1,6 @@
 -- What a slice of a sequence shows: the values from its start up to its end. And it is valid, and as long as that.
 -- Assumes nothing.
-use Rattle.std.proofs.Common.{◌≡◌, ℕ, ◌+◌, ◌-◌, ◌<◌, ◌≤◌, min, cond, ltb, leb, [], ◌∷◌, length, get_or, take, drop, ℤ, pos, sym, refl, ◌∙◌, zero-add, arith, length-drop, length-take, get_or-drop, get_or-take, ext_get_or, ltb-false, ltb-true, le-ltb, lt-ltb, le-leb, leb-false, leb-true}
+use Rattle.std.proofs.Common.{ap, ◌≡◌, ℕ, ◌+◌, ◌-◌, ◌<◌, ◌≤◌, min, cond, ltb, leb, [], ◌∷◌, length, get_or, take, drop, ℤ, pos, sym, refl, ◌∙◌, zero-add, arith, length-drop, length-take, get_or-drop, get_or-take, ext_get_or, ltb-false, ltb-true, le-ltb, lt-ltb, le-leb, leb-false, leb-true}
 use borrow.Author.Tests.{lt-leb}
 use Rattle.num.proofs.Tests.{by-test}
 use Rattle.column.specs.Runs.{Runs, to_nat, last_end, length_of, dense}
@@ -61,7 +61,7 @@ clamped p s e (r ∷ r' ∷ rs) h =
     let i = clamped r.end s e (r' ∷ rs) h.1 in
     let a = last-above r'.end rs h.1.1 in
     by-test (leb e r.end)
-    (λ t. let q : min e (last_end r'.end rs) ≡ e = omega (arith, leb-true e r.end t) in rw q)
+    (λ t. let q : min e (last_end p (r ∷ r' ∷ rs)) ≡ e = omega (arith, leb-true e r.end t) in ap (λ (x : ℕ). cut s x (r ∷ r' ∷ rs)) q)
     (λ t. rw (t, lt-leb (min e (last_end r'.end rs)) r.end (omega (arith, leb-false e r.end t)), i))
 
 -- ---- the slice itself: its span, as numbers, is from to_nat s up to to_nat e

@@ -6,7 +6,6 @@ use lib.Dec.{leb}
 use lib.IntN.{ℤ, pos, negsuc, nat_abs}
 use lib.Signed.{le_z}
 use mir.Facts.{to_z-of_z}
-use borrow.Author.Rules.{rules}
 use borrow.Author.Tests.{leb-true, leb-false, le-leb, lt-leb}
 use Rattle.float.proofs.is_exact.Goals as goal
 
@@ -25,4 +24,3 @@ returns-then-x c = rw (to_z-of_z c.ranges.x) (below c.args.x (rw (to_z-of_z c.ra
 
 pub returns-else-x : goal.returns-else-x
 returns-else-x c = rw (to_z-of_z c.ranges.x) (under c.args.x (rw (to_z-of_z c.ranges.x) at c.if-x.false))
-

@@ -1,4 +1,3 @@
-use borrow.Author.Rules.{rules}
 use mathlib.Core.Path.{◌≡◌, sym, ap, ◌∙◌, subst}
 use Prim.Native.Nat.{ℕ, suc, ◌+◌, ◌-◌, ◌*◌, ◌^◌, ◌<◌}
 use native.Mathlib.Nat.{add_comm, le_of_eq}
@@ -30,7 +29,7 @@ unfolding converted of_int
 written c =
     let n = c.args.n in
     let z = count_leading_zeros 64 n in
-    let t = leading_top 64 n (not-zero n c.if-n-eq0.false) c.ranges.n.ranges in
+    let t = leading_top 64 n (not-zero n c.if-n-eq0.false) c.ranges.n.fits in
     ap (λ (q : ℕ). (1085 - z) * 2 ^ 52 + q)
     (c.nearest_of-kept.ensures ∙ ap (λ (m : ℕ). closest m 2048) (shl_exact (suc t.0) z 64 t.3 (le_of_eq (add_comm (suc t.0) z ∙ t.1))))
     ∙ sym (size-bits n z t.0 t.1 t.2 t.3)
@@ -43,7 +42,7 @@ pub overflow_cast-zeros : goal.overflow_cast-zeros
 overflow_cast-zeros c = omega (arith, leading_le 64 c.args.n)
 
 pub overflow_shl-n : goal.overflow_shl-n
-overflow_shl-n c = zeros-lt c.args.n c.if-n-eq0.false c.ranges.n.ranges
+overflow_shl-n c = zeros-lt c.args.n c.if-n-eq0.false c.ranges.n.fits
 
 pub overflow_cast-exponent : goal.overflow_cast-exponent
 overflow_cast-exponent c = omega (arith, leading_le 64 c.args.n)
@@ -56,4 +55,3 @@ overflow_add-result c = subst (Fits w64) (sym (written c)) (bits_fit (pos c.args
 
 pub returns : goal.returns
 returns c = written c
-

@@ -1,4 +1,3 @@
-use borrow.Author.Rules.{rules}
 use mathlib.Core.Path.{◌≡◌, sym, ap, ◌∙◌, subst}
 use Prim.Native.Nat.{ℕ, suc, ◌+◌, ◌*◌, ◌/◌, ◌^◌}
 use native.Mathlib.Omega.{arith}
@@ -32,4 +31,3 @@ overflow_add-result c = subst (Fits w64) (sym (told c)) (bits_fit c.args.x)
 
 pub returns : goal.returns
 returns c = told c
-

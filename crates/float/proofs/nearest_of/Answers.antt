@@ -1,4 +1,3 @@
-use borrow.Author.Rules.{rules}
 use mathlib.Core.Path.{◌≡◌}
 use Prim.Native.Nat.{ℕ, ◌+◌, ◌*◌, ◌/◌, ◌%◌, ◌<◌, compare}
 use native.Mathlib.Decide.{dec_lt}
@@ -22,4 +21,3 @@ carried w r h =
 
 pub returns : goal.returns
 returns c = let n = c.args.n in carried (n / 2048) (n % 2048) (omega arith)
-

@@ -2,7 +2,6 @@ use mathlib.Core.Path.{◌≡◌, ap, sym, ◌∙◌}
 use lib.IntN.{ℤ}
 use lib.Ieee.{binary64, to_bits}
 use mir.Facts.{to_z-of_z}
-use borrow.Author.Rules.{rules}
 use borrow.Author.Tests.{leb-true}
 use Rattle.float.specs.Float.{converted}
 use Rattle.float.proofs.Patterns.{bits_back, bits_no_nan}
@@ -23,4 +22,3 @@ returns-then-is_exact c = c.exact.ensures ∙ ap converted (to_z-of_z c.ranges.x
 
 pub returns-else-is_exact : goal.returns-else-is_exact
 returns-else-is_exact c = bits_back c.args.x (told c)
-

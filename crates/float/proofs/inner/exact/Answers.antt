@@ -10,4 +10,3 @@ int_to_float-result c = rw (to_z-of_z c.ranges.x) (exact_cast _ c.requires)
 pub returns : goal.returns
 unfolding converted
 returns c = ap converted (to_z-of_z c.ranges.x)
-
