@@ -1,4 +1,4 @@
-//! Tells the linker where `rt staticlib runlength` has put the archive.
+//! Tells the linker where bindings/archive has put the library.
 
 use std::env;
 use std::path::Path;

@@ -1,4 +1,4 @@
-//! Tells the linker where librunlength.a is: in the folder that RUNLENGTH_LIB_DIR names, or where `rt staticlib runlength`
+//! Tells the linker where librunlength.a is: in the folder that RUNLENGTH_LIB_DIR names, or where bindings/archive
 //! writes it.
 
 use std::env;
@@ -18,7 +18,7 @@ fn main() {
         println!("cargo::rustc-link-lib=static=runlength");
     } else {
         println!(
-            "cargo::error={} is missing: run `rt staticlib runlength` in the repository, or set RUNLENGTH_LIB_DIR",
+            "cargo::error={} is missing: run bindings/archive of the repository, or set RUNLENGTH_LIB_DIR",
             archive.display()
         );
     }

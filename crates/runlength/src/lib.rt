@@ -1,6 +1,6 @@
 #![tactic(auto)]
 
-// The calls for C: each hands on what the Rattle call answers, laid flat.
+// The calls for C, which runlength_c exports: each hands on what the Rattle call answers, laid flat.
 ghost use Rattle.std.specs.Prelude.{◌*◌, ◌≡◌, length};
 ghost use Rattle.batch.specs.Batch.{batch, WritesBatch};
 ghost use Rattle.batch.specs.Calls as batches;
@@ -47,8 +47,7 @@ use ffi::{
 };
 use rle::Rle;
 
-#[unsafe(no_mangle)]
-pub extern "C" fn rl_empty() -> RlRle
+pub fn rl_empty() -> RlRle
     ensures { result.runs ≡ 0 }
 {
     RlRle {
@@ -56,8 +55,7 @@ pub extern "C" fn rl_empty() -> RlRle
     }
 }
 
-#[unsafe(no_mangle)]
-pub extern "C" fn rl_from_runs(
+pub fn rl_from_runs(
     runs: &[i64],
     values: &[i64],
     out_ends: &mut [i64],
@@ -68,27 +66,19 @@ pub extern "C" fn rl_from_runs(
     ffi::counted(from_runs::from_runs(runs, values, out_ends, out_values))
 }
 
-#[unsafe(no_mangle)]
-pub extern "C" fn rl_from_ends(ends: &[i64], values: &[i64]) -> RlRefusal
+pub fn rl_from_ends(ends: &[i64], values: &[i64]) -> RlRefusal
     ensures { LaidCheck (from-runs.from_ends (sequence ends.now values.now)) result }
 {
     ffi::checked(from_runs::from_ends(ends, values))
 }
 
-#[unsafe(no_mangle)]
-pub extern "C" fn rl_repeat(
-    value: i64,
-    length: i64,
-    out_ends: &mut [i64],
-    out_values: &mut [i64],
-) -> RlCounted
+pub fn rl_repeat(value: i64, length: i64, out_ends: &mut [i64], out_values: &mut [i64]) -> RlCounted
     ensures { LaidCounted (WritesRuns (from-runs.repeat value length) out_ends out_values) result }
 {
     ffi::counted(from_runs::repeat(value, length, out_ends, out_values))
 }
 
-#[unsafe(no_mangle)]
-pub extern "C" fn rl_push_run(
+pub fn rl_push_run(
     ends: &mut [i64],
     values: &mut [i64],
     used: usize,
@@ -100,8 +90,7 @@ pub extern "C" fn rl_push_run(
     ffi::counted(Rle { runs: used }.push_run(ends, values, run, value))
 }
 
-#[unsafe(no_mangle)]
-pub extern "C" fn rl_extend_to(
+pub fn rl_extend_to(
     ends: &mut [i64],
     values: &mut [i64],
     used: usize,
@@ -113,38 +102,25 @@ pub extern "C" fn rl_extend_to(
     ffi::counted(Rle { runs: used }.extend_to(ends, values, length, value))
 }
 
-#[unsafe(no_mangle)]
-pub extern "C" fn rl_from_dense(
-    values: &[i64],
-    out_ends: &mut [i64],
-    out_values: &mut [i64],
-) -> RlCounted
+pub fn rl_from_dense(values: &[i64], out_ends: &mut [i64], out_values: &mut [i64]) -> RlCounted
     ensures { LaidCounted (WritesRuns (dense.from_dense values.now) out_ends out_values) result }
 {
     ffi::counted(dense::from_dense(values, out_ends, out_values))
 }
 
-#[unsafe(no_mangle)]
-pub extern "C" fn rl_to_dense(ends: &[i64], values: &[i64], out: &mut [i64]) -> RlCounted
+pub fn rl_to_dense(ends: &[i64], values: &[i64], out: &mut [i64]) -> RlCounted
     ensures { LaidCounted (WritesEntries (dense.to_dense (sequence ends.now values.now)) out) result }
 {
     ffi::counted(dense::to_dense(ends, values, out))
 }
 
-#[unsafe(no_mangle)]
-pub extern "C" fn rl_equals(
-    a_ends: &[i64],
-    a_values: &[i64],
-    b_ends: &[i64],
-    b_values: &[i64],
-) -> RlEquality
+pub fn rl_equals(a_ends: &[i64], a_values: &[i64], b_ends: &[i64], b_values: &[i64]) -> RlEquality
     ensures { LaidEquality (equals.equals (sequence a_ends.now a_values.now) (sequence b_ends.now b_values.now)) result }
 {
     ffi::equality(equals::equals(a_ends, a_values, b_ends, b_values))
 }
 
-#[unsafe(no_mangle)]
-pub extern "C" fn rl_plan(
+pub fn rl_plan(
     a: &[i64],
     b: &[i64],
     out_ends: &mut [i64],
@@ -156,8 +132,7 @@ pub extern "C" fn rl_plan(
     ffi::counted(plan::plan(a, b, out_ends, out_idx_a, out_idx_b))
 }
 
-#[unsafe(no_mangle)]
-pub extern "C" fn rl_zip_with(
+pub fn rl_zip_with(
     a_ends: &[i64],
     a_values: &[i64],
     b_ends: &[i64],
@@ -185,8 +160,7 @@ pub extern "C" fn rl_zip_with(
     ))
 }
 
-#[unsafe(no_mangle)]
-pub extern "C" fn rl_zip_with_raw(
+pub fn rl_zip_with_raw(
     a_ends: &[i64],
     a_values: &[i64],
     b_ends: &[i64],
@@ -214,8 +188,7 @@ pub extern "C" fn rl_zip_with_raw(
     ))
 }
 
-#[unsafe(no_mangle)]
-pub extern "C" fn rl_plan_many(
+pub fn rl_plan_many(
     offsets: &[usize],
     ends: &[i64],
     values: &[i64],
@@ -227,8 +200,7 @@ pub extern "C" fn rl_plan_many(
     ffi::planned_many(many::plan_many(offsets, ends, values, out_ends, out_idx))
 }
 
-#[unsafe(no_mangle)]
-pub extern "C" fn rl_zip_many(
+pub fn rl_zip_many(
     offsets: &[usize],
     ends: &[i64],
     values: &[i64],
@@ -250,15 +222,13 @@ pub extern "C" fn rl_zip_many(
     ))
 }
 
-#[unsafe(no_mangle)]
-pub extern "C" fn rl_run_index(ends: &[i64], pos: i64) -> RlFound
+pub fn rl_run_index(ends: &[i64], pos: i64) -> RlFound
     ensures { LaidFound (slice.run_index ends.now pos) result }
 {
     ffi::found(slice::run_index(ends, pos))
 }
 
-#[unsafe(no_mangle)]
-pub extern "C" fn rl_slice(
+pub fn rl_slice(
     ends: &[i64],
     values: &[i64],
     start: i64,
@@ -271,22 +241,19 @@ pub extern "C" fn rl_slice(
     ffi::counted(slice::slice(ends, values, start, end, out_ends, out_values))
 }
 
-#[unsafe(no_mangle)]
-pub extern "C" fn rl_slice_view(ends: &[i64], values: &[i64], start: i64, end: i64) -> RlViewed
+pub fn rl_slice_view(ends: &[i64], values: &[i64], start: i64, end: i64) -> RlViewed
     ensures { LaidViewed (slice.slice_view (sequence ends.now values.now) start end) result }
 {
     ffi::viewed(slice::slice_view(ends, values, start, end))
 }
 
-#[unsafe(no_mangle)]
-pub extern "C" fn rl_slice_view_values(ends: &[i64], values: &[i64], start: i64, end: i64) -> RlPart
+pub fn rl_slice_view_values(ends: &[i64], values: &[i64], start: i64, end: i64) -> RlPart
     ensures { LaidPart result (slice.slice_part (sequence ends.now values.now) start end) values.now }
 {
     ffi::part(slice::slice_view_part(ends, values, start, end))
 }
 
-#[unsafe(no_mangle)]
-pub extern "C" fn rl_getitems(
+pub fn rl_getitems(
     ends: &[i64],
     values: &[i64],
     starts: &[i64],
@@ -310,8 +277,7 @@ pub extern "C" fn rl_getitems(
     ))
 }
 
-#[unsafe(no_mangle)]
-pub extern "C" fn rl_concat(
+pub fn rl_concat(
     offsets: &[usize],
     ends: &[i64],
     values: &[i64],
@@ -323,8 +289,7 @@ pub extern "C" fn rl_concat(
     ffi::counted(transform::concat(offsets, ends, values, out_ends, out_values))
 }
 
-#[unsafe(no_mangle)]
-pub extern "C" fn rl_shift(
+pub fn rl_shift(
     ends: &[i64],
     values: &[i64],
     distance: i64,
@@ -337,8 +302,7 @@ pub extern "C" fn rl_shift(
     ffi::counted(shift::shift(ends, values, distance, fill, out_ends, out_values))
 }
 
-#[unsafe(no_mangle)]
-pub extern "C" fn rl_reversed(
+pub fn rl_reversed(
     ends: &[i64],
     values: &[i64],
     out_ends: &mut [i64],
@@ -349,8 +313,7 @@ pub extern "C" fn rl_reversed(
     ffi::counted(transform::reversed(ends, values, out_ends, out_values))
 }
 
-#[unsafe(no_mangle)]
-pub extern "C" fn rl_ranges_where(
+pub fn rl_ranges_where(
     ends: &[i64],
     values: &[i64],
     code: u8,
@@ -363,8 +326,7 @@ pub extern "C" fn rl_ranges_where(
     ffi::counted(ranges_where::ranges_where(ends, values, code, number, out_starts, out_ends))
 }
 
-#[unsafe(no_mangle)]
-pub extern "C" fn rl_merge(
+pub fn rl_merge(
     ends: &[i64],
     values: &[i64],
     out_ends: &mut [i64],
@@ -375,8 +337,7 @@ pub extern "C" fn rl_merge(
     ffi::counted(merge::merge(ends, values, out_ends, out_values))
 }
 
-#[unsafe(no_mangle)]
-pub extern "C" fn rl_merged(
+pub fn rl_merged(
     ends: &[i64],
     values: &[i64],
     out_ends: &mut [i64],
@@ -387,8 +348,7 @@ pub extern "C" fn rl_merged(
     ffi::counted(merge::merged(ends, values, out_ends, out_values))
 }
 
-#[unsafe(no_mangle)]
-pub extern "C" fn rl_merge_mask(
+pub fn rl_merge_mask(
     ends: &[i64],
     values: &[i64],
     mask: &[u8],
@@ -401,8 +361,7 @@ pub extern "C" fn rl_merge_mask(
     ffi::counted(merge_mask::merge_mask(ends, values, mask, keep, out_ends, out_values))
 }
 
-#[unsafe(no_mangle)]
-pub extern "C" fn rl_merge_by(
+pub fn rl_merge_by(
     ends: &[i64],
     values: &[i64],
     code: u8,
@@ -414,8 +373,7 @@ pub extern "C" fn rl_merge_by(
     ffi::counted(merge_mask::merge_by(ends, values, code, out_ends, out_values))
 }
 
-#[unsafe(no_mangle)]
-pub extern "C" fn rl_merge_plan(
+pub fn rl_merge_plan(
     ends: &[i64],
     mask: &[u8],
     out_ends: &mut [i64],
@@ -426,29 +384,25 @@ pub extern "C" fn rl_merge_plan(
     ffi::counted(merge_plan::merge_plan(ends, mask, out_ends, out_offsets))
 }
 
-#[unsafe(no_mangle)]
-pub extern "C" fn rl_group_ids(offsets: &[usize], out_ids: &mut [usize]) -> RlCounted
+pub fn rl_group_ids(offsets: &[usize], out_ids: &mut [usize]) -> RlCounted
     ensures { LaidCounted (WritesEntries (merge-plan.group_ids offsets.now) out_ids) result }
 {
     ffi::counted(merge_plan::group_ids(offsets, out_ids))
 }
 
-#[unsafe(no_mangle)]
-pub extern "C" fn rl_sum(ends: &[i64], values: &[i64]) -> RlSummed
+pub fn rl_sum(ends: &[i64], values: &[i64]) -> RlSummed
     ensures { LaidSum (reduce.sum (sequence ends.now values.now)) result }
 {
     ffi::summed(reduce::sum(ends, values))
 }
 
-#[unsafe(no_mangle)]
-pub extern "C" fn rl_reduce(ends: &[i64], values: &[i64], code: u8, ddof: i64) -> RlReduced
+pub fn rl_reduce(ends: &[i64], values: &[i64], code: u8, ddof: i64) -> RlReduced
     ensures { LaidReduced (reduce.reduce (sequence ends.now values.now) code ddof) result }
 {
     ffi::reduced(reduce::reduce(ends, values, code, ddof))
 }
 
-#[unsafe(no_mangle)]
-pub extern "C" fn rl_slice_reduce(
+pub fn rl_slice_reduce(
     ends: &[i64],
     values: &[i64],
     starts: &[i64],
@@ -467,8 +421,7 @@ pub extern "C" fn rl_slice_reduce(
     ))
 }
 
-#[unsafe(no_mangle)]
-pub extern "C" fn rl_batch_from_parts(
+pub fn rl_batch_from_parts(
     keys: &[u32],
     offsets: &[usize],
     ends: &[i64],
@@ -479,15 +432,13 @@ pub extern "C" fn rl_batch_from_parts(
     ffi::checked(batch::from_parts(keys, offsets, ends, values))
 }
 
-#[unsafe(no_mangle)]
-pub extern "C" fn rl_batch_position(keys: &[u32], key: u32) -> RlFound
+pub fn rl_batch_position(keys: &[u32], key: u32) -> RlFound
     ensures { LaidFound (batch-keys.position keys.now key) result }
 {
     ffi::found(batch_keys::position(keys, key))
 }
 
-#[unsafe(no_mangle)]
-pub extern "C" fn rl_batch_get(
+pub fn rl_batch_get(
     keys: &[u32],
     offsets: &[usize],
     ends: &[i64],
@@ -501,8 +452,7 @@ pub extern "C" fn rl_batch_get(
     ffi::got(batch::get(keys, offsets, ends, values, key, out_ends, out_values))
 }
 
-#[unsafe(no_mangle)]
-pub extern "C" fn rl_batch_getitems(
+pub fn rl_batch_getitems(
     keys: &[u32],
     offsets: &[usize],
     ends: &[i64],
@@ -532,8 +482,7 @@ pub extern "C" fn rl_batch_getitems(
     ))
 }
 
-#[unsafe(no_mangle)]
-pub extern "C" fn rl_batch_slice_reduce(
+pub fn rl_batch_slice_reduce(
     keys: &[u32],
     offsets: &[usize],
     ends: &[i64],
@@ -555,8 +504,7 @@ pub extern "C" fn rl_batch_slice_reduce(
     ))
 }
 
-#[unsafe(no_mangle)]
-pub extern "C" fn rl_batch_shift(
+pub fn rl_batch_shift(
     keys: &[u32],
     offsets: &[usize],
     ends: &[i64],
@@ -586,8 +534,7 @@ pub extern "C" fn rl_batch_shift(
     ))
 }
 
-#[unsafe(no_mangle)]
-pub extern "C" fn rl_batch_reversed(
+pub fn rl_batch_reversed(
     keys: &[u32],
     offsets: &[usize],
     ends: &[i64],
@@ -612,8 +559,7 @@ pub extern "C" fn rl_batch_reversed(
     ))
 }
 
-#[unsafe(no_mangle)]
-pub extern "C" fn rl_batch_map_rles_slice(
+pub fn rl_batch_map_rles_slice(
     keys: &[u32],
     offsets: &[usize],
     ends: &[i64],
@@ -643,8 +589,7 @@ pub extern "C" fn rl_batch_map_rles_slice(
     ))
 }
 
-#[unsafe(no_mangle)]
-pub extern "C" fn rl_batch_collapse(
+pub fn rl_batch_collapse(
     keys: &[u32],
     offsets: &[usize],
     ends: &[i64],
@@ -680,8 +625,7 @@ pub extern "C" fn rl_batch_collapse(
     ))
 }
 
-#[unsafe(no_mangle)]
-pub extern "C" fn rl_batch_concat(
+pub fn rl_batch_concat(
     a_keys: &[u32],
     a_offsets: &[usize],
     a_ends: &[i64],
@@ -715,8 +659,7 @@ pub extern "C" fn rl_batch_concat(
     ))
 }
 
-#[unsafe(no_mangle)]
-pub extern "C" fn rl_batch_zip_with(
+pub fn rl_batch_zip_with(
     a_keys: &[u32],
     a_offsets: &[usize],
     a_ends: &[i64],
