@@ -53,12 +53,10 @@ fn is_full(list: &[i64]) -> bool {
 // Puts a value to its place in the list that ends before `to`; those from there on go one further.
 fn insert(entries: &mut [i64], place: usize, to: usize, value: i64) {
     let mut carried = value;
-    let mut i = place;
-    while i < to {
+    for i in place..to {
         let entry = sequence::entry_or(entries, i, 0);
         put_entry(entries, i, carried);
         carried = entry;
-        i += 1;
     }
 }
 
@@ -79,10 +77,8 @@ fn take(entries: &mut [i64], from: usize, value: i64) {
 }
 
 fn take_values(entries: &mut [i64], from: usize, values: &[i64]) {
-    let mut r = 0;
-    while r < values.len() {
+    for r in 0..values.len() {
         take(entries, from, sequence::entry_or(values, r, 0));
-        r += 1;
     }
 }
 

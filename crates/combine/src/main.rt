@@ -13,24 +13,26 @@ mod refusal;
 mod seams;
 mod svg;
 
+ghost use Rattle.std.specs.Prelude.{◌≤◌, length};
+
 use column::answer::{Asked, Counted, Fill};
 use column::sequence;
 use job::inner::output::{put_form, put_named, say, say_named};
 use job::inner::words::Value;
 use job::inner::{
-    BYTES, Job, VALUES, new_runs, new_table, output, put_offsets, used_offsets, words,
+    BYTES, Job, VALUES, new_buffer, new_runs, new_table, output, put_offsets, used_offsets, words,
 };
 use rle::Rle;
 use seams::Window;
+use std::env::FillError;
+use std::rt::Env;
 
 // A code; 255, which the library refuses, for a word that is none.
 fn code_of(codes: &[u8], word: &[u8]) -> u8 {
-    let mut code: u8 = 0;
-    while code < 10 {
+    for code in 0..10u8 {
         if words::same(words::word(codes, code as usize), word) {
             return code;
         }
-        code += 1;
     }
     byte_of(words::value_of(word))
 }
@@ -47,21 +49,42 @@ fn byte_of(value: Value) -> u8 {
     bits as u8
 }
 
-fn is_argument(index: usize, name: &[u8]) -> bool {
+// How many arguments there are, the program's name among them.
+fn argument_count(rt: &impl Env) -> usize {
+    let mut nothing = [0u8; 0];
+    for i in 0..usize::MAX {
+        if let Err(FillError::NotPresent) = rt.arg(i, &mut nothing) {
+            return i;
+        }
+    }
+    usize::MAX
+}
+
+// Puts an argument at the front of a buffer, and answers how long it is; 0 where it is missing or longer than the buffer.
+pub fn put_argument(rt: &impl Env, index: usize, word: &mut [u8]) -> usize
+    ensures { result ≤ length word.new }
+{
+    match rt.arg(index, word) {
+        Ok(n) => n,
+        Err(_) => 0,
+    }
+}
+
+fn is_argument(rt: &impl Env, index: usize, name: &[u8]) -> bool {
     let mut word = [0u8; 64];
-    let n = os::arg(index, &mut word);
+    let n = put_argument(rt, index, &mut word);
     words::same(&word[..n], name)
 }
 
-fn code_argument(index: usize, codes: &[u8]) -> u8 {
+fn code_argument(rt: &impl Env, index: usize, codes: &[u8]) -> u8 {
     let mut word = [0u8; 64];
-    let n = os::arg(index, &mut word);
+    let n = put_argument(rt, index, &mut word);
     code_of(codes, &word[..n])
 }
 
-fn value_argument(index: usize) -> Value {
+fn value_argument(rt: &impl Env, index: usize) -> Value {
     let mut word = [0u8; 64];
-    let n = os::arg(index, &mut word);
+    let n = put_argument(rt, index, &mut word);
     words::value_of(&word[..n])
 }
 
@@ -88,20 +111,25 @@ fn combine(
     zip_many::zip_many(used, ends, values, fill_of(job), code, out_ends, out_values)
 }
 
-fn put_runs(out: usize, buffer: &mut [u8], ends: &[i64], values: &[i64]) -> usize {
+fn put_runs(
+    rt: &(impl Print + Eprint),
+    out: usize,
+    buffer: &mut [u8],
+    ends: &[i64],
+    values: &[i64],
+) -> usize {
     let mut next = out;
-    let mut r = 0;
-    while r < ends.len() {
+    for r in 0..ends.len() {
         let end = sequence::entry_or(ends, r, 0);
         let value = sequence::entry_or(values, r, 0);
-        next = put_form(next, buffer, b"@ @\n", [end, value, 0, 0, 0, 0]);
-        r += 1;
+        next = put_form(rt, next, buffer, b"@ @\n", [end, value, 0, 0, 0, 0]);
     }
     next
 }
 
 // The combined runs, as a column of a job.
 fn put_column(
+    rt: &(impl Print + Eprint),
     out: usize,
     buffer: &mut [u8],
     job: Job,
@@ -114,12 +142,13 @@ fn put_column(
     let given = num::as_signed(job.runs as u64);
     let runs = num::as_signed(ends.len() as u64);
     let numbers = [columns, given, runs, sequence::length(ends), 0, 0];
-    let begun = put_named(out, buffer, form, code, numbers);
-    put_runs(begun, buffer, ends, values)
+    let begun = put_named(rt, out, buffer, form, code, numbers);
+    put_runs(rt, begun, buffer, ends, values)
 }
 
 // Writes what was asked for. The positions that are drawn are those that the columns have.
 fn write(
+    rt: &(impl Print + Eprint),
     drawn: bool,
     window: Window,
     job: Job,
@@ -129,24 +158,43 @@ fn write(
     ends: &[i64],
     values: &[i64],
 ) {
-    let mut buffer = io::large_buffer();
+    let mut buffer = new_buffer();
     if !drawn {
-        let end = put_column(0, &mut buffer, job, code, ends, values);
-        output::flush(end, &buffer);
+        let end = put_column(rt, 0, &mut buffer, job, code, ends, values);
+        output::flush(rt, end, &buffer);
         return;
     }
     let shown = Window {
         from: window.from,
         to: num::smaller(window.to, sequence::length(ends)),
     };
-    let end = svg::draw(0, &mut buffer, shown, job, table, bytes, code, ends, values);
-    output::flush(end, &buffer);
+    let end = svg::draw(
+        rt,
+        0,
+        &mut buffer,
+        shown,
+        job,
+        table,
+        bytes,
+        code,
+        ends,
+        values,
+    );
+    output::flush(rt, end, &buffer);
 }
 
 // Combines the columns of a job that has been read. The code is an argument of the program.
-fn finish(drawn: bool, window: Window, argument: usize, job: Job, table: &[i64], bytes: &[u8]) {
+fn finish(
+    rt: &HostRuntime,
+    drawn: bool,
+    window: Window,
+    argument: usize,
+    job: Job,
+    table: &[i64],
+    bytes: &[u8],
+) {
     let codes = b"add subtract multiply smaller larger first second equal less midpoint";
-    let code = code_argument(argument, codes);
+    let code = code_argument(rt, argument, codes);
     let mut ends = new_runs();
     let mut values = new_runs();
     let combined = combine(job, table, code, &mut ends, &mut values);
@@ -155,74 +203,83 @@ fn finish(drawn: bool, window: Window, argument: usize, job: Job, table: &[i64],
             let name = words::word(codes, code as usize);
             let ends = sequence::part(&ends, 0, n);
             let values = sequence::part(&values, 0, n);
-            write(drawn, window, job, table, bytes, name, ends, values);
+            write(rt, drawn, window, job, table, bytes, name, ends, values);
         }
         Counted::Refused(refused) => {
-            refusal::say_refusal(refused, argument, table, bytes, job.columns);
+            refusal::say_refusal(
+                rt,
+                &rt.stderr(),
+                refused,
+                argument,
+                table,
+                bytes,
+                job.columns,
+            );
         }
     }
 }
 
-fn run(drawn: bool, window: Window, argument: usize) {
+fn run(rt: &HostRuntime, drawn: bool, window: Window, argument: usize) {
     let mut bytes = [0u8; BYTES];
     let mut table = new_table();
-    let job = job::inner::read(&mut bytes, &mut table);
+    let job = job::inner::read(&mut rt.stdin(), &rt.stderr(), &mut bytes, &mut table);
     if job.valid {
-        finish(drawn, window, argument, job, &table, &bytes);
+        finish(rt, drawn, window, argument, job, &table, &bytes);
     }
 }
 
-fn say_usage() {
+fn say_usage(rt: &HostRuntime) {
     say(
+        &rt.stderr(),
         b"usage: combine CODE, or combine svg CODE, or combine svg CODE FROM TO; the job is standard input\n",
         0,
     );
 }
 
 // Draws the positions from one up to another.
-fn run_window(from: i64, to: i64) {
+fn run_window(rt: &HostRuntime, from: i64, to: i64) {
     let starts = [from];
     let ends = [to];
     let asked = questions::ask_intervals(&starts, &ends);
     match asked {
-        Asked::Yes => run(true, Window { from, to }, 2),
+        Asked::Yes => run(rt, true, Window { from, to }, 2),
         Asked::No(_) => {
             let form = b"combine: InvalidInterval (9): FROM @ and TO @ are not 0 <= FROM <= TO\n";
-            say_named(form, b"", [from, to, 0, 0, 0, 0]);
+            say_named(&rt.stderr(), form, b"", [from, to, 0, 0, 0, 0]);
         }
     }
 }
 
 // The same, of the positions that arguments 3 and 4 name.
-fn run_arguments() {
-    let from = value_argument(3);
-    let to = value_argument(4);
+fn run_arguments(rt: &HostRuntime) {
+    let from = value_argument(rt, 3);
+    let to = value_argument(rt, 4);
     if !from.valid {
-        return say_usage();
+        return say_usage(rt);
     }
     if to.valid {
-        return run_window(from.number, to.number);
+        return run_window(rt, from.number, to.number);
     }
-    say_usage()
+    say_usage(rt)
 }
 
-fn main() {
-    let arguments = os::arg_count();
+fn main(rt: HostRuntime) {
+    let arguments = argument_count(&rt);
     let whole = Window {
         from: 0,
         to: i64::MAX,
     };
-    if is_argument(1, b"svg") {
+    if is_argument(&rt, 1, b"svg") {
         match arguments {
-            3 => run(true, whole, 2),
-            5 => run_arguments(),
-            _ => say_usage(),
+            3 => run(&rt, true, whole, 2),
+            5 => run_arguments(&rt),
+            _ => say_usage(&rt),
         }
         return;
     }
     if arguments == 2 {
-        run(false, whole, 1);
+        run(&rt, false, whole, 1);
     } else {
-        say_usage();
+        say_usage(&rt);
     }
 }

@@ -8,7 +8,7 @@ pub const UNITS: usize = 1024;
 const BITS: usize = 10;
 
 // The positions that are drawn: from one up to another.
-#[derive(Drop)]
+#[derive(Clone, Copy)]
 pub struct Window {
     pub from: i64,
     pub to: i64,
@@ -18,13 +18,11 @@ pub struct Window {
 fn fraction(a: u64, b: u64) -> u64 {
     let mut rest = a;
     let mut bits = 0;
-    let mut i = 0;
-    while i < BITS {
+    for _ in 0..BITS {
         rest = std::num::wrapping_add_u64(rest, rest);
         let bit = reaches(rest, b);
         rest = less(rest, b, bit);
         bits = std::num::wrapping_add_u64(std::num::wrapping_add_u64(bits, bits), bit);
-        i += 1;
     }
     bits
 }
@@ -59,7 +57,7 @@ impl Window {
 }
 
 // The breaks on one x: the first position and the last, and how many breaks.
-#[derive(Drop)]
+#[derive(Clone, Copy)]
 pub struct Seam {
     pub first: i64,
     pub last: i64,
@@ -139,17 +137,13 @@ fn mark_break(marks: &mut [i64], window: Window, position: i64) {
 }
 
 fn mark_column(marks: &mut [i64], window: Window, ends: &[i64]) {
-    let mut r = 0;
-    while r < ends.len() {
+    for r in 0..ends.len() {
         mark_break(marks, window, sequence::entry_or(ends, r, 0));
-        r += 1;
     }
 }
 
 pub fn mark_columns(marks: &mut [i64], window: Window, table: &[i64], columns: usize) {
-    let mut c = 0;
-    while c < columns {
+    for c in 0..columns {
         mark_column(marks, window, ends_of(table, c));
-        c += 1;
     }
 }

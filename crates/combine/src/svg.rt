@@ -19,8 +19,8 @@ fn half(width: i64) -> i64 {
 
 // How wide a number is in print, about.
 fn print_width(number: i64) -> i64 {
-    let mut digits = [0u8; 20];
-    let n = io::decimal(num::unsigned_abs(number), &mut digits);
+    let mut digits = itoa::Buffer::new();
+    let n = digits.format(num::unsigned_abs(number)).len();
     num::wrapping_add(num::wrapping_mul(num::as_signed(n as u64), 8), 4)
 }
 
@@ -35,28 +35,41 @@ fn result_y(columns: usize) -> i64 {
 }
 
 // The value of a run, if the run is wide enough for it.
-fn draw_value(out: usize, buffer: &mut [u8], x: i64, width: i64, value: i64) -> usize {
+fn draw_value(
+    rt: &(impl Print + Eprint),
+    out: usize,
+    buffer: &mut [u8],
+    x: i64,
+    width: i64,
+    value: i64,
+) -> usize {
     if width < print_width(value) {
         return out;
     }
     let middle = num::wrapping_add(x, half(width));
     let form = b"<text x=\"@\" y=\"21\" class=\"value\">@</text>\n";
-    put_form(out, buffer, form, [middle, value, 0, 0, 0, 0])
+    put_form(rt, out, buffer, form, [middle, value, 0, 0, 0, 0])
 }
 
 // Where a run starts after another one, with a dot if other columns break there too.
-fn draw_break(out: usize, buffer: &mut [u8], x: i64, seam: Seam) -> usize {
+fn draw_break(
+    rt: &(impl Print + Eprint),
+    out: usize,
+    buffer: &mut [u8],
+    x: i64,
+    seam: Seam,
+) -> usize {
     if seam.is_of_several() {
         let dotted =
             b"<path d=\"M@ -2v36\" class=\"break\"/><circle cx=\"@\" cy=\"16\" r=\"5\" class=\"dot\"/>\n";
-        return put_form(out, buffer, dotted, [x, x, 0, 0, 0, 0]);
+        return put_form(rt, out, buffer, dotted, [x, x, 0, 0, 0, 0]);
     }
     let form = b"<path d=\"M@ -2v36\" class=\"break\"/>\n";
-    put_form(out, buffer, form, [x, 0, 0, 0, 0, 0])
+    put_form(rt, out, buffer, form, [x, 0, 0, 0, 0, 0])
 }
 
 // What of a run is drawn: where it starts and ends, and its value.
-#[derive(Drop)]
+#[derive(Clone, Copy)]
 struct Run {
     start: i64,
     end: i64,
@@ -64,6 +77,7 @@ struct Run {
 }
 
 fn draw_run(
+    rt: &(impl Print + Eprint),
     out: usize,
     buffer: &mut [u8],
     window: Window,
@@ -87,15 +101,16 @@ fn draw_run(
         run.end,
         value,
     ];
-    let drawn = put_named(out, buffer, form, name, numbers);
-    let valued = draw_value(drawn, buffer, x, width, value);
+    let drawn = put_named(rt, out, buffer, form, name, numbers);
+    let valued = draw_value(rt, drawn, buffer, x, width, value);
     if run.start <= window.from {
         return valued;
     }
-    draw_break(valued, buffer, x, seams::seam_at(marks, x))
+    draw_break(rt, valued, buffer, x, seams::seam_at(marks, x))
 }
 
 fn draw_runs(
+    rt: &(impl Print + Eprint),
     out: usize,
     buffer: &mut [u8],
     window: Window,
@@ -108,21 +123,20 @@ fn draw_runs(
     let form =
         b"<rect x=\"@\" width=\"@\" height=\"32\" class=\"c@\"><title>$: @ up to @ shows @</title></rect>\n";
     let mut next = out;
-    let mut r = 0;
-    while r < ends.len() {
+    for r in 0..ends.len() {
         let run = Run {
             start: sequence::end_before(ends, r),
             end: sequence::entry_or(ends, r, 0),
             value: sequence::entry_or(values, r, 0),
         };
-        next = draw_run(next, buffer, window, marks, known, form, name, run);
-        r += 1;
+        next = draw_run(rt, next, buffer, window, marks, known, form, name, run);
     }
     next
 }
 
 // The fill, where a column has ended.
 fn draw_fill(
+    rt: &(impl Print + Eprint),
     out: usize,
     buffer: &mut [u8],
     window: Window,
@@ -139,11 +153,12 @@ fn draw_fill(
         end: window.to,
         value: fill,
     };
-    draw_run(out, buffer, window, marks, known, form, name, run)
+    draw_run(rt, out, buffer, window, marks, known, form, name, run)
 }
 
 // A strip: its name, its runs and the fill after them. Each strip is a group, and ends the group before it.
 fn draw_strip(
+    rt: &(impl Print + Eprint),
     out: usize,
     buffer: &mut [u8],
     window: Window,
@@ -157,9 +172,10 @@ fn draw_strip(
 ) -> usize {
     let form =
         b"</g>\n<g transform=\"translate(0,@)\">\n<text x=\"-12\" y=\"21\" class=\"name\">$</text>\n";
-    let named = put_named(out, buffer, form, name, [y, 0, 0, 0, 0, 0]);
-    let runs = draw_runs(named, buffer, window, marks, known, name, ends, values);
+    let named = put_named(rt, out, buffer, form, name, [y, 0, 0, 0, 0, 0]);
+    let runs = draw_runs(rt, named, buffer, window, marks, known, name, ends, values);
     draw_fill(
+        rt,
         runs,
         buffer,
         window,
@@ -172,6 +188,7 @@ fn draw_strip(
 }
 
 fn draw_columns(
+    rt: &(impl Print + Eprint),
     out: usize,
     buffer: &mut [u8],
     window: Window,
@@ -183,12 +200,12 @@ fn draw_columns(
     fill: i64,
 ) -> usize {
     let mut next = out;
-    let mut c = 0;
-    while c < columns {
+    for c in 0..columns {
         let name = name_of(bytes, c);
         let ends = ends_of(table, c);
         let values = values_of(table, c);
         next = draw_strip(
+            rt,
             next,
             buffer,
             window,
@@ -200,13 +217,12 @@ fn draw_columns(
             values,
             fill,
         );
-        c += 1;
     }
     next
 }
 
 // From which x on there is room to print above the strips, and below them.
-#[derive(Drop)]
+#[derive(Clone, Copy)]
 struct Room {
     above: i64,
     below: i64,
@@ -257,20 +273,29 @@ fn room_after(room: Room, x: i64, seam: Seam) -> Room {
 }
 
 // A seam where one column breaks.
-fn draw_single(out: usize, buffer: &mut [u8], x: i64, seam: Seam, bottom: i64, room: i64) -> usize {
+fn draw_single(
+    rt: &(impl Print + Eprint),
+    out: usize,
+    buffer: &mut [u8],
+    x: i64,
+    seam: Seam,
+    bottom: i64,
+    room: i64,
+) -> usize {
     let at = seam.last;
     let line = b"<path d=\"M@ 84V@\" class=\"single\"><title>@: one column breaks</title></path>\n";
-    let drawn = put_form(out, buffer, line, [x, bottom, at, 0, 0, 0]);
+    let drawn = put_form(rt, out, buffer, line, [x, bottom, at, 0, 0, 0]);
     if print_start(x, seam) < room {
         return drawn;
     }
     let print = b"<text x=\"@\" y=\"@\" class=\"at\">@</text>\n";
     let y = num::wrapping_add(bottom, 14);
-    put_form(drawn, buffer, print, [x, y, at, 0, 0, 0])
+    put_form(rt, drawn, buffer, print, [x, y, at, 0, 0, 0])
 }
 
 // A seam where several columns break.
 fn draw_several(
+    rt: &(impl Print + Eprint),
     out: usize,
     buffer: &mut [u8],
     x: i64,
@@ -281,21 +306,30 @@ fn draw_several(
     let at = seam.last;
     let count = seam.count;
     let line = b"<path d=\"M@ 84V@\" class=\"several\"><title>@: @ columns break</title></path>\n";
-    let drawn = put_form(out, buffer, line, [x, bottom, at, count, 0, 0]);
+    let drawn = put_form(rt, out, buffer, line, [x, bottom, at, count, 0, 0]);
     if print_start(x, seam) < room {
         return drawn;
     }
     let print =
         b"<g class=\"at several\"><text x=\"@\" y=\"64\">@</text><text x=\"@\" y=\"79\">@ columns</text></g>\n";
-    put_form(drawn, buffer, print, [x, at, x, count, 0, 0])
+    put_form(rt, drawn, buffer, print, [x, at, x, count, 0, 0])
 }
 
 // Seams at several positions, on one x.
-fn draw_near(out: usize, buffer: &mut [u8], x: i64, seam: Seam, bottom: i64, room: i64) -> usize {
+fn draw_near(
+    rt: &(impl Print + Eprint),
+    out: usize,
+    buffer: &mut [u8],
+    x: i64,
+    seam: Seam,
+    bottom: i64,
+    room: i64,
+) -> usize {
     let count = seam.count;
     let line =
         b"<path d=\"M@ 84V@\" class=\"near\"><title>@ breaks, from @ up to @</title></path>\n";
     let drawn = put_form(
+        rt,
         out,
         buffer,
         line,
@@ -307,6 +341,7 @@ fn draw_near(out: usize, buffer: &mut [u8], x: i64, seam: Seam, bottom: i64, roo
     let print =
         b"<g class=\"at near\"><text x=\"@\" y=\"64\">@ .. @</text><text x=\"@\" y=\"79\">@ breaks</text></g>\n";
     put_form(
+        rt,
         drawn,
         buffer,
         print,
@@ -314,38 +349,50 @@ fn draw_near(out: usize, buffer: &mut [u8], x: i64, seam: Seam, bottom: i64, roo
     )
 }
 
-fn draw_seam(out: usize, buffer: &mut [u8], x: i64, seam: Seam, bottom: i64, room: Room) -> usize {
+fn draw_seam(
+    rt: &(impl Print + Eprint),
+    out: usize,
+    buffer: &mut [u8],
+    x: i64,
+    seam: Seam,
+    bottom: i64,
+    room: Room,
+) -> usize {
     if seam.count == 0 {
         return out;
     }
     if seam.is_near() {
-        return draw_near(out, buffer, x, seam, bottom, room.above);
+        return draw_near(rt, out, buffer, x, seam, bottom, room.above);
     }
     if seam.is_of_several() {
-        return draw_several(out, buffer, x, seam, bottom, room.above);
+        return draw_several(rt, out, buffer, x, seam, bottom, room.above);
     }
-    draw_single(out, buffer, x, seam, bottom, room.below)
+    draw_single(rt, out, buffer, x, seam, bottom, room.below)
 }
 
-fn draw_seams(out: usize, buffer: &mut [u8], marks: &[i64], bottom: i64) -> usize {
+fn draw_seams(
+    rt: &(impl Print + Eprint),
+    out: usize,
+    buffer: &mut [u8],
+    marks: &[i64],
+    bottom: i64,
+) -> usize {
     let mut next = out;
     let mut room = Room {
         above: -100,
         below: -100,
     };
-    let mut i = 0;
-    while i < seams::UNITS {
+    for i in 0..seams::UNITS {
         let x = num::as_signed(i as u64);
         let seam = seams::seam_at(marks, x);
-        next = draw_seam(next, buffer, x, seam, bottom, room);
+        next = draw_seam(rt, next, buffer, x, seam, bottom, room);
         room = room_after(room, x, seam);
-        i += 1;
     }
     next
 }
 
 // The start of a drawing.
-fn draw_head(out: usize, buffer: &mut [u8], height: i64) -> usize {
+fn draw_head(rt: &(impl Print + Eprint), out: usize, buffer: &mut [u8], height: i64) -> usize {
     let form =
         b"<svg xmlns=\"http://www.w3.org/2000/svg\" width=\"1320\" height=\"@\" viewBox=\"0 0 1320 @\">
 <style>
@@ -369,11 +416,12 @@ rect.fill { fill: #fff; stroke: #888; stroke-dasharray: 4 3 }
 <rect width=\"100%\" height=\"100%\" fill=\"#fff\"/>
 <g transform=\"translate(250,0)\">
 ";
-    put_form(out, buffer, form, [height, height, 0, 0, 0, 0])
+    put_form(rt, out, buffer, form, [height, height, 0, 0, 0, 0])
 }
 
 // What is drawn, and the start of the group of its seams.
 fn draw_heading(
+    rt: &(impl Print + Eprint),
     out: usize,
     buffer: &mut [u8],
     window: Window,
@@ -383,11 +431,12 @@ fn draw_heading(
     let form = b"<text y=\"32\" class=\"head\">$ of @ columns, positions @ up to @</text>\n<g>\n";
     let count = num::as_signed(columns as u64);
     let numbers = [count, window.from, window.to, 0, 0, 0];
-    put_named(out, buffer, form, code, numbers)
+    put_named(rt, out, buffer, form, code, numbers)
 }
 
 // A drawing with no position, which says why it has none.
 fn draw_nothing(
+    rt: &(impl Print + Eprint),
     out: usize,
     buffer: &mut [u8],
     window: Window,
@@ -395,17 +444,18 @@ fn draw_nothing(
     columns: usize,
     length: i64,
 ) -> usize {
-    let begun = draw_head(out, buffer, 60);
+    let begun = draw_head(rt, out, buffer, 60);
     let count = num::as_signed(columns as u64);
     if window.from < length {
         let form =
             b"<text y=\"32\" class=\"head\">$ of @ columns: no position from @ up to @</text>\n</g>\n</svg>\n";
         let numbers = [count, window.from, window.to, 0, 0, 0];
-        return put_named(begun, buffer, form, code, numbers);
+        return put_named(rt, begun, buffer, form, code, numbers);
     }
     let form =
         b"<text y=\"32\" class=\"head\">$ of @ columns: no position from @ on, as the columns end at @</text>\n</g>\n</svg>\n";
     put_named(
+        rt,
         begun,
         buffer,
         form,
@@ -415,7 +465,7 @@ fn draw_nothing(
 }
 
 // What the lines mean, and the end of the drawing.
-fn draw_legend(out: usize, buffer: &mut [u8], bottom: i64) -> usize {
+fn draw_legend(rt: &(impl Print + Eprint), out: usize, buffer: &mut [u8], bottom: i64) -> usize {
     let form = b"</g>
 <g transform=\"translate(0,@)\">
 <path d=\"M0 0h36\" class=\"single\"/><text x=\"44\" y=\"4\">one column breaks</text>
@@ -426,6 +476,7 @@ fn draw_legend(out: usize, buffer: &mut [u8], bottom: i64) -> usize {
 </svg>
 ";
     put_form(
+        rt,
         out,
         buffer,
         form,
@@ -435,6 +486,7 @@ fn draw_legend(out: usize, buffer: &mut [u8], bottom: i64) -> usize {
 
 // The seams, and the strips over them.
 fn draw_strips(
+    rt: &(impl Print + Eprint),
     out: usize,
     buffer: &mut [u8],
     window: Window,
@@ -452,18 +504,19 @@ fn draw_strips(
     seams::mark_columns(&mut marks, window, table, columns);
     let mut known = [i64::MAX; colours::ENTRIES];
     colours::take_all(&mut known, job, table, values);
-    let seamed = draw_seams(out, buffer, &marks, bottom);
+    let seamed = draw_seams(rt, out, buffer, &marks, bottom);
     let drawn = draw_columns(
-        seamed, buffer, window, &marks, &known, table, bytes, columns, fill,
+        rt, seamed, buffer, window, &marks, &known, table, bytes, columns, fill,
     );
     let y = result_y(columns);
     draw_strip(
-        drawn, buffer, window, &marks, &known, y, code, ends, values, 0,
+        rt, drawn, buffer, window, &marks, &known, y, code, ends, values, 0,
     )
 }
 
 // The columns of a job, and the combination by a code below them.
 pub fn draw(
+    rt: &(impl Print + Eprint),
     out: usize,
     buffer: &mut [u8],
     window: Window,
@@ -476,13 +529,21 @@ pub fn draw(
 ) -> usize {
     let columns = job.columns;
     if window.to <= window.from {
-        return draw_nothing(out, buffer, window, code, columns, sequence::length(ends));
+        return draw_nothing(
+            rt,
+            out,
+            buffer,
+            window,
+            code,
+            columns,
+            sequence::length(ends),
+        );
     }
     let bottom = num::wrapping_add(result_y(columns), 40);
-    let begun = draw_head(out, buffer, num::wrapping_add(bottom, 76));
-    let headed = draw_heading(begun, buffer, window, code, columns);
+    let begun = draw_head(rt, out, buffer, num::wrapping_add(bottom, 76));
+    let headed = draw_heading(rt, begun, buffer, window, code, columns);
     let drawn = draw_strips(
-        headed, buffer, window, job, table, bytes, code, ends, values, bottom,
+        rt, headed, buffer, window, job, table, bytes, code, ends, values, bottom,
     );
-    draw_legend(drawn, buffer, bottom)
+    draw_legend(rt, drawn, buffer, bottom)
 }

@@ -12,11 +12,11 @@ pub mod words;
 
 ghost use Rattle.std.specs.Prelude.{◌≡◌, length};
 
-use crate::inner::output::say;
+use crate::inner::output::{fail, say};
 use column::answer::Asked;
 use column::sequence;
-use libc::STDIN_FILENO;
 use rle::Rle;
+use std::io::Read;
 
 // The most runs of a job.
 const RUNS: usize = 131_072;
@@ -50,6 +50,13 @@ pub fn new_table() -> [i64; TABLE]
     [0; TABLE]
 }
 
+// A buffer for what is read or written at once.
+pub fn new_buffer() -> [u8; 65536]
+    ensures { 65536 ≡ length result }
+{
+    [0; 65536]
+}
+
 // A buffer for the runs of a combination.
 pub fn new_runs() -> [i64; RUNS]
     ensures { 131072 ≡ length result }
@@ -58,7 +65,7 @@ pub fn new_runs() -> [i64; RUNS]
 }
 
 // What has been read of a job, and where reading stands: the number of the line, its bytes so far, and whether they are a comment.
-#[derive(Drop)]
+#[derive(Clone, Copy)]
 pub struct Job {
     pub line: i64,
     pub length: usize,
@@ -69,6 +76,7 @@ pub struct Job {
     pub fill: i64,
     pub more: bool,
     pub valid: bool,
+    problem: Option<Problem>,
 }
 
 // Where the runs of a column start; of the column after the last, where the last one's end.
@@ -79,10 +87,8 @@ fn offset(table: &[i64], column: usize) -> usize {
 
 // The offsets of the columns, as the library takes them.
 pub fn put_offsets(table: &[i64], offsets: &mut [usize]) {
-    let mut c = 0;
-    while c < offsets.len() {
+    for c in 0..offsets.len() {
         offsets[c] = offset(table, c);
-        c += 1;
     }
 }
 
@@ -147,12 +153,10 @@ fn is_name(word: &[u8]) -> bool {
     if word.len() > NAME {
         return false;
     }
-    let mut i = 0;
-    while i < word.len() {
+    for i in 0..word.len() {
         if !is_name_byte(word[i]) {
             return false;
         }
-        i += 1;
     }
     true
 }
@@ -174,11 +178,9 @@ fn put_name(bytes: &mut [u8], column: usize, length: usize) {
     let from = num::saturating_add(LINE, start);
     let to = num::saturating_mul(column, NAME);
     put_byte(bytes, num::saturating_add(LINE, length), 0);
-    let mut i = 0;
-    while i < NAME {
+    for i in 0..NAME {
         let byte = words::byte_at(bytes, num::saturating_add(from, i));
         put_byte(bytes, num::saturating_add(to, i), byte);
-        i += 1;
     }
 }
 
@@ -201,7 +203,7 @@ fn put_line(job: Job, table: &mut [i64]) {
 }
 
 // What can be wrong with a line.
-#[derive(Drop)]
+#[derive(Clone, Copy)]
 enum Problem {
     Line,
     Column,
@@ -213,34 +215,46 @@ enum Problem {
     Runs,
 }
 
-fn say_problem(problem: Problem, line: i64) {
+fn say_problem(err: &(impl Print + Eprint), problem: Problem, line: i64) {
     match problem {
-        Problem::Line => say(b"combine: line @: more than 256 bytes\n", line),
+        Problem::Line => say(err, b"combine: line @: more than 256 bytes\n", line),
         Problem::Column => say(
+            err,
             b"combine: line @: expected column NAME, of at most 32 letters, digits, . _ and -\n",
             line,
         ),
         Problem::Columns => say(
+            err,
             b"combine: line @: TooMany (5): a job has at most 128 columns\n",
             line,
         ),
         Problem::Fill => say(
+            err,
             b"combine: line @: expected fill VALUE, a number of 64 bits\n",
             line,
         ),
-        Problem::SecondFill => say(b"combine: line @: a second fill\n", line),
+        Problem::SecondFill => say(err, b"combine: line @: a second fill\n", line),
         Problem::Run => say(
+            err,
             b"combine: line @: expected END VALUE, two numbers of 64 bits, or column NAME, or fill VALUE\n",
             line,
         ),
-        Problem::NoColumn => say(b"combine: line @: a run before the first column\n", line),
-        Problem::Runs => say(b"combine: line @: a job has at most 131072 runs\n", line),
+        Problem::NoColumn => say(
+            err,
+            b"combine: line @: a run before the first column\n",
+            line,
+        ),
+        Problem::Runs => say(
+            err,
+            b"combine: line @: a job has at most 131072 runs\n",
+            line,
+        ),
     }
 }
 
-// Says what is wrong with the line, and ends the reading.
+// Keeps what is wrong with the line, and ends the reading.
 fn refused(mut job: Job, problem: Problem) -> Job {
-    say_problem(problem, job.line);
+    job.problem = Some(problem);
     job.valid = false;
     job.more = false;
     job
@@ -400,13 +414,11 @@ fn take_byte(job: Job, byte: u8, bytes: &mut [u8], table: &mut [i64]) -> Job {
 
 fn take_bytes(job: Job, input: &[u8], bytes: &mut [u8], table: &mut [i64]) -> Job {
     let mut next = job;
-    let mut i = 0;
-    while i < input.len() {
+    for i in 0..input.len() {
         if !next.valid {
             return next;
         }
         next = take_byte(next, input[i], bytes, table);
-        i += 1;
     }
     next
 }
@@ -419,31 +431,34 @@ fn end_text(job: Job, bytes: &mut [u8], table: &mut [i64]) -> Job {
     last
 }
 
-// Standard input cannot be read.
+// The input cannot be read.
 fn unread(mut job: Job) -> Job {
-    os::fail(b"combine: standard input");
     job.valid = false;
     job.more = false;
     job
 }
 
 // Reads once.
-fn read_some(job: Job, bytes: &mut [u8], table: &mut [i64]) -> Job {
-    let mut buffer = io::large_buffer();
-    let got = libc::read(STDIN_FILENO, &mut buffer);
-    if got < 0 {
-        return unread(job);
+fn read_some(
+    input: &mut impl Read,
+    err: &impl Eprint,
+    job: Job,
+    bytes: &mut [u8],
+    table: &mut [i64],
+) -> Job {
+    let mut buffer = new_buffer();
+    match input.read(&mut buffer) {
+        Ok(0) => end_text(job, bytes, table),
+        Ok(n) => take_bytes(job, &buffer[..n], bytes, table),
+        Err(e) => {
+            fail(err, "standard input", e);
+            unread(job)
+        }
     }
-    if got == 0 {
-        return end_text(job, bytes, table);
-    }
-    let n = io::count(got, &buffer);
-    take_bytes(job, &buffer[..n], bytes, table)
 }
 
-// Reads a job from standard input. Where it is not valid, a message has said why. The turns are counted down from a number that no
-// input uses up, since nothing says that the input ends.
-pub fn read(bytes: &mut [u8], table: &mut [i64]) -> Job {
+// Reads while there is more to read.
+fn read_all(input: &mut impl Read, err: &impl Eprint, bytes: &mut [u8], table: &mut [i64]) -> Job {
     let mut job = Job {
         line: 0,
         length: 0,
@@ -454,14 +469,28 @@ pub fn read(bytes: &mut [u8], table: &mut [i64]) -> Job {
         fill: 0,
         more: true,
         valid: true,
+        problem: None,
     };
-    let mut turns = u64::MAX;
-    while turns > 0 {
+    for _ in 0..u64::MAX {
         if !job.more {
             return job;
         }
-        job = read_some(job, bytes, table);
-        turns -= 1;
+        job = read_some(input, err, job, bytes, table);
+    }
+    job
+}
+
+// Reads a job. Where it is not valid, a message has said why. The turns are counted up to a number that no input uses up, since nothing
+// says that the input ends.
+pub fn read(
+    input: &mut impl Read,
+    err: &(impl Print + Eprint),
+    bytes: &mut [u8],
+    table: &mut [i64],
+) -> Job {
+    let job = read_all(input, err, bytes, table);
+    if let Some(problem) = job.problem {
+        say_problem(err, problem, job.line);
     }
     job
 }

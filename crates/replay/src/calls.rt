@@ -2,6 +2,7 @@
 // Written by bindings/generate from the exports.
 use crate::report_all;
 use replay_case::inner::Outcome;
+use std::io;
 
 // One more than the last call's number.
 pub const CALLS: usize = 44;
@@ -22,7 +23,7 @@ pub fn outcome(call: usize, lists: &[i64], numbers: &[i64], lent: &[i64]) -> Out
     }
 }
 
-pub fn report(cases: &[u64; CALLS], agreed: &[u64; CALLS]) {
+pub fn report(out: &impl Print, cases: &[u64; CALLS], agreed: &[u64; CALLS]) -> io::Result<()> {
     let names =
         b"from_runs\nfrom_ends\nrepeat\npush_run\nextend_to\nfrom_dense\nto_dense\nequals\nplan\nzip_with\n\
         zip_with_raw\nplan_many\nzip_many\nrun_index\nslice\nslice_view\nslice_view_values\ngetitems\nconcat\n\
@@ -30,5 +31,5 @@ pub fn report(cases: &[u64; CALLS], agreed: &[u64; CALLS]) {
         reduce\nslice_reduce\nbatch_from_parts\nbatch_position\nbatch_get\nbatch_getitems\n\
         batch_slice_reduce\nbatch_shift\nbatch_reversed\nbatch_map_rles_slice\nbatch_collapse\nbatch_concat\n\
         batch_zip_with\n";
-    report_all(names, cases, agreed);
+    report_all(out, names, cases, agreed)
 }

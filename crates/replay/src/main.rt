@@ -5,9 +5,15 @@
 mod calls;
 mod case;
 
+ghost use Rattle.std.specs.Prelude.{◌≤◌, length, IfOk};
+
 use calls::CALLS;
 use column::sequence;
-use libc::{STDIN_FILENO, STDOUT_FILENO};
+use std::io;
+use std::io::Read;
+
+// The most bytes that are read.
+const BYTES: usize = 65_536;
 
 // The most numbers that are read of a line, more than any case has.
 const NUMBERS: usize = 128;
@@ -29,7 +35,12 @@ fn call_of(row: &[i64], valid: bool) -> usize {
 
 // Counts a line among the cases of its call, and among those that agreed; at 0 if it has no known call or cannot be read. One that does
 // not agree is written.
-fn replay_line(line: &[u8], cases: &mut [u64; CALLS], agreed: &mut [u64; CALLS]) {
+fn replay_line(
+    out: &impl Print,
+    line: &[u8],
+    cases: &mut [u64; CALLS],
+    agreed: &mut [u64; CALLS],
+) -> io::Result<()> {
     let mut numbers = [0i64; NUMBERS];
     let read = text::read(line, &mut numbers);
     let n = read.numbers;
@@ -37,35 +48,41 @@ fn replay_line(line: &[u8], cases: &mut [u64; CALLS], agreed: &mut [u64; CALLS])
     count(cases, call);
     if case::agrees(&numbers[..n], call) {
         count(agreed, call);
+        Ok(())
     } else {
-        io::write_all(STDOUT_FILENO, line);
-        io::write_all(STDOUT_FILENO, b" does not agree\n");
+        out.write_all(line)?;
+        out.write_all(b" does not agree\n")
     }
 }
 
 // Replays line after line, and answers how many there were.
-fn replay(input: &[u8], cases: &mut [u64; CALLS], agreed: &mut [u64; CALLS]) -> u64 {
+fn replay(
+    out: &impl Print,
+    input: &[u8],
+    cases: &mut [u64; CALLS],
+    agreed: &mut [u64; CALLS],
+) -> io::Result<u64> {
     let mut lines = 0;
     let mut at = 0;
     while at < input.len() {
         let end = text::line_end(input, at);
-        replay_line(&input[at..end], cases, agreed);
+        replay_line(out, &input[at..end], cases, agreed)?;
         lines = std::num::wrapping_add_u64(lines, 1);
         at = end + 1;
     }
-    lines
+    Ok(lines)
 }
 
-fn write_count(count: u64, what: &[u8]) {
-    io::print_decimal(STDOUT_FILENO, count);
-    io::write_all(STDOUT_FILENO, what);
+fn write_count(out: &impl Print, count: u64, what: &[u8]) -> io::Result<()> {
+    out.print(count)?;
+    out.write_all(what)
 }
 
-fn report(name: &[u8], cases: u64, agreed: u64) {
-    io::write_all(STDOUT_FILENO, name);
-    io::write_all(STDOUT_FILENO, b" ");
-    write_count(cases, b" cases, ");
-    write_count(agreed, b" agreed\n");
+fn report(out: &impl Print, name: &[u8], cases: u64, agreed: u64) -> io::Result<()> {
+    out.write_all(name)?;
+    out.write_all(b" ")?;
+    write_count(out, cases, b" cases, ")?;
+    write_count(out, agreed, b" agreed\n")
 }
 
 // The count of a call, if there is such a call.
@@ -74,32 +91,54 @@ fn count_of(counts: &[u64; CALLS], call: usize) -> u64 {
 }
 
 // A line for each call, from number 2 on: empty has no case. Each name has a line.
-pub fn report_all(names: &[u8], cases: &[u64; CALLS], agreed: &[u64; CALLS]) {
+pub fn report_all(
+    out: &impl Print,
+    names: &[u8],
+    cases: &[u64; CALLS],
+    agreed: &[u64; CALLS],
+) -> io::Result<()> {
     let mut call = 2;
     let mut at = 0;
     while at < names.len() {
         let end = text::line_end(names, at);
         report(
+            out,
             &names[at..end],
             count_of(cases, call),
             count_of(agreed, call),
-        );
+        )?;
         call = num::saturating_add(call, 1);
         at = end + 1;
     }
+    Ok(())
 }
 
-fn main() {
-    let mut buffer = io::large_buffer();
-    let n = io::read_full(STDIN_FILENO, &mut buffer);
+// Reads until the buffer is full or the input ends, and answers how many bytes it put at the front of the buffer.
+fn read_full(input: &mut impl Read, buffer: &mut [u8]) -> io::Result<usize>
+    ensures { IfOk result (λ n. n ≤ length buffer.new) }
+{
+    let mut done = 0;
+    for _ in 0..buffer.len() {
+        let n = input.read(&mut buffer[done..])?;
+        if n == 0 {
+            break;
+        }
+        done += n;
+    }
+    Ok(done)
+}
+
+fn main(rt: HostRuntime) -> io::Result<()> {
+    let mut buffer = [0u8; BYTES];
+    let n = read_full(&mut rt.stdin(), &mut buffer)?;
     let mut cases = [0u64; CALLS];
     let mut agreed = [0u64; CALLS];
-    let lines = replay(&buffer[..n], &mut cases, &mut agreed);
-    calls::report(&cases, &agreed);
+    let lines = replay(&rt, &buffer[..n], &mut cases, &mut agreed)?;
+    calls::report(&rt, &cases, &agreed)?;
     if cases[0] > 0 {
-        io::write_all(STDOUT_FILENO, b"unknown ");
-        write_count(cases[0], b" cases\n");
+        rt.write_all(b"unknown ")?;
+        write_count(&rt, cases[0], b" cases\n")?;
     }
-    write_count(lines, b" lines, ");
-    write_count(n as u64, b" bytes read\n");
+    write_count(&rt, lines, b" lines, ")?;
+    write_count(&rt, n as u64, b" bytes read\n")
 }

@@ -30,10 +30,8 @@ fn list_end(row: &[i64], at: usize) -> usize {
 // The place after so many lists.
 pub fn behind(row: &[i64], at: usize, lists: usize) -> usize {
     let mut end = at;
-    let mut k = 0;
-    while k < lists {
+    for _ in 0..lists {
         end = list_end(row, end);
-        k += 1;
     }
     end
 }
@@ -55,10 +53,8 @@ fn count(lists: &[i64], index: usize) -> usize
 pub fn entries(lists: &[i64], index: usize) -> [i64; LONGEST] {
     let list = list(lists, index);
     let mut entries = [0i64; LONGEST];
-    let mut i = 0;
-    while i < LONGEST {
+    for i in 0..LONGEST {
         entries[i] = sequence::entry_or(list, i, 0);
-        i += 1;
     }
     entries
 }
@@ -88,10 +84,8 @@ pub fn size(numbers: &[i64], at: usize) -> usize {
 pub fn places(lists: &[i64], index: usize) -> [usize; LONGEST] {
     let list = list(lists, index);
     let mut places = [0usize; LONGEST];
-    let mut i = 0;
-    while i < LONGEST {
+    for i in 0..LONGEST {
         places[i] = size(list, i);
-        i += 1;
     }
     places
 }
@@ -100,10 +94,8 @@ pub fn places(lists: &[i64], index: usize) -> [usize; LONGEST] {
 pub fn keys(lists: &[i64], index: usize) -> [u32; LONGEST] {
     let list = list(lists, index);
     let mut keys = [0u32; LONGEST];
-    let mut i = 0;
-    while i < LONGEST {
+    for i in 0..LONGEST {
         keys[i] = key(list, i);
-        i += 1;
     }
     keys
 }
@@ -112,10 +104,8 @@ pub fn keys(lists: &[i64], index: usize) -> [u32; LONGEST] {
 pub fn bytes(lists: &[i64], index: usize) -> [u8; LONGEST] {
     let list = list(lists, index);
     let mut bytes = [0u8; LONGEST];
-    let mut i = 0;
-    while i < LONGEST {
+    for i in 0..LONGEST {
         bytes[i] = code(list, i);
-        i += 1;
     }
     bytes
 }
@@ -124,10 +114,8 @@ pub fn bytes(lists: &[i64], index: usize) -> [u8; LONGEST] {
 pub fn bits(lists: &[i64], index: usize) -> [u64; LONGEST] {
     let list = list(lists, index);
     let mut bits = [0u64; LONGEST];
-    let mut i = 0;
-    while i < LONGEST {
+    for i in 0..LONGEST {
         bits[i] = bits_at(list, i);
-        i += 1;
     }
     bits
 }
@@ -170,10 +158,8 @@ pub fn bits_lent(lists: &[i64], index: usize, bits: [u64; LONGEST]) -> usize
 // Offsets or indexes as numbers.
 pub fn from_places(places: [usize; LONGEST]) -> [i64; LONGEST] {
     let mut numbers = [0i64; LONGEST];
-    let mut i = 0;
-    while i < LONGEST {
+    for i in 0..LONGEST {
         numbers[i] = num::as_signed(places[i] as u64);
-        i += 1;
     }
     numbers
 }
@@ -185,10 +171,8 @@ fn wide(key: u32) -> i64 {
 // Keys as numbers.
 pub fn from_keys(keys: [u32; LONGEST]) -> [i64; LONGEST] {
     let mut numbers = [0i64; LONGEST];
-    let mut i = 0;
-    while i < LONGEST {
+    for i in 0..LONGEST {
         numbers[i] = wide(keys[i]);
-        i += 1;
     }
     numbers
 }
@@ -200,10 +184,8 @@ fn number(byte: u8) -> i64 {
 // Bytes as numbers.
 pub fn from_bytes(bytes: [u8; LONGEST]) -> [i64; LONGEST] {
     let mut numbers = [0i64; LONGEST];
-    let mut i = 0;
-    while i < LONGEST {
+    for i in 0..LONGEST {
         numbers[i] = number(bytes[i]);
-        i += 1;
     }
     numbers
 }
@@ -211,10 +193,8 @@ pub fn from_bytes(bytes: [u8; LONGEST]) -> [i64; LONGEST] {
 // Bits as numbers.
 pub fn from_bits(bits: [u64; LONGEST]) -> [i64; LONGEST] {
     let mut numbers = [0i64; LONGEST];
-    let mut i = 0;
-    while i < LONGEST {
+    for i in 0..LONGEST {
         numbers[i] = num::as_signed(bits[i]);
-        i += 1;
     }
     numbers
 }
@@ -227,7 +207,7 @@ pub fn fill_at(numbers: &[i64], at: usize) -> RlFill {
 }
 
 // What a call answers, in numbers: the refusal's six and four counts, 0 where there are fewer. What it leaves in its buffers, in order.
-#[derive(Drop)]
+#[derive(Clone, Copy)]
 pub struct Outcome {
     pub numbers: [i64; 10],
     pub first: [i64; LONGEST],

@@ -1,33 +1,40 @@
 // Output through a buffer, and text with numbers and a name filled in.
 use crate::inner::words;
 use column::sequence;
-use libc::{STDERR_FILENO, STDOUT_FILENO};
+use std::io;
 
 // How far the buffer of standard output is filled: this far once a write has failed, and then nothing more is written.
 const CLOSED: usize = usize::MAX;
 
+// Says on standard error what cannot be read or written, and why.
+pub fn fail(err: &impl Eprint, what: &str, error: io::Error) {
+    let _ = err.eprintln(format_args!("combine: {what}: {error}"));
+}
+
 // Writes what the buffer holds.
-pub fn flush(out: usize, buffer: &[u8]) -> usize {
+pub fn flush(rt: &(impl Print + Eprint), out: usize, buffer: &[u8]) -> usize {
     if out == CLOSED {
         return CLOSED;
     }
-    if io::write_all(STDOUT_FILENO, words::part(buffer, 0, out)) {
-        return 0;
+    match rt.write_all(words::part(buffer, 0, out)) {
+        Ok(()) => 0,
+        Err(e) => {
+            fail(rt, "standard output", e);
+            CLOSED
+        }
     }
-    os::fail(b"combine: standard output");
-    CLOSED
 }
 
 // The buffer with room for a byte, if it can have any.
-fn with_room(out: usize, buffer: &[u8]) -> usize {
+fn with_room(rt: &(impl Print + Eprint), out: usize, buffer: &[u8]) -> usize {
     if out < buffer.len() {
         return out;
     }
-    flush(out, buffer)
+    flush(rt, out, buffer)
 }
 
-fn put_byte(out: usize, buffer: &mut [u8], byte: u8) -> usize {
-    let at = with_room(out, buffer);
+fn put_byte(rt: &(impl Print + Eprint), out: usize, buffer: &mut [u8], byte: u8) -> usize {
+    let at = with_room(rt, out, buffer);
     if at < buffer.len() {
         buffer[at] = byte;
         return at + 1;
@@ -35,37 +42,32 @@ fn put_byte(out: usize, buffer: &mut [u8], byte: u8) -> usize {
     at
 }
 
-fn put(out: usize, buffer: &mut [u8], bytes: &[u8]) -> usize {
+fn put(rt: &(impl Print + Eprint), out: usize, buffer: &mut [u8], bytes: &[u8]) -> usize {
     let mut next = out;
-    let mut i = 0;
-    while i < bytes.len() {
-        next = put_byte(next, buffer, bytes[i]);
-        i += 1;
+    for i in 0..bytes.len() {
+        next = put_byte(rt, next, buffer, bytes[i]);
     }
     next
 }
 
-fn put_magnitude(out: usize, buffer: &mut [u8], magnitude: u64) -> usize {
-    let mut digits = [0u8; 20];
-    let n = io::decimal(magnitude, &mut digits);
-    put(out, buffer, &digits[..n])
-}
-
-fn put_number(out: usize, buffer: &mut [u8], number: i64) -> usize {
-    let magnitude = num::unsigned_abs(number);
-    if number < 0 {
-        let signed = put_byte(out, buffer, b'-');
-        return put_magnitude(signed, buffer, magnitude);
-    }
-    put_magnitude(out, buffer, magnitude)
+fn put_number(rt: &(impl Print + Eprint), out: usize, buffer: &mut [u8], number: i64) -> usize {
+    let mut digits = itoa::Buffer::new();
+    put(rt, out, buffer, digits.format(number).as_bytes())
 }
 
 // A byte of a form: `@` stands for a number, `$` for a name, any other for itself.
-fn put_filled(out: usize, buffer: &mut [u8], byte: u8, name: &[u8], number: i64) -> usize {
+fn put_filled(
+    rt: &(impl Print + Eprint),
+    out: usize,
+    buffer: &mut [u8],
+    byte: u8,
+    name: &[u8],
+    number: i64,
+) -> usize {
     match byte {
-        b'@' => put_number(out, buffer, number),
-        b'$' => put(out, buffer, name),
-        _ => put_byte(out, buffer, byte),
+        b'@' => put_number(rt, out, buffer, number),
+        b'$' => put(rt, out, buffer, name),
+        _ => put_byte(rt, out, buffer, byte),
     }
 }
 
@@ -76,6 +78,7 @@ fn taken(byte: u8) -> usize {
 
 // A form, with the name for each `$`, and the numbers, one after the other, for each `@`.
 pub fn put_named(
+    rt: &(impl Print + Eprint),
     out: usize,
     buffer: &mut [u8],
     form: &[u8],
@@ -84,29 +87,33 @@ pub fn put_named(
 ) -> usize {
     let mut next = out;
     let mut n = 0;
-    let mut i = 0;
-    while i < form.len() {
+    for i in 0..form.len() {
         let byte = form[i];
         let number = sequence::entry_or(&numbers, n, 0);
-        next = put_filled(next, buffer, byte, name, number);
+        next = put_filled(rt, next, buffer, byte, name, number);
         n = num::saturating_add(n, taken(byte));
-        i += 1;
     }
     next
 }
 
 // A form with no name in it.
-pub fn put_form(out: usize, buffer: &mut [u8], form: &[u8], numbers: [i64; 6]) -> usize {
-    put_named(out, buffer, form, b"", numbers)
+pub fn put_form(
+    rt: &(impl Print + Eprint),
+    out: usize,
+    buffer: &mut [u8],
+    form: &[u8],
+    numbers: [i64; 6],
+) -> usize {
+    put_named(rt, out, buffer, form, b"", numbers)
 }
 
 // Writes a filled form to standard error. It is shorter than its buffer.
-pub fn say_named(form: &[u8], name: &[u8], numbers: [i64; 6]) {
+pub fn say_named(err: &(impl Print + Eprint), form: &[u8], name: &[u8], numbers: [i64; 6]) {
     let mut buffer = [0u8; 512];
-    let n = put_named(0, &mut buffer, form, name, numbers);
-    io::write_all(STDERR_FILENO, words::part(&buffer, 0, n));
+    let n = put_named(err, 0, &mut buffer, form, name, numbers);
+    let _ = err.write_all(words::part(&buffer, 0, n));
 }
 
-pub fn say(form: &[u8], line: i64) {
-    say_named(form, b"", [line, 0, 0, 0, 0, 0]);
+pub fn say(err: &(impl Print + Eprint), form: &[u8], line: i64) {
+    say_named(err, form, b"", [line, 0, 0, 0, 0, 0]);
 }

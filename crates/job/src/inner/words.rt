@@ -25,12 +25,10 @@ pub fn same(a: &[u8], b: &[u8]) -> bool {
     if a.len() != b.len() {
         return false;
     }
-    let mut i = 0;
-    while i < a.len() {
+    for i in 0..a.len() {
         if a[i] != b[i] {
             return false;
         }
-        i += 1;
     }
     true
 }
@@ -58,10 +56,8 @@ fn stretch_end(line: &[u8], at: usize, blank: bool) -> usize {
 // Where a word of a line starts, its words counted from 0.
 pub fn word_start(line: &[u8], index: usize) -> usize {
     let mut start = stretch_end(line, 0, true);
-    let mut i = 0;
-    while i < index {
+    for _ in 0..index {
         start = stretch_end(line, stretch_end(line, start, false), true);
-        i += 1;
     }
     start
 }
@@ -73,7 +69,7 @@ pub fn word(line: &[u8], index: usize) -> &[u8] {
 }
 
 // The number that a word is. It is not valid where the word is none, or none of 64 bits.
-#[derive(Drop)]
+#[derive(Clone, Copy)]
 pub struct Value {
     pub number: i64,
     pub valid: bool,

@@ -5,7 +5,7 @@ use crate::inner;
 use crate::inner::LONGEST;
 
 // Where the lists start, the other arguments, the buffers, what the call must leave in the buffers, and what it must answer; and the end.
-#[derive(Drop)]
+#[derive(Clone, Copy)]
 pub struct Places {
     pub lists: usize,
     pub numbers: usize,
