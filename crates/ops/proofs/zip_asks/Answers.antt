@@ -4,7 +4,6 @@ use Rattle.column.specs.Questions.{paired}
 use Rattle.column.proofs.FirstNo.{asks-first, asks_then}
 use Rattle.ops.specs.Calls.{zip_asked}
 use Rattle.ops.proofs.Asks.{filled-asked}
-use borrow.Author.Rules.{rules}
 use Rattle.ops.proofs.zip_asks.Goals as goal
 
 pub returns : goal.returns
@@ -19,4 +18,3 @@ returns c =
     let asked = asks_then asked c.and-4.ensures (λ y. c.ask_ends-2.ensures) in
     let asked = asks_then asked c.and-5.ensures (filled-asked _ _ _ _ _ _ _ c.ask_fills.ensures left right) in
     (asks_then asked c.and-6.ensures (λ y. c.ask_both.ensures)).told
-

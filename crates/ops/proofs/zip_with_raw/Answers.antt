@@ -3,7 +3,6 @@ use Rattle.num.proofs.Bits.{back}
 use Rattle.column.proofs.Promised.{asked-yes, asked_no, runs-written, runs-refused}
 use Rattle.ops.specs.Calls.{zip_with_raw}
 use Rattle.ops.proofs.Asks.{zip-yes, raw_filled}
-use borrow.Author.Rules.{rules}
 use Rattle.ops.proofs.zip_with_raw.Goals as goal
 
 pub zip_with_raw-n-requires : goal.zip_with_raw-n-requires
@@ -20,4 +19,3 @@ returns-in-Yes c =
 pub returns-in-No : goal.returns-in-No
 unfolding zip_with_raw
 returns-in-No c = runs-refused _ (asked_no _ c.zip_asks-asked.ensures c.in-No.is)
-

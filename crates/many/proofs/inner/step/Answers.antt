@@ -11,10 +11,6 @@ use Rattle.many.proofs.Keeping.{stepped-end}
 use borrow.Author.Rules.{rules}
 use Rattle.many.proofs.inner.step.Goals as goal
 
--- HELPER
-abbrev turn : goal.After-smaller_count-least invariant-loop decreases-loop → goal.In-loop-c invariant-loop decreases-loop
-turn c = c
-
 pub loop-c-init : goal.loop-c-init
 loop-c-init c = (step_start _ _ _ _ c.requires.0, rw (to_z-of_z c.ranges.fill) c.requires.2)
 
@@ -24,17 +20,14 @@ step_column-end-requires c =
     (step-placed k.0 c.requires.0 c.loop-c-test.true, c.loop-c-test.true, c.requires.1, k.1, c.requires.3)
 
 pub loop-c-smaller : goal.loop-c-smaller
-loop-c-smaller c = let t = turn c in omega (arith, step-long t.loop.inv.0, t.loop-test.taken)
+loop-c-smaller c = omega (arith, step-long c.loop-c.invariant.0, c.loop-c-test.true)
 
 pub loop-c-preserved : goal.loop-c-preserved
 loop-c-preserved c =
-    let t = turn c in
-    let l = t in
-    let s = start l in
-    let k = l.loop.inv in
-    let inside = t.loop-test.taken in
-    let f = c.step-column.ensures in
-    let next = step-next k.0 s.requires.0 inside (k.1.ends l.loop.c inside) s.requires.3 refl (stepped-end f inside) c.smaller_count-least.ensures in
+    let k = c.loop-c.invariant in
+    let inside = c.loop-c-test.true in
+    let f = c.step_column-end.ensures in
+    let next = step-next k.0 c.requires.0 inside (k.1.ends c.loop-c.c inside) c.requires.3 refl (stepped-end f inside) c.smaller_count-least.ensures in
     (rw f.places next, f.kept)
 
 pub shape_of-places : goal.shape_of-places

@@ -1,7 +1,6 @@
 use mathlib.Core.Path.{◌∙◌}
 use mir.Facts.{to_z-of_z}
 use Rattle.num.proofs.Bits.{back}
-use borrow.Author.Rules.{rules}
 use Rattle.ops.proofs.inner.shown_at.Goals as goal
 
 pub returns : goal.returns
@@ -15,4 +14,3 @@ returns c =
       to_z-of_z c.ranges.fill_a,
       to_z-of_z c.ranges.fill_b,
     ) at c.apply.ensures
-

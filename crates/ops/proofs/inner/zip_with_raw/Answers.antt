@@ -1,15 +1,14 @@
-use Prim.Native.Nat.{◌+◌, ◌-◌, ◌<◌}
+use Prim.Native.Nat.{◌+◌, ◌<◌}
 use mathlib.Core.Path.{◌≡◌, ◌∙◌}
 use native.Mathlib.Omega.{arith}
 use lib.ListN.{length}
 use mir.Facts.{to_z-of_z}
 use mir.Val.{to_z, of_z}
 use mir.Syntax.{w64}
-use Rattle.num.specs.Numbers.{operation}
 use Rattle.num.proofs.Bits.{back}
 use Rattle.plan.proofs.Walking.{walk-moves}
 use Rattle.plan.proofs.Step.{more_left, none_more}
-use Rattle.ops.proofs.Zips.{Listed, listed_start, listed-few, listed_next, listed-end}
+use Rattle.ops.proofs.Zips.{listed_start, listed-few, listed_next, listed-end}
 use borrow.Author.Rules.{rules}
 use Rattle.ops.proofs.inner.zip_with_raw.Goals as goal
 
@@ -82,4 +81,3 @@ returns c =
     let k = c.loop-here.invariant in
     let none = none_more k.walk.standing c.more.ensures c.loop-here-test.false in
     rw (to_z-of_z c.ranges.fill_a, to_z-of_z c.ranges.fill_b) at (listed-end _ _ _ _ _ _ _ _ _ c.requires k none)
-

@@ -1,16 +1,7 @@
-use Prim.Native.Nat.{◌+◌, ◌-◌, ◌<◌}
-use mathlib.Core.Path.{◌≡◌, ◌∙◌}
-use native.Mathlib.Omega.{arith}
+use Prim.Native.Nat.{◌+◌, ◌-◌}
 use lib.ListN.{length}
-use mir.Facts.{to_z-of_z}
-use mir.Val.{to_z, of_z}
-use mir.Syntax.{w64}
 use Rattle.num.specs.Numbers.{operation}
-use Rattle.num.proofs.Bits.{back}
-use Rattle.plan.proofs.Walking.{walk-moves}
-use Rattle.plan.proofs.Step.{more_left, none_more}
-use Rattle.ops.proofs.Zips.{Listed, listed_start, listed-few, listed_next, listed-end}
-use borrow.Author.Rules.{rules}
+use Rattle.ops.proofs.Zips.{Listed}
 use Rattle.ops.proofs.inner.zip_with_raw.Given as goal
 
 abbrev pub invariant-loop-here : goal.invariant-loop-here
@@ -18,4 +9,3 @@ invariant-loop-here l = Listed (operation l.code) l.fill_a l.fill_b l.a_ends l.a
 
 abbrev pub decreases-loop-here : goal.decreases-loop-here
 decreases-loop-here l = length l.a_ends + length l.b_ends - (l.here.a.index + l.here.b.index)
-
