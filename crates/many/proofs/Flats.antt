@@ -10,7 +10,7 @@ use Rattle.column.specs.declared.answer.Fill.{Fill}
 use Rattle.column.specs.Combine.{Column, many}
 use Rattle.column.specs.Flat.{flat, columns}
 use Rattle.column.specs.Questions.{sequences_valid}
-use Rattle.column.specs.Runs.{Runs, runs, to_nat}
+use Rattle.column.specs.Runs.{Runs, to_nat}
 use Rattle.column.proofs.All.{All}
 use Rattle.column.proofs.Flattened.{columns_by_ends, columns-valid, sequences-told}
 use Rattle.column.proofs.Rising.{Valid}

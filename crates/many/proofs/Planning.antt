@@ -10,7 +10,7 @@ use lib.IntN.{ℤ, pos}
 use lib.ListN.{length, take, drop, set, length-append}
 use Rattle.column.specs.Runs.{over}
 use Rattle.column.proofs.Buffer.{Written, write_start, write_next, over-rest}
-use Rattle.plan.specs.Calls.{Segment, indexes, segments}
+use Rattle.plan.specs.Calls.{Segment, segments}
 use Rattle.plan.specs.Workers.{spent}
 use Rattle.plan.proofs.Listing.{segment_at}
 use Rattle.many.specs.Calls.{all_indexes}

@@ -2,7 +2,6 @@ use native.Mathlib.Omega.{arith}
 use Rattle.column.proofs.Promised.{asked-yes, asked_no}
 use Rattle.many.specs.Calls.{plan_many}
 use Rattle.many.proofs.Asks.{plan-many-yes, plan-many-segments, plan-many-written, plan-many-refused}
-use borrow.Author.Rules.{rules}
 use Rattle.many.proofs.plan_many.Goals as goal
 
 pub plan_many-counts-requires : goal.plan_many-counts-requires
@@ -17,4 +16,3 @@ returns-in-Yes c =
 pub returns-in-No : goal.returns-in-No
 unfolding plan_many
 returns-in-No c = plan-many-refused _ (asked_no _ (c.plan_many_asks-asked.ensures (omega arith)) c.in-No.is)
-

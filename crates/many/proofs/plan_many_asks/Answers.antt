@@ -5,7 +5,6 @@ use Rattle.column.specs.Questions.{at_most}
 use Rattle.column.proofs.FirstNo.{asks_then}
 use Rattle.many.specs.Calls.{most_columns, plan_many_asked}
 use Rattle.many.proofs.Asks.{flat-asked, indexes-asked}
-use borrow.Author.Rules.{rules}
 use Rattle.many.proofs.plan_many_asks.Goals as goal
 
 pub returns : goal.returns
@@ -18,4 +17,3 @@ returns c small =
     let room = indexes-asked _ _ _ count c.saturating_mul-indexes.ensures c.ask_room-2.ensures small in
     let asked = asks_then asked c.and-3.ensures (λ y. room) in
     (asks-rooms (_ ∷ _ ∷ _ ∷ _ ∷ []) (_ ∷ _ ∷ []) (_ ∷ _ ∷ []) asked).told
-

@@ -1,6 +1,5 @@
 use Rattle.num.proofs.Bits.{end_nat, end_cast}
 use Rattle.many.proofs.Entries.{end_natural, end-inside, end-past}
-use borrow.Author.Rules.{rules}
 use Rattle.many.proofs.inner.end_at.Goals as goal
 
 pub overflow_cast-result : goal.overflow_cast-result
@@ -15,4 +14,3 @@ returns-then-at-to c =
 
 pub returns-else-at-to : goal.returns-else-at-to
 returns-else-at-to c = let q = c.requires in end-past _ _ _ _ q.0 q.1 c.if-at-to.false
-

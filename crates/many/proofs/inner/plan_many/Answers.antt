@@ -3,7 +3,6 @@ use native.Mathlib.Omega.{arith}
 use lib.IntN.{pos}
 use Rattle.column.proofs.Flattened.{offsets-some}
 use Rattle.many.proofs.Walking.{take-zeros, length_front}
-use borrow.Author.Rules.{rules}
 use Rattle.many.proofs.inner.plan_many.Goals as goal
 
 pub overflow_sub-k : goal.overflow_sub-k
@@ -26,4 +25,3 @@ plan_walk-requires c =
       q.room_ends,
       q.room_indexes,
     )
-

@@ -1,11 +1,7 @@
 use native.Mathlib.Omega.{arith}
-use lib.IntN.{pos}
-use lib.ListN.{length}
 use mir.Facts.{to_z_pos}
 use mir.Syntax.{w64}
-use Rattle.plan.proofs.Segments.{left}
-use Rattle.many.specs.Workers.{places_of, Kept}
-use Rattle.many.proofs.Planning.{Planning, planning-start, planning-end, planning-ends, planning-indexes, planning-next}
+use Rattle.many.proofs.Planning.{planning-start, planning-end, planning-ends, planning-indexes, planning-next}
 use Rattle.many.proofs.Walking.{walk_placed, walk-less}
 use Rattle.many.proofs.inner.plan_walk.Goals as goal
 
@@ -44,7 +40,7 @@ loop-end-preserved c =
     let places = c.put_places-m in
     let more = c.loop-end-test.true in
     let end = to_z_pos w64 (c.loop-end.invariant.0.walk.small more) in (
-      planning-next c.loop-end.invariant.0 more c.requires.2 c.requires.3 end places.ensures.0 places.kept.1.0 places.ensures.1 c.step-end-in-loop-end.ensures.0,
+      planning-next c.loop-end.invariant.0 more c.requires.2 c.requires.3 end places.ensures.0 places.auto.out places.ensures.1 c.step-end-in-loop-end.ensures.0,
       c.step-end-in-loop-end.ensures.1,
     )
 
@@ -65,4 +61,3 @@ shape_of-out_idx c = c.loop-end.invariant.0.long
 
 pub returns : goal.returns
 returns c = planning-end c.loop-end.invariant.0 c.loop-end-test.false
-

@@ -1,12 +1,8 @@
-use native.Mathlib.Omega.{arith}
 use lib.IntN.{pos}
 use lib.ListN.{length}
-use mir.Facts.{to_z_pos}
-use mir.Syntax.{w64}
 use Rattle.plan.proofs.Segments.{left}
 use Rattle.many.specs.Workers.{places_of, Kept}
-use Rattle.many.proofs.Planning.{Planning, planning-start, planning-end, planning-ends, planning-indexes, planning-next}
-use Rattle.many.proofs.Walking.{walk_placed, walk-less}
+use Rattle.many.proofs.Planning.{Planning}
 use Rattle.many.proofs.inner.plan_walk.Given as goal
 
 abbrev pub invariant-loop-end : goal.invariant-loop-end
@@ -14,4 +10,3 @@ invariant-loop-end l = Planning l.offsets l.ends l.initial.out_ends l.initial.ou
 
 abbrev pub decreases-loop-end : goal.decreases-loop-end
 decreases-loop-end l = left (places_of l.offsets l.ends l.places)
-

@@ -6,7 +6,6 @@ use lib.ListN.{take, drop, set, get_or, length}
 use lib.Seq.{take_all, drop-drop, paste-zero, paste-suc, length-paste, paste}
 use Rattle.column.specs.Runs.{over}
 use native.Mathlib.Omega.{arith}
-use borrow.Author.Rules.{rules}
 use Rattle.many.proofs.inner.put_places.Given as goal
 
 -- the first c places are written
@@ -41,4 +40,3 @@ invariant-loop-c l = Pasting l.initial.out l.at l.places l.out l.c
 
 abbrev pub decreases-loop-c : goal.decreases-loop-c
 decreases-loop-c l = length l.places - l.c
-

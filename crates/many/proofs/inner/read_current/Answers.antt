@@ -1,15 +1,10 @@
-use Prim.Native.Nat.{◌-◌}
 use mathlib.Core.Path.{◌∙◌}
 use native.Mathlib.Omega.{arith}
-use lib.ListN.{length}
 use mir.Facts.{to_z-of_z}
-use mir.Val.{to_z}
-use mir.Syntax.{w64}
 use Rattle.num.proofs.Bits.{back}
-use Rattle.many.specs.Workers.{ColumnPlaced, Kept}
+use Rattle.many.specs.Workers.{ColumnPlaced}
 use Rattle.many.proofs.Places.{placed-column}
 use Rattle.many.proofs.Keeping.{kept-none, kept_more, kept_fewer, in_values}
-use borrow.Author.Rules.{rules}
 use Rattle.many.proofs.inner.read_current.Goals as goal
 
 pub loop-c-init : goal.loop-c-init
@@ -47,4 +42,3 @@ shape_of-shown c = omega (arith, c.loop-c.invariant.long_values, c.requires.1.ro
 
 pub returns : goal.returns
 returns c = rw (to_z-of_z c.ranges.fill) at (kept_fewer c.loop-c.invariant _ c.loop-c-test.false)
-

@@ -1,14 +1,8 @@
-use Prim.Native.Nat.{◌-◌}
 use mathlib.Core.Path.{refl}
 use native.Mathlib.Omega.{arith}
-use lib.ListN.{length}
 use mir.Facts.{to_z-of_z}
-use mir.Val.{to_z}
-use mir.Syntax.{w64}
-use Rattle.many.specs.Workers.{Kept}
-use Rattle.many.proofs.Stepping.{Stepping, step_start, step-long, step_end, step-placed, step-next}
+use Rattle.many.proofs.Stepping.{step_start, step-long, step_end, step-placed, step-next}
 use Rattle.many.proofs.Keeping.{stepped-end}
-use borrow.Author.Rules.{rules}
 use Rattle.many.proofs.inner.step.Goals as goal
 
 pub loop-c-init : goal.loop-c-init
@@ -43,4 +37,3 @@ pub returns : goal.returns
 returns c =
     let k = c.loop-c.invariant in
     (step_end k.0 (omega (arith, step-long k.0, c.loop-c-test.false)), rw (to_z-of_z c.ranges.fill) at k.1)
-

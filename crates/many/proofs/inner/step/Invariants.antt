@@ -1,14 +1,7 @@
 use Prim.Native.Nat.{◌-◌}
-use mathlib.Core.Path.{refl}
-use native.Mathlib.Omega.{arith}
 use lib.ListN.{length}
-use mir.Facts.{to_z-of_z}
-use mir.Val.{to_z}
-use mir.Syntax.{w64}
 use Rattle.many.specs.Workers.{Kept}
-use Rattle.many.proofs.Stepping.{Stepping, step_start, step-long, step_end, step-placed, step-next}
-use Rattle.many.proofs.Keeping.{stepped-end}
-use borrow.Author.Rules.{rules}
+use Rattle.many.proofs.Stepping.{Stepping}
 use Rattle.many.proofs.inner.step.Given as goal
 
 abbrev pub invariant-loop-c : goal.invariant-loop-c
@@ -16,4 +9,3 @@ invariant-loop-c l = Stepping l.offsets l.ends l.start l.initial.places l.places
 
 abbrev pub decreases-loop-c : goal.decreases-loop-c
 decreases-loop-c l = length l.initial.places - l.c
-

@@ -3,7 +3,6 @@ use native.Mathlib.Omega.{arith}
 use mir.Facts.{to_z-of_z}
 use Rattle.num.proofs.Bits.{back}
 use Rattle.many.proofs.Keeping.{in_values, column-stays, column-within, column-goes}
-use borrow.Author.Rules.{rules}
 use Rattle.many.proofs.inner.step_column.Goals as goal
 
 pub bounds-current-c : goal.bounds-current-c
@@ -45,4 +44,3 @@ pub returns : goal.returns
 returns c =
     let value = rw (to_z-of_z c.ranges.fill) at (back _ c.value_at-value.type_inv ∙ c.value_at-value.ensures) in
     column-goes c.requires.3 c.requires.1 c.if-end-start.false c.end_at-next.ensures value
-
