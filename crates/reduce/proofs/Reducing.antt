@@ -8,7 +8,7 @@ use mathlib.Core.Path.{◌≡◌, refl, ap, ap₂, sym, ◌∙◌}
 use native.Mathlib.Omega.{arith}
 use lib.Dec.{T, eqb, lit≤}
 use lib.IntN.{ℤ, pos, ◌-ℤ◌}
-use lib.Ieee.{Float, fin, binary64, div}
+use lib.Ieee.{Float, nan, inf, fin, binary64, div}
 use lib.Ieee.Scale.{finite}
 use lib.Signed.{le_z, lt_z}
 use mir.Syntax.{w64}
@@ -39,6 +39,8 @@ use Rattle.reduce.proofs.Windows.{fold_counted, counted_none, counted-length}
 
 pub within-finite : (j : ℕ) (x : Float) → Within j x → T (finite x)
 within-finite j (fin s m e) h = tt
+within-finite j nan h = elim h [ ]
+within-finite j (inf _) h = elim h [ ]
 
 not-zero : (z : ℤ) → le_z (pos 1) z ≡ true → z ≡ pos 0 → ⊥
 not-zero z h e = let q : ◌≡◌ {A = Bool} false true = rw e at h in let x : ◌≡◌ {A = ℕ} 0 1 = cc in omega arith

@@ -1,0 +1,11 @@
+use mathlib.Core.Path.{ap, ◌∙◌}
+use mir.Facts.{to_z-of_z}
+use Rattle.float.specs.Float.{converted}
+use Rattle.reduce.proofs.Terms.{square_is}
+use Rattle.reduce.proofs.inner.add_square.Goals as goal
+
+pub returns : goal.returns
+returns c =
+    let value = c.to_f64.ensures ∙ ap converted (to_z-of_z c.ranges.value) in
+    let run = c.to_f64-2.ensures ∙ ap converted (to_z-of_z c.ranges.run ∙ c.requires) in
+    square_is c.args.total _ c.args.value c.args.mean value run
