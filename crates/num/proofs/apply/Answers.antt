@@ -60,4 +60,3 @@ returns-in_default c =
     let half = c.midpoint_toward_zero in
     told-call midpoint c.ranges.x c.ranges.y half.type_inv half.ensures
     ∙ sym (operation-last c.args.code c.args.x c.args.y (search rules))
-

@@ -7,4 +7,3 @@ returns-else-bits-lt9223372036854775808 c =
     let b = c.args.bits in
     let e : 2 ^ 64 - 1 - (2 ^ 64 - 1 - b) ≡ b = omega arith in
     rw e (sym (signed-bits b))
-

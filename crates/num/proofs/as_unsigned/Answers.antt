@@ -15,4 +15,3 @@ returns-then-x-lt0 c = flipped-back c.ranges.x c.if-x-lt0.true
 
 pub returns-else-x-lt0 : goal.returns-else-x-lt0
 returns-else-x-lt0 c = ap nat_abs (nonnegative_plain c.ranges.x c.if-x-lt0.false)
-

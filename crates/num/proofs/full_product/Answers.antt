@@ -28,4 +28,3 @@ overflow_add-result-2 c = let h = half_products c.ranges.a c.ranges.b in search 
 
 pub returns : goal.returns
 returns c = omega (arith, by_halves c.args.a c.args.b)
-

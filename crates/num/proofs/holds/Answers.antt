@@ -7,4 +7,3 @@ returns-then-code-eq7 c = rw (eq-eqb c.args.code 7 c.if-code-eq7.true) (bits_tes
 
 pub returns-else-code-eq7 : goal.returns-else-code-eq7
 returns-else-code-eq7 c = rw (ne_eqb c.args.code 7 c.if-code-eq7.false, to_z-of_z c.ranges.x, to_z-of_z c.ranges.y)
-

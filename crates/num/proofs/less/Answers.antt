@@ -6,4 +6,3 @@ returns-then-x-y c = let f = c.ranges in rw (told_lt f.x f.y c.if-x-y.true)
 
 pub returns-else-x-y : goal.returns-else-x-y
 returns-else-x-y c = let f = c.ranges in rw (told_lt f.x f.y c.if-x-y.false)
-

@@ -17,4 +17,3 @@ returns-then-down-lt0 c =
 
 pub returns-else-down-lt0 : goal.returns-else-down-lt0
 returns-else-down-lt0 c = let f = c.ranges in midpoint-down f.x f.y c.if-down-lt0.false
-

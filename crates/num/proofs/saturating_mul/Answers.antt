@@ -7,4 +7,3 @@ returns-then-product-eq0 c = let p = c.full_product-product in saturated-low p.r
 
 pub returns-else-product-eq0 : goal.returns-else-product-eq0
 returns-else-product-eq0 c = let p = c.full_product-product in saturated_high p.result.high p.result.low p.ensures c.if-product-eq0.false
-

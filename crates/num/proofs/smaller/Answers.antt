@@ -7,4 +7,3 @@ returns-then-x-y c = let f = c.ranges in to_z-of_z f.x ∙ rw (told_le f.x f.y c
 
 pub returns-else-x-y : goal.returns-else-x-y
 returns-else-x-y c = let f = c.ranges in to_z-of_z f.y ∙ rw (told_le f.x f.y c.if-x-y.false)
-

@@ -18,4 +18,3 @@ returns-then-x-lt0 c = flipped_above c.ranges.x c.if-x-lt0.true
 
 pub returns-else-x-lt0 : goal.returns-else-x-lt0
 returns-else-x-lt0 c = plain_abs c.ranges.x c.if-x-lt0.false
-

@@ -5,4 +5,3 @@ pub returns : goal.returns
 returns c =
     let f = c.ranges in
     told_add f.x f.y c.as_unsigned.ensures c.as_unsigned-2.ensures c.as_signed.ensures c.wrapping_add_u64.ensures.value
-

@@ -8,4 +8,3 @@ returns c =
     let halves = c.full_product-product in
     told-mul f.x f.y c.as_unsigned.ensures c.as_unsigned-2.ensures c.as_signed.ensures halves.result.high (search rules)
     halves.ensures
-

@@ -49,4 +49,3 @@ shape_of-out_values c = (c.loop-r.invariant.pushed _ _ _ _ c.requires.behind).lo
 
 pub returns : goal.returns
 returns c = append-end _ _ _ _ _ _ _ c.requires.movable c.loop-r.invariant c.loop-r-test.false
-

@@ -8,4 +8,3 @@ invariant-loop-r l = Appending l.start l.offset l.ends l.values l.initial.out_en
 
 abbrev pub decreases-loop-r : goal.decreases-loop-r
 decreases-loop-r l = length l.ends - l.r
-

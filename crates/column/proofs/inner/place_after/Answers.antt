@@ -7,4 +7,3 @@ returns-then-value-last c = let f = c.ranges in rw (bits_ne_z f.last f.value (λ
 
 pub returns-else-value-last : goal.returns-else-value-last
 returns-else-value-last c = let f = c.ranges in rw (bits-eq_z f.last f.value (sym c.if-value-last.false))
-

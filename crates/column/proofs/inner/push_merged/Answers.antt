@@ -30,4 +30,3 @@ pub returns : goal.returns
 returns c =
     let f = c.ranges in
     rw (to_z-of_z f.end, to_z-of_z f.value, placed c) (record { place = refl; last = refl; ends = refl; values = refl })
-

@@ -6,4 +6,3 @@ returns-then-byte-eq1 c = rw (eq-eqb _ _ c.if-byte-eq1.true)
 
 pub returns-else-byte-eq1 : goal.returns-else-byte-eq1
 returns-else-byte-eq1 c = rw (ne_eqb _ _ c.if-byte-eq1.false)
-

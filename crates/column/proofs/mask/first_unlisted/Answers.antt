@@ -12,4 +12,3 @@ loop-i-preserved c = listed_next c.loop-i.invariant c.loop-i-test.true c.if-mask
 
 pub returns : goal.returns
 returns c = listed-all c.loop-i.invariant c.loop-i-test.false
-

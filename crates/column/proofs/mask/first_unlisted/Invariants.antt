@@ -10,4 +10,3 @@ invariant-loop-i l = Listed l.mask l.i
 
 abbrev pub decreases-loop-i : goal.decreases-loop-i
 decreases-loop-i l = length l.mask - l.i
-

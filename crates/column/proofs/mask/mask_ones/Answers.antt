@@ -10,4 +10,3 @@ loop-i-preserved c = ones_next c.loop-i.invariant c.loop-i-test.true refl c.coun
 
 pub returns : goal.returns
 returns c = ones_all c.loop-i.invariant c.loop-i-test.false
-

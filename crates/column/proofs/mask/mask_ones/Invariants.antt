@@ -10,4 +10,3 @@ invariant-loop-i l = Ones l.mask l.count l.i
 
 abbrev pub decreases-loop-i : goal.decreases-loop-i
 decreases-loop-i l = length l.mask - l.i
-

@@ -10,4 +10,3 @@ returns-then-index-entries c = let a = c.args in back _ c.result-1.given ∙ get
 
 pub returns-else-index-entries : goal.returns-else-index-entries
 returns-else-index-entries c = let a = c.args in to_z-of_z c.ranges.otherwise ∙ sym (get_or-eq_default a.entries.now a.otherwise c.if-index-entries.false)
-

@@ -19,4 +19,3 @@ pub returns-then-n-to : goal.returns-then-n-to
 returns-then-n-to c =
     let a = c.args in
     part-rest a.from (length a.entries.now) a.entries.now (omega arith) ∙ sym (part-rest a.from a.to a.entries.now (omega arith))
-

@@ -11,4 +11,3 @@ returns-then-x-lt0 c = let f = c.ranges.x in sym (no_natural c.args.x (rw (to_z-
 
 pub returns-else-x-lt0 : goal.returns-else-x-lt0
 returns-else-x-lt0 c = let f = c.ranges.x in to_nat_abs _ f (rw (to_z-of_z f) at c.if-x-lt0.false)
-
