@@ -9,12 +9,10 @@ use mir.Facts.{to_z-of_z}
 use borrow.Author.Tests.{leb-true, leb-false, le-leb, lt-leb}
 use Rattle.float.proofs.is_exact.Goals as goal
 
--- HELPER
 below : (z : ℤ) → le_z (negsuc (2 ^ 53 - 1)) z ≡ true → le_z z (pos (2 ^ 53)) ≡ leb (nat_abs z) (2 ^ 53)
 below (pos n) h = refl
 below (negsuc n) h = sym (le-leb (suc n) (2 ^ 53) (omega (arith, leb-true n (2 ^ 53 - 1) h)))
 
--- HELPER
 under : (z : ℤ) → le_z (negsuc (2 ^ 53 - 1)) z ≡ false → le_z (negsuc (2 ^ 53 - 1)) z ≡ leb (nat_abs z) (2 ^ 53)
 under (pos n) h = cc
 under (negsuc n) h = h ∙ sym (lt-leb (suc n) (2 ^ 53) (omega (arith, leb-false n (2 ^ 53 - 1) h)))

@@ -13,15 +13,12 @@ use Rattle.float.specs.Float.{converted}
 use Rattle.float.proofs.Patterns.{size-bits, bits_fit}
 use Rattle.float.proofs.magnitude_bits.Goals as goal
 
--- HELPER
 not-zero : (n : ℕ) → (n ≡ 0 → ⊥) → 0 < n
 not-zero n h = omega arith
 
--- HELPER
 zeros-lt : (n : ℕ) → (n ≡ 0 → ⊥) → n < 2 ^ 64 → count_leading_zeros 64 n < 64
 zeros-lt n h k = let t = leading_top 64 n (not-zero n h) k in let e : count_leading_zeros 64 n + suc t.0 ≡ 64 = t.1 in omega arith
 
--- HELPER
 written : (c : goal.After-nearest_of-kept)
     → (1085 - count_leading_zeros 64 c.args.n) * 2 ^ 52 + c.nearest_of-kept.result
     ≡ to_bits binary64 (converted (pos c.args.n))

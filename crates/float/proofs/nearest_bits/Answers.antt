@@ -11,7 +11,6 @@ use Rattle.float.specs.Float.{converted}
 use Rattle.float.proofs.Patterns.{sign_bits, bits_fit}
 use Rattle.float.proofs.nearest_bits.Goals as goal
 
--- HELPER
 signed : (z : ℤ) → SFits w64 z → to_bits binary64 (converted (pos (nat_abs z))) + residue z / 2 ^ 63 * 2 ^ 63 ≡ to_bits binary64 (converted z)
 unfolding converted of_int
 signed (pos n) f = omega arith
@@ -19,7 +18,6 @@ signed (negsuc n) f =
     let top : residue (negsuc n) / 2 ^ 63 * 2 ^ 63 ≡ 2 ^ 63 = omega arith in
     ap (λ (t : ℕ). to_bits binary64 (converted (pos (suc n))) + t) top ∙ sym (sign_bits (suc n) (omega arith))
 
--- HELPER
 told : (c : goal.After-as_unsigned)
     → c.magnitude_bits.result + c.as_unsigned.result / 2 ^ 63 * 2 ^ 63 ≡ to_bits binary64 (converted c.args.x)
 told c =

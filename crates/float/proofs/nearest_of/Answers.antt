@@ -7,7 +7,6 @@ use Rattle.float.proofs.Compared.{compare_lt, compare_gt}
 use Rattle.float.proofs.nearest_of.Goals as goal
 
 -- what the remainder r carries into the quotient w
--- HELPER
 carried : (w r : ℕ) → r < 2048 → w + (r + 1023 + w % 2) / 2048 ≡ nearest w (compare (r * 2) 2048)
 carried w r h =
     elim (dec_lt r 1024) [

@@ -7,7 +7,6 @@ use Rattle.float.specs.Float.{converted}
 use Rattle.float.proofs.Patterns.{bits_back, bits_no_nan}
 use Rattle.float.proofs.to_f64.Goals as goal
 
--- HELPER
 told : (c : goal.After-nearest_bits) → c.nearest_bits.result ≡ to_bits binary64 (converted c.args.x)
 told c = c.nearest_bits.ensures ∙ ap (λ (z : ℤ). to_bits binary64 (converted z)) (to_z-of_z c.ranges.x)
 
