@@ -1,7 +1,6 @@
 -- What the workers leave and require.
 use Rattle.std.specs.Prelude.{ℕ, ◌+◌, ◌*◌, ◌-◌, ◌≤◌, ◌<◌, Bool, true, false, List, map, ◌≡◌, ℤ, length, get_or, take, drop, eqb}
 use Rattle.column.specs.declared.answer.RleBatch.{RleBatch}
-use Rattle.column.specs.Flat.{flat}
 use Rattle.column.specs.Lists.{total}
 use Rattle.column.specs.Runs.{Sequence, sequence, Runs, ends_of, values_of, Filled}
 use Rattle.batch_index.specs.Workers.{doubled, Chains, Listed, Linked}
