@@ -1,5 +1,0 @@
-use Rattle.ffi.proofs.Handed.{handed}
-use Rattle.runlength.proofs.rl_batch_reversed.Goals as goal
-
-pub returns : goal.returns
-returns c = handed c.batched.ensures c.reversed.ensures

@@ -1,8 +1,0 @@
-use mir.Facts.{to_z-of_z}
-use Rattle.ffi.proofs.Handed.{handed}
-use Rattle.runlength.proofs.rl_repeat.Goals as goal
-
-pub returns : goal.returns
-returns c =
-    let fits = c.ranges in
-    handed c.counted.ensures (rw (to_z-of_z fits.value, to_z-of_z fits.length) at c.repeat.ensures)
