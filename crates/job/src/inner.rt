@@ -261,7 +261,7 @@ fn refused(mut job: Job, problem: Problem) -> Job {
 }
 
 // What a line says.
-#[derive(Drop)]
+#[derive(Clone, Copy)]
 enum Entry {
     Nothing,
     Column,

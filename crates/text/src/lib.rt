@@ -19,7 +19,7 @@ pub fn line_end(text: &[u8], at: usize) -> usize
 }
 
 // A number of the text and the place after it. It is not valid without a digit, or beyond i64.
-#[derive(Drop)]
+#[derive(Clone, Copy)]
 struct Number {
     value: i64,
     next: usize,
@@ -27,7 +27,7 @@ struct Number {
 }
 
 // Digits and the place after them.
-#[derive(Drop)]
+#[derive(Clone, Copy)]
 struct Digits {
     magnitude: u64,
     next: usize,
@@ -97,7 +97,7 @@ fn signed_number(line: &[u8], at: usize) -> Number
 }
 
 // The numbers that were read of a line, and whether they are all that the line says.
-#[derive(Drop)]
+#[derive(Clone, Copy)]
 pub struct Line {
     pub numbers: usize,
     pub valid: bool,
