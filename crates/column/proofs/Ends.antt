@@ -1,7 +1,7 @@
 -- Valid ends: natural numbers that rise, so that `omega` reads their order, and the runs that they make.
 -- Assumes nothing.
 use Prim.Native.Nat.{ℕ, zero, suc, ◌<◌}
-use mathlib.Core.Option.{none}
+use Rattle.std.specs.Prelude.{None}
 use mathlib.Core.List.{List, [], ◌∷◌}
 use mathlib.Core.Path.{◌≡◌, refl, sym, ap, ap₂, ◌∙◌}
 use native.Mathlib.Omega.{arith}
@@ -17,7 +17,7 @@ use Rattle.column.specs.Workers.{RisingEnds}
 use Rattle.column.proofs.FirstNo.{first-yes, rest-yes}
 use Rattle.column.proofs.Rising.{Rising, Valid}
 
-pub from_check : (p i : ℕ) (es : List ℤ) → ends_from i (pos p) es ≡ none → RisingEnds p es
+pub from_check : (p i : ℕ) (es : List ℤ) → ends_from i (pos p) es ≡ None → RisingEnds p es
 unfolding ends_from
 from_check p i [] h = tt
 from_check p i (pos e ∷ es) h =
@@ -28,16 +28,16 @@ from_check p i (pos e ∷ es) h =
       from_check e (suc i)
           es (first-yes (ends_from (suc i) (pos e) es) [] (rest-yes (refusal 4 (pos i ∷ []) unless ltb p e) (ends_from (suc i) (pos e) es ∷ []) h)),
     ))
-    (λ t. absurd (let z : ◌≡◌ {A = Question} (refusal 4 (pos i ∷ [])) none = rw t at h in let w : ◌≡◌ {A = ℕ} 0 1 = cc in omega arith))
+    (λ t. absurd (let z : ◌≡◌ {A = Question} (refusal 4 (pos i ∷ [])) None = rw t at h in let w : ◌≡◌ {A = ℕ} 0 1 = cc in omega arith))
 from_check p i (negsuc e ∷ es) h = absurd (let w : ◌≡◌ {A = ℕ} 0 1 = cc in omega arith)
 
 -- what the question about ends tells where it is answered "yes"
-pub rising : (es : List ℤ) → ends_valid es ≡ none → RisingEnds 0 es
+pub rising : (es : List ℤ) → ends_valid es ≡ None → RisingEnds 0 es
 unfolding ends_valid
 rising es h = from_check 0 0 es h
 
 -- and back: ends that rise are answered "yes"
-pub rising-yes : (i p : ℕ) (es : List ℤ) → RisingEnds p es → ends_from i (pos p) es ≡ none
+pub rising-yes : (i p : ℕ) (es : List ℤ) → RisingEnds p es → ends_from i (pos p) es ≡ None
 unfolding ends_from
 rising-yes i p [] r = refl
 rising-yes i p (e ∷ es) r = rw (r.0, lt-ltb p (to_nat e) r.1, rising-yes (suc i) (to_nat e) es r.2)
@@ -48,16 +48,16 @@ natural-from p (e ∷ es) zero r h = r.0
 natural-from p (e ∷ es) (suc i) r h = natural-from (to_nat e) es i r.2 (omega arith)
 
 -- each of them is a natural number
-pub natural_end : (es : List ℤ) (i : ℕ) → ends_valid es ≡ none → i < length es → get_or es i (pos 0) ≡ pos (to_nat (get_or es i (pos 0)))
+pub natural_end : (es : List ℤ) (i : ℕ) → ends_valid es ≡ None → i < length es → get_or es i (pos 0) ≡ pos (to_nat (get_or es i (pos 0)))
 natural_end es i h l = natural-from 0 es i (rising es h) l
 
 -- the ends of runs that rise are valid
-ends-yes : (i p : ℕ) (rs : Runs) → Rising p rs → ends_from i (pos p) (ends_of rs) ≡ none
+ends-yes : (i p : ℕ) (rs : Runs) → Rising p rs → ends_from i (pos p) (ends_of rs) ≡ None
 unfolding ends_from ends_of
 ends-yes i p [] v = refl
 ends-yes i p (r ∷ rs) v = rw (lt-ltb p r.end v.0, ends-yes (suc i) r.end rs v.1)
 
-pub valid-ends : (rs : Runs) → Valid rs → ends_valid (ends_of rs) ≡ none
+pub valid-ends : (rs : Runs) → Valid rs → ends_valid (ends_of rs) ≡ None
 unfolding ends_valid
 valid-ends rs v = ends-yes 0 0 rs v
 
@@ -96,6 +96,6 @@ length_from p [] vs r l = refl
 length_from p (e ∷ es) [] r l = let z : ⊥ = omega arith in absurd z
 length_from p (e ∷ es) (v ∷ vs) r l = ap (λ (q : ℤ). last_from q es) r.0 ∙ length_from (to_nat e) es vs r.2 (omega arith)
 
-pub length_of-ends : (es vs : List ℤ) → ends_valid es ≡ none → length es ≡ length vs → length_of_ends es ≡ pos (length_of (runs_of es vs))
+pub length_of-ends : (es vs : List ℤ) → ends_valid es ≡ None → length es ≡ length vs → length_of_ends es ≡ pos (length_of (runs_of es vs))
 unfolding length_of length_of_ends
 length_of-ends es vs h l = length_from 0 es vs (rising es h) l

@@ -2,7 +2,7 @@
 -- Assumes nothing.
 use Prim.Native.Nat.{ℕ, zero, suc, ◌+◌, ◌-◌, ◌≤◌, ◌<◌}
 use mathlib.Core.Bool.{true}
-use mathlib.Core.Option.{none, some}
+use Rattle.std.specs.Prelude.{Some, None}
 use mathlib.Core.List.{List, [], ◌∷◌, map}
 use mathlib.Core.Path.{◌≡◌, refl, ap, ap₂, sym}
 use native.Mathlib.Numerals.{add-one}
@@ -38,11 +38,11 @@ rise_at a (b ∷ os) zero e h = let t = both_true (leb a b) (rise b os) e in (le
 rise_at a (b ∷ os) (suc c) e h = rise_at b os c (both_true (leb a b) (rise b os) e).1 (omega arith)
 
 -- valid offsets exist, and each sequence stands inside the entries
-pub offsets-some : (os : List ℕ) (n : ℕ) → offsets_valid os n ≡ none → 0 < length os
+pub offsets-some : (os : List ℕ) (n : ℕ) → offsets_valid os n ≡ None → 0 < length os
 offsets-some [] n e = let t = (offsets-told [] n e).0 in absurd (let z : ◌≡◌ {A = ℕ} 0 1 = cc in omega arith)
 offsets-some (a ∷ os) n e = omega arith
 
-pub offset-within : (os : List ℕ) (n c : ℕ) → offsets_valid os n ≡ none → c + 1 < length os → (get_or os c 0 ≤ get_or os (c + 1) 0) × (get_or os (c + 1) 0 ≤ n)
+pub offset-within : (os : List ℕ) (n c : ℕ) → offsets_valid os n ≡ None → c + 1 < length os → (get_or os c 0 ≤ get_or os (c + 1) 0) × (get_or os (c + 1) 0 ≤ n)
 offset-within [] n c e h = let z : ⊥ = omega arith in absurd z
 offset-within (a ∷ os) n c e h =
     let t = offsets-told (a ∷ os) n e in
@@ -69,7 +69,7 @@ total-from a (b ∷ os) xs e h =
     omega (arith, leb-true a b t.0, le_last b os t.1, length_part a b xs (omega (arith, le_last b os t.1)), total-from b os xs t.1 h)
 
 -- together they have all entries
-pub total-parts : {A : Type 0} (os : List ℕ) (xs : List A) → offsets_valid os (length xs) ≡ none → total (map length (parts os xs)) ≡ length xs
+pub total-parts : {A : Type 0} (os : List ℕ) (xs : List A) → offsets_valid os (length xs) ≡ None → total (map length (parts os xs)) ≡ length xs
 total-parts [] xs e = absurd (let z : ⊥ = omega (arith, offsets-some [] (length xs) e) in z)
 total-parts (a ∷ os) xs e =
     let t = offsets-told (a ∷ os) (length xs) e in
@@ -78,26 +78,26 @@ total-parts (a ∷ os) xs e =
 
 -- ---- the columns that they are
 
-in_key-none : (p : ℕ) (q : Question) → refused_in_key p q ≡ none → q ≡ none
-in_key-none p none e = refl
-in_key-none p (some r) e = cc
+in_key-none : (p : ℕ) (q : Question) → refused_in_key p q ≡ None → q ≡ None
+in_key-none p None e = refl
+in_key-none p (Some r) e = cc
 
 abbrev pub AllValid : List (List ℤ) → Type 0
-AllValid columns = All (λ (es : List ℤ). ends_valid es ≡ none) columns
+AllValid columns = All (λ (es : List ℤ). ends_valid es ≡ None) columns
 
-all_from : (p : ℕ) (ess : List (List ℤ)) → each_from sequence_at p ess ≡ none → AllValid ess
+all_from : (p : ℕ) (ess : List (List ℤ)) → each_from sequence_at p ess ≡ None → AllValid ess
 unfolding each_from
 all_from p [] e = tt
 all_from p (es ∷ ess) e =
     let q = each_from sequence_at (suc p) ess in
     (in_key-none p (ends_valid es) (first-yes (sequence_at p es) (q ∷ []) e), all_from (suc p) ess (first-yes q [] (rest-yes (sequence_at p es) (q ∷ []) e)))
 
-pub sequences-told : (os : List ℕ) (es : List ℤ) → sequences_valid os es ≡ none → AllValid (parts os es)
+pub sequences-told : (os : List ℕ) (es : List ℤ) → sequences_valid os es ≡ None → AllValid (parts os es)
 unfolding sequences_valid
 sequences-told os es e = all_from 0 (parts os es) e
 
 -- what f makes of a column's runs and g of its ends, for every column
-module _ {B : Type 0} (f : Runs → B) (g : List ℤ → B) (same : (es vs : List ℤ) → ends_valid es ≡ none → length es ≡ length vs → f (runs_of es vs) ≡ g es) where
+module _ {B : Type 0} (f : Runs → B) (g : List ℤ → B) (same : (es vs : List ℤ) → ends_valid es ≡ None → length es ≡ length vs → f (runs_of es vs) ≡ g es) where
   columns-from : (a : ℕ) (os : List ℕ) (es vs : List ℤ) → length es ≡ length vs → AllValid (parts_from a os es)
       → map f (map runs (sequences_of (parts_from a os es) (parts_from a os vs))) ≡ map g (parts_from a os es)
   unfolding sequences_of parts_from

@@ -1,7 +1,7 @@
 -- Sequences laid flat one after another.
 -- Assumes nothing.
 use Prim.Native.Nat.{ℕ, zero, suc, ◌+◌, ◌-◌, ◌≤◌, ◌<◌}
-use mathlib.Core.Option.{none, some}
+use Rattle.std.specs.Prelude.{Some, None, Result, Ok, IsErrAnd}
 use mathlib.Core.List.{List, [], ◌∷◌, ◌++◌, map, append_assoc, append-nil}
 use mathlib.Core.Path.{◌≡◌, refl, ap, sym, ◌∙◌}
 use native.Mathlib.Numerals.{add-one}
@@ -10,7 +10,7 @@ use borrow.Rule.Slice.PartMut.{put_mid}
 use lib.IntN.{ℤ}
 use lib.ListN.{length, get_or, take, drop, set, length-append, length-set}
 use lib.Seq.{take-suc, take_all, length-take-le}
-use Rattle.column.specs.declared.answer.Batched.{Batched}
+use Rattle.column.specs.declared.answer.RleBatch.{RleBatch}
 use Rattle.column.specs.declared.error.Refusal.{Refusal}
 use Rattle.column.specs.Asking.{Question, ◌otherwise◌}
 use Rattle.column.specs.Flat.{offsets_from, flat_offsets, flat_ends, flat_values, WrittenFlat}
@@ -18,6 +18,7 @@ use Rattle.column.specs.Lists.{total}
 use Rattle.column.specs.Paper.{paper}
 use Rattle.column.specs.Runs.{Runs, ends_of, values_of, over, Filled}
 use Rattle.column.proofs.Buffer.{over-next, over-over, length_over}
+use Rattle.column.proofs.Promised.{passed_on}
 use Rattle.column.proofs.Rest.{fill-behind}
 use Rattle.column.proofs.Sequences.{length-ends, length-values, ends-append, values-append}
 use Rattle.column.specs.Workers.{FilledFlat}
@@ -138,9 +139,10 @@ module _ {cs : List Runs} {x₀ x : List ℕ} {e₀ e v₀ v : List ℤ} {used i
 -- ---- what a worker laid flat, after a "yes" to every question, is what a call promises; and so is what was there, after a "no"
 
 module _ {q : Question} (cs : List Runs) where
-  pub flat-written : {x x' : List ℕ} {e e' v v' : List ℤ} {k n : ℕ} → q ≡ none → k ≡ length cs → FilledFlat cs x x' e e' v v' n
-      → WrittenFlat (q otherwise cs) (Batched.Batch (record { keys = k; runs = n })) x x' e e' v v'
+  pub flat-written : {x x' : List ℕ} {e e' v v' : List ℤ} {k n : ℕ} → q ≡ None → k ≡ length cs → FilledFlat cs x x' e e' v v' n
+      → WrittenFlat (q otherwise cs) (Ok (record { keys = k; runs = n })) x x' e e' v v'
   flat-written h ek f = rw h (record { answer = rw (ek, f.count); offsets = f.offsets; ends = f.ends; values = f.values })
 
-  pub flat-refused : {r : Refusal} {x : List ℕ} {e v : List ℤ} → q ≡ some (paper r) → WrittenFlat (q otherwise cs) (Batched.Refused r) x x e e v v
-  flat-refused h = rw h (record { answer = refl; offsets = refl; ends = refl; values = refl })
+  pub flat-refused : (r : Result RleBatch Refusal) (e : Refusal) {x : List ℕ} {b v : List ℤ}
+      → IsErrAnd r (λ (y : Refusal). y ≡ e) → Some (paper e) ≡ q → WrittenFlat (q otherwise cs) r x x b b v v
+  flat-refused r e h f = rw (sym f, passed_on r e h) (record { answer = refl; offsets = refl; ends = refl; values = refl })

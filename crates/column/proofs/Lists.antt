@@ -3,12 +3,14 @@
 use Prim.Native.Nat.{ℕ, suc, ◌+◌, ◌-◌, ◌≤◌, ◌<◌}
 use mathlib.Core.Bool.{Bool, true, false, ◌||◌}
 use mathlib.Core.List.{List, [], ◌∷◌, ◌++◌}
-use mathlib.Core.Path.{◌≡◌, refl, ap, ◌∙◌}
+use mathlib.Core.Path.{◌≡◌, refl, ap, ◌∙◌, sym}
 use native.Mathlib.Numerals.{add-one}
 use native.Mathlib.Omega.{arith}
 use lib.ListN.{length, get_or, drop, drop_of_length-le}
 use lib.Seq.{drop-cons}
 use borrow.Author.Tests.{le-leb, lt-leb, ne_eqb}
+use Rattle.std.specs.Prelude.{Option, unwrap_or, slice_get}
+use Rattle.std.proofs.lemmas.Option.{unwrap_or-slice_get}
 use Rattle.num.proofs.Tests.{by-test}
 use Rattle.column.specs.Lists.{any}
 use Rattle.column.specs.Questions.{rise, start_and_rise, last_offset}
@@ -41,10 +43,6 @@ pub start-rise : (os : List ℕ) → (length os ≡ 0 → ⊥) → get_or os 0 0
 start-rise [] h e = absurd (h refl)
 start-rise (o ∷ os) h e = rw e
 
-pub last_none : (os : List ℕ) → length os ≡ 0 → last_offset 0 os ≡ 0
-last_none [] h = refl
-last_none (o ∷ os) h = let z : ⊥ = omega arith in absurd z
-
 last-from : (a o : ℕ) (os : List ℕ) → last_offset a (o ∷ os) ≡ get_or (o ∷ os) (length os) 0
 last-from a o [] = refl
 last-from a o (p ∷ os) = last-from o p os
@@ -54,3 +52,9 @@ last_is [] h = absurd (h refl)
 last_is (o ∷ os) h =
     let m : length os ≡ suc (length os) - 1 = omega arith in
     last-from 0 o os ∙ ap (λ (n : ℕ). get_or (o ∷ os) n 0) m
+
+-- as `last` reads it
+pub offset_read : (os : List ℕ) {o : Option ℕ} → o ≡ slice_get os (length os - 1) → unwrap_or o 0 ≡ last_offset 0 os
+offset_read [] h = rw h
+offset_read (o ∷ os) h =
+    rw h (unwrap_or-slice_get (o ∷ os) (length (o ∷ os) - 1) 0) ∙ sym (last_is (o ∷ os) (λ z. let f : ⊥ = omega arith in f))

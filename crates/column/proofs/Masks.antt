@@ -2,7 +2,7 @@
 -- Assumes nothing.
 use Prim.Native.Nat.{ℕ, suc, ◌+◌, ◌≤◌, ◌<◌}
 use mathlib.Core.Bool.{cond}
-use mathlib.Core.Option.{none}
+use Rattle.std.specs.Prelude.{None}
 use mathlib.Core.List.{List, [], ◌∷◌}
 use mathlib.Core.Path.{◌≡◌, refl, ◌∙◌}
 use native.Mathlib.Numerals.{add-one}
@@ -36,11 +36,11 @@ module _ {mask : List ℕ} {i : ℕ} (l : Listed mask i) where
 
   pub listed-not : i < length mask → 1 < get_or mask i 0 → i ≡ first_unlisted mask
   unfolding first_unlisted
-  listed-not h k = let n : first_unlisted (drop i mask) ≡ 0 = rw (drop-cons mask i 0, lt-leb (get_or mask i 0) 1 k) in omega (arith, l.rest)
+  listed-not h k = let n : first_unlisted (drop i mask) ≡ 0 = rw (drop-cons mask i 0, lt-leb (get_or mask i 0) 1 k) in omega (arith, l.rest, l.within)
 
-  pub listed-all : length mask ≤ i → i ≡ first_unlisted mask
+  pub listed-all : length mask ≤ i → length mask ≡ first_unlisted mask
   unfolding first_unlisted
-  listed-all h = let n : first_unlisted (drop i mask) ≡ 0 = rw drop_of_length-le in omega (arith, l.rest)
+  listed-all h = let n : first_unlisted (drop i mask) ≡ 0 = rw drop_of_length-le in omega (arith, l.rest, l.within)
 
 -- so many of the bytes before i are 1
 pub record Ones (mask : List ℕ) (count i : ℕ) : Type 0 where
@@ -69,7 +69,7 @@ module _ {mask : List ℕ} {count i : ℕ} (o : Ones mask count i) where
 
 -- ---- question 1
 
-listed-from : (k : ℕ) (mask : List ℕ) → length mask ≤ first_unlisted mask → each_from (λ i. listed 0 1) k mask ≡ none
+listed-from : (k : ℕ) (mask : List ℕ) → length mask ≤ first_unlisted mask → each_from (λ i. listed 0 1) k mask ≡ None
 unfolding each_from first_unlisted
 listed-from k [] h = refl
 listed-from k (m ∷ mask) h =
@@ -89,7 +89,7 @@ refused-from k (m ∷ mask) h =
     (λ t. rw (t, listed-refused 0 1 m (λ _ l. omega (arith, leb-false m 1 t))))
 
 -- every byte is listed where no other is found, else the refusal is that of the byte found
-pub mask_yes : (mask : List ℕ) {i : ℕ} → i ≡ first_unlisted mask → length mask ≤ i → mask_listed mask ≡ none
+pub mask_yes : (mask : List ℕ) {i : ℕ} → i ≡ first_unlisted mask → length mask ≤ i → mask_listed mask ≡ None
 unfolding mask_listed
 mask_yes mask e h = listed-from 0 mask (omega arith)
 

@@ -1,7 +1,7 @@
 -- Parts of a list, and the question put to each part of a list that is laid flat.
 -- Assumes nothing.
 use Prim.Native.Nat.{ℕ, suc, ◌+◌, ◌-◌, ◌≤◌, ◌<◌}
-use mathlib.Core.Option.{none, some}
+use Rattle.std.specs.Prelude.{Some, None}
 use mathlib.Core.List.{List, [], ◌∷◌}
 use mathlib.Core.Path.{◌≡◌, refl, ap, ◌∙◌}
 use native.Mathlib.Numerals.{add-one}
@@ -58,16 +58,16 @@ module _ (k : ℕ) (os : List ℕ) (es : List ℤ) where
   unfolding parts_at parts_from
   parts-end h = rw (drop_of_length-le os {i = k + 1} h)
 
-  pub sequences-next : k + 1 < length os → sequence_at k (part (get_or os k 0) (get_or os (k + 1) 0) es) ≡ none
+  pub sequences-next : k + 1 < length os → sequence_at k (part (get_or os k 0) (get_or os (k + 1) 0) es) ≡ None
       → each_from sequence_at k (parts_at k os es) ≡ each_from sequence_at (k + 1) (parts_at (k + 1) os es)
   unfolding each_from
   sequences-next h e = rw (parts-cons h, e, add-one k) (alone (each_from sequence_at (suc k) (parts_at (suc k) os es)))
 
-  pub sequences-refused : {r : PaperRefusal} → k + 1 < length os → sequence_at k (part (get_or os k 0) (get_or os (k + 1) 0) es) ≡ some r
-      → each_from sequence_at k (parts_at k os es) ≡ some r
+  pub sequences-refused : {r : PaperRefusal} → k + 1 < length os → sequence_at k (part (get_or os k 0) (get_or os (k + 1) 0) es) ≡ Some r
+      → each_from sequence_at k (parts_at k os es) ≡ Some r
   unfolding each_from
   sequences-refused h e = rw (parts-cons h, e)
 
-  pub sequences-end : length os ≤ k + 1 → each_from sequence_at k (parts_at k os es) ≡ none
+  pub sequences-end : length os ≤ k + 1 → each_from sequence_at k (parts_at k os es) ≡ None
   unfolding each_from
   sequences-end h = rw (parts-end h)

@@ -1,5 +1,6 @@
 -- Values position by position, and two columns combined as one pass over what both show.
 -- Assumes nothing.
+use Rattle.std.specs.Prelude.{Option}
 use Prim.Native.Nat.{ℕ, zero, suc, ◌+◌, ◌≤◌, ◌<◌, max}
 use mathlib.Core.List.{List, [], ◌∷◌, ◌++◌}
 use mathlib.Core.Path.{◌≡◌, refl, ap}
@@ -7,7 +8,6 @@ use native.Mathlib.Nat.{zero-add, add-zero, suc-add, add-suc, suc-max-suc, zero-
 use native.Mathlib.Omega.{arith}
 use lib.IntN.{ℤ}
 use lib.ListN.{length, get_or, replicate}
-use Rattle.column.specs.declared.answer.Fill.{Fill}
 use Rattle.column.specs.Combine.{two, value_of, value_at, greatest_length, row_at, each_position, table}
 use Rattle.column.specs.Runs.{Runs, length_of, dense}
 use Rattle.column.proofs.Dense.{length-dense}
@@ -68,7 +68,7 @@ zip-positions op x y (a ∷ xs) (b ∷ ys) =
     (zip-step (λ i. op (get_or (a ∷ xs) i x) (get_or (b ∷ ys) i y)) (max (length xs) (length ys)) (op a b) (zip_dense op x y xs ys)
     refl (zip-positions op x y xs ys))
 
-pub table-two : (op : ℤ → ℤ → ℤ) (fa fb : Fill) (a b : Runs) → Valid a → Valid b
+pub table-two : (op : ℤ → ℤ → ℤ) (fa fb : Option ℤ) (a b : Runs) → Valid a → Valid b
     → table op (two fa fb a b) ≡ zip_dense op (value_of fa) (value_of fb) (dense a) (dense b)
 unfolding table greatest_length row_at value_at
 table-two op fa fb a b va vb =

@@ -1,6 +1,6 @@
 -- Worked examples as rows: what a call comes to, as lists of numbers, and what is written down for it.
 use Prim.Native.Nat.{ℕ}
-use mathlib.Core.Option.{Option}
+use Rattle.std.specs.Prelude.{Option}
 use mathlib.Core.List.{List, [], ◌∷◌}
 use mathlib.Core.Path.{◌≡◌}
 use lib.IntN.{ℤ}

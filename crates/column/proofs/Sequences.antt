@@ -2,10 +2,12 @@
 -- Assumes nothing.
 use Prim.Native.Nat.{ℕ, zero, suc, ◌-◌}
 use mathlib.Core.List.{List, [], ◌∷◌, ◌++◌, map-append}
-use mathlib.Core.Path.{◌≡◌, refl, ap, ◌∙◌}
+use mathlib.Core.Path.{◌≡◌, refl, ap, ◌∙◌, sym}
 use native.Mathlib.Omega.{arith}
 use lib.IntN.{ℤ, pos}
 use lib.ListN.{length, get_or, length-map}
+use Rattle.std.specs.Prelude.{Option, unwrap_or, slice_get}
+use Rattle.std.proofs.lemmas.Option.{unwrap_or-slice_get}
 use Rattle.column.specs.Runs.{Run, Runs, runs_of, ends_of, values_of, last_from, length_of_ends, end_before}
 
 pub length-ends : (rs : Runs) → length (ends_of rs) ≡ length rs
@@ -47,6 +49,13 @@ length_last [] h = absurd (h refl)
 length_last (e ∷ es) h =
     let m : length es ≡ suc (length es) - 1 = omega arith in
     last-from (pos 0) e es ∙ ap (λ (n : ℕ). get_or (e ∷ es) n (pos 0)) m
+
+-- as `last` reads it
+pub last_read : (es : List ℤ) {o : Option ℤ} → o ≡ slice_get es (length es - 1) → unwrap_or o (pos 0) ≡ length_of_ends es
+unfolding length_of_ends
+last_read [] h = rw h
+last_read (e ∷ es) h =
+    rw h (unwrap_or-slice_get (e ∷ es) (length (e ∷ es) - 1) (pos 0)) ∙ sym (length_last (e ∷ es) (λ z. let f : ⊥ = omega arith in f))
 
 -- ---- the end before an index, 0 before the first
 

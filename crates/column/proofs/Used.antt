@@ -1,7 +1,7 @@
 -- A sequence in the first entries of lent buffers.
 -- Assumes nothing.
 use Prim.Native.Nat.{ℕ, zero, suc, ◌-◌, ◌≤◌, ◌<◌}
-use mathlib.Core.Option.{none}
+use Rattle.std.specs.Prelude.{None}
 use mathlib.Core.List.{List, [], ◌∷◌, ◌++◌}
 use mathlib.Core.Path.{◌≡◌, refl, ap, sym, ◌∙◌}
 use native.Mathlib.Omega.{arith}
@@ -36,7 +36,7 @@ module _ (n : ℕ) (e v : List ℤ) (in-ends : n ≤ length e) (in_values : n �
   pub used-count : length used_runs ≡ n
   used-count = length_runs (take n e) (take n v) used-paired ∙ length-take-le n e in-ends
 
-  module _ (valid : ends_valid (take n e) ≡ none) where
+  module _ (valid : ends_valid (take n e) ≡ None) where
     pub used-ends : ends_of used_runs ≡ take n e
     used-ends = ends-runs 0 (take n e) (take n v) (rising (take n e) valid) used-paired
 

@@ -1,9 +1,9 @@
 -- Each question by what the code finds: a "yes", or the refusal.
 -- Assumes nothing.
 use Prim.Native.Nat.{ℕ, suc, ◌+◌, ◌-◌, ◌≤◌, ◌<◌, ◌^◌}
-use mathlib.Core.Bool.{true, false, ◌&&◌}
-use mathlib.Core.Option.{none}
-use mathlib.Core.List.{List, [], ◌∷◌, ◌++◌}
+use mathlib.Core.Bool.{Bool, true, false, not, ◌&&◌}
+use Rattle.std.specs.Prelude.{None, Some, Option, is_some}
+use mathlib.Core.List.{List, [], ◌∷◌}
 use mathlib.Core.Path.{◌≡◌, refl, ◌∙◌, sym}
 use native.Mathlib.Numerals.{add-one}
 use native.Mathlib.Omega.{arith}
@@ -15,17 +15,17 @@ use lib.Dec.{leb, eqb}
 use borrow.Author.Tests.{le-leb, lt-leb, leb-true, leb-false, le-ltb, lt-ltb, eq-eqb, ne_eqb}
 use Rattle.num.specs.Numbers.{saturated, larger_of}
 use Rattle.num.proofs.Tests.{by-test, lt_le, le_lt}
-use Rattle.column.specs.declared.answer.Fill.{Fill}
 use Rattle.column.specs.Lists.{any}
+use Rattle.column.specs.Paper.{PaperRefusal}
 use Rattle.column.specs.Asking.{Question, refusal, first_no}
 use Rattle.column.specs.Questions.{listed, start_and_rise, last_offset, offsets_rise, offsets_valid, distinct_at, interval_at, side, is_missing, filled}
 use Rattle.column.specs.Questions.{ends_from, not_negative, fits, run_by_run, long_enough, room_at, room_from, room, both}
 use Rattle.column.specs.Runs.{to_nat}
-use Rattle.column.proofs.FirstNo.{alone, first_rest, last_several, Asks}
+use Rattle.column.proofs.FirstNo.{alone, first_rest}
 
 -- ---- 1
 
-pub listed-yes : (low high code : ℕ) → low ≤ code → code ≤ high → listed low high code ≡ none
+pub listed-yes : (low high code : ℕ) → low ≤ code → code ≤ high → listed low high code ≡ None
 unfolding listed
 listed-yes low high code h k = rw (le-leb low code h, le-leb code high k)
 
@@ -38,7 +38,7 @@ listed-refused low high code n =
 
 -- ---- 3
 
-pub rise-yes : (os : List ℕ) → start_and_rise os ≡ true → offsets_rise os ≡ none
+pub rise-yes : (os : List ℕ) → start_and_rise os ≡ true → offsets_rise os ≡ None
 unfolding offsets_rise
 rise-yes os t = rw t
 
@@ -46,7 +46,7 @@ pub rise-refused : (os : List ℕ) → start_and_rise os ≡ false → offsets_r
 unfolding offsets_rise
 rise-refused os t = rw t
 
-pub offsets-yes : (os : List ℕ) (n : ℕ) → start_and_rise os ≡ true → last_offset 0 os ≡ n → offsets_valid os n ≡ none
+pub offsets-yes : (os : List ℕ) (n : ℕ) → start_and_rise os ≡ true → last_offset 0 os ≡ n → offsets_valid os n ≡ None
 unfolding offsets_valid
 offsets-yes os n t e = rw (t, eq-eqb (last_offset 0 os) n e)
 
@@ -70,13 +70,13 @@ module _ (before : ℤ) (i : ℕ) (es : List ℤ) where
   unfolding ends_from
   ends-refused h t = rw (drop-cons es i (pos 0), le_lt (get_or es i (pos 0)) before t)
 
-  pub ends-end : length es ≤ i → ends_from i before (drop i es) ≡ none
+  pub ends-end : length es ≤ i → ends_from i before (drop i es) ≡ None
   unfolding ends_from
   ends-end h = rw drop_of_length-le
 
 -- ---- 6, 7
 
-pub negative_yes : (i : ℕ) (run : ℤ) → lt_z run (pos 0) ≡ false → not_negative i run ≡ none
+pub negative_yes : (i : ℕ) (run : ℤ) → lt_z run (pos 0) ≡ false → not_negative i run ≡ None
 unfolding not_negative
 negative_yes i run t = rw (lt_le run (pos 0) t)
 
@@ -84,7 +84,7 @@ pub negative_refused : (i : ℕ) (run : ℤ) → lt_z run (pos 0) ≡ true → n
 unfolding not_negative
 negative_refused i run t = rw (lt_le run (pos 0) t)
 
-pub fits-yes : (n : ℕ) → n < 2 ^ 63 → fits n ≡ none
+pub fits-yes : (n : ℕ) → n < 2 ^ 63 → fits n ≡ None
 unfolding fits
 fits-yes n h = rw (lt-ltb n (2 ^ 63) h)
 
@@ -97,26 +97,25 @@ module _ (p i : ℕ) (rs : List ℤ) (h : i < length rs) where
   abbrev run : ℤ
   run = get_or rs i (pos 0)
 
-  pub runs_negative : lt_z run (pos 0) ≡ true → run_by_run i p (drop i rs) ≡ refusal 6 (pos i ∷ run ∷ [])
+  pub runs-negative : {r : PaperRefusal} → Some r ≡ not_negative i run → run_by_run i p (drop i rs) ≡ Some r
   unfolding run_by_run
-  runs_negative t = rw (drop-cons rs i (pos 0), negative_refused i run t)
+  runs-negative e = rw (drop-cons rs i (pos 0), sym e)
 
-  pub runs-overflow : lt_z run (pos 0) ≡ false → 2 ^ 63 ≤ p + to_nat run → run_by_run i p (drop i rs) ≡ refusal 7 []
+  pub runs-overflow : {r : PaperRefusal} → None ≡ not_negative i run → Some r ≡ fits (p + to_nat run) → run_by_run i p (drop i rs) ≡ Some r
   unfolding run_by_run
-  runs-overflow t k = rw (drop-cons rs i (pos 0), negative_yes i run t, fits_refused (p + to_nat run) k)
+  runs-overflow e f = rw (drop-cons rs i (pos 0), sym e, sym f)
 
-  pub runs-next : lt_z run (pos 0) ≡ false → p + to_nat run < 2 ^ 63 → run_by_run i p (drop i rs) ≡ run_by_run (i + 1) (p + to_nat run) (drop (i + 1) rs)
+  pub runs-next : None ≡ not_negative i run → None ≡ fits (p + to_nat run) → run_by_run i p (drop i rs) ≡ run_by_run (i + 1) (p + to_nat run) (drop (i + 1) rs)
   unfolding run_by_run
-  runs-next t k = rw (add-one, drop-cons rs i (pos 0), negative_yes i run t, fits-yes (p + to_nat run) k)
-      (alone (run_by_run (suc i) (p + to_nat run) (drop (suc i) rs)))
+  runs-next e f = rw (add-one, drop-cons rs i (pos 0), sym e, sym f) (alone (run_by_run (suc i) (p + to_nat run) (drop (suc i) rs)))
 
-pub runs-end : (p i : ℕ) (rs : List ℤ) → length rs ≤ i → run_by_run i p (drop i rs) ≡ none
+pub runs-end : (p i : ℕ) (rs : List ℤ) → length rs ≤ i → run_by_run i p (drop i rs) ≡ None
 unfolding run_by_run
 runs-end p i rs h = rw drop_of_length-le
 
 -- ---- 8
 
-pub distinct_yes : (ks : List ℕ) (i k : ℕ) → any (eqb k) (take i ks) ≡ false → distinct_at ks i k ≡ none
+pub distinct_yes : (ks : List ℕ) (i k : ℕ) → any (eqb k) (take i ks) ≡ false → distinct_at ks i k ≡ None
 unfolding distinct_at
 distinct_yes ks i k t = rw t
 
@@ -135,17 +134,24 @@ module _ (ends : List ℤ) (i : ℕ) (start : ℤ) {end : ℤ} (e : end ≡ get_
   unfolding interval_at
   interval_reversed t u = rw (lt_le start (pos 0) t, ← e, lt_le end start u)
 
-  pub interval_yes : lt_z start (pos 0) ≡ false → lt_z end start ≡ false → interval_at ends i start ≡ none
+  pub interval_yes : lt_z start (pos 0) ≡ false → lt_z end start ≡ false → interval_at ends i start ≡ None
   unfolding interval_at
   interval_yes t u = rw (lt_le start (pos 0) t, ← e, lt_le end start u)
 
 -- ---- 10, of two sides
 
+-- as `is_none` answers
+pub missing_is : (f : Option ℤ) (b : Bool) → is_some f ≡ not b → b ≡ is_missing f
+missing_is None true h = refl
+missing_is None false h = h
+missing_is (Some v) true h = h
+missing_is (Some v) false h = refl
+
 -- the code takes the larger of the first and of what the second and 0 give
 pub longer_of_two : {a b m n a' b' m' : ℤ} → m ≡ larger_of b' (pos 0) → b' ≡ b → n ≡ larger_of a' m' → a' ≡ a → m' ≡ m → n ≡ larger_of a (larger_of b (pos 0))
 longer_of_two e p f q r = f ∙ rw (q, r, e, p)
 
-module _ (a b : ℤ) (fa fb : Fill) {n : ℤ} (e : n ≡ larger_of a (larger_of b (pos 0))) where
+module _ (a b : ℤ) (fa fb : Option ℤ) {n : ℤ} (e : n ≡ larger_of a (larger_of b (pos 0))) where
   pub fills_first : lt_z a n && is_missing fa ≡ true → filled a b (side a fa ∷ side b fb ∷ []) ≡ refusal 10 (a ∷ b ∷ [])
   unfolding filled
   fills_first t = rw (← e, t)
@@ -154,13 +160,13 @@ module _ (a b : ℤ) (fa fb : Fill) {n : ℤ} (e : n ≡ larger_of a (larger_of 
   unfolding filled
   fills-second t u = rw (← e, t, u)
 
-  pub fills-yes : lt_z a n && is_missing fa ≡ false → lt_z b n && is_missing fb ≡ false → filled a b (side a fa ∷ side b fb ∷ []) ≡ none
+  pub fills-yes : lt_z a n && is_missing fa ≡ false → lt_z b n && is_missing fb ≡ false → filled a b (side a fa ∷ side b fb ∷ []) ≡ None
   unfolding filled
   fills-yes t u = rw (← e, t, u)
 
 -- ---- 11
 
-pub long-yes : (requested present : ℤ) → lt_z requested present ≡ false → long_enough requested present ≡ none
+pub long-yes : (requested present : ℤ) → lt_z requested present ≡ false → long_enough requested present ≡ None
 unfolding long_enough
 long-yes requested present t = rw (lt_le requested present t)
 
@@ -189,10 +195,6 @@ room-one n g = room-each (n ∷ []) (g ∷ []) ∙ alone (room_at 0 n g)
 
 pub room-both : (n e v : ℕ) → room (both n) (e ∷ v ∷ []) ≡ first_no (room_at 0 n e ∷ room_at 1 n v ∷ [])
 room-both n e v = room-each (both n) (e ∷ v ∷ [])
-
--- 12, which the code puts buffer by buffer, after others
-pub asks-rooms : {r : Question} (ps : List Question) (needed given : List ℕ) → Asks r (ps ++ rooms_from 0 needed given) → Asks r (ps ++ (room needed given ∷ []))
-asks-rooms ps needed given s = record { told = s.told ∙ rw (room-each needed given) (last_several ps (rooms_from 0 needed given)) }
 
 -- a need that stops at the greatest number that is shown
 pub room-saturated : (which needed given : ℕ) → given < 2 ^ 64 - 1 → room_at which (saturated needed) given ≡ room_at which needed given

@@ -1,27 +1,25 @@
 -- Columns combined position by position, "the fill standing where a side has ended".
-use Rattle.std.specs.Prelude.{ℕ, zero, suc, max, List, [], ◌∷◌, map, ℤ, pos, get_or}
-use Rattle.column.specs.declared.answer.Fill.{Fill}
-use Rattle.column.specs.declared.answer.Fill.TheVariants.{Value, Missing}
+use Rattle.std.specs.Prelude.{ℕ, zero, suc, max, List, [], ◌∷◌, map, ℤ, pos, get_or, Option, Some, None}
 use Rattle.column.specs.Asking.{Question}
 use Rattle.column.specs.Questions.{Side, side, filled}
 use Rattle.column.specs.Runs.{Runs, length_of, dense, encode}
 
 -- a column, and its fill
 pub record Column : Type 0 where
-  pub fill : Fill
+  pub fill : Option ℤ
   pub runs : Runs
 
 -- two columns, each with its own fill; many columns with a single fill
-abbrev pub two : Fill → Fill → Runs → Runs → List Column
+abbrev pub two : Option ℤ → Option ℤ → Runs → Runs → List Column
 two fa fb a b = record { fill = fa; runs = a } ∷ record { fill = fb; runs = b } ∷ []
 
-abbrev pub many : Fill → List Runs → List Column
+abbrev pub many : Option ℤ → List Runs → List Column
 many f cs = map (λ (c : Runs). record { fill = f; runs = c }) cs
 
 -- (where a fill is missing no position shows it: 10)
-abbrev pub value_of : Fill → ℤ
-value_of Missing = pos 0
-value_of (Value v) = v
+abbrev pub value_of : Option ℤ → ℤ
+value_of None = pos 0
+value_of (Some v) = v
 
 -- the value of a column at a position
 unfoldable pub value_at : ℕ → Column → ℤ

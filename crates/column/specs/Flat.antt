@@ -1,12 +1,12 @@
 -- Several sequences laid flat: "offsets and flat ends and values, as a batch without keys".
-use Rattle.std.specs.Prelude.{ℕ, ◌+◌, ◌-◌, List, [], ◌∷◌, ◌++◌, map, ◌≡◌, ℤ, length}
+use Rattle.std.specs.Prelude.{ℕ, ◌+◌, ◌-◌, List, [], ◌∷◌, ◌++◌, map, ◌≡◌, ℤ, length, Result}
 use Rattle.column.specs.Asking.{Question}
 use Rattle.column.specs.Lists.{total, parts}
-use Rattle.column.specs.Paper.{Outcome, shown_batched, counts, written}
+use Rattle.column.specs.Paper.{Outcome, outcome_of, counts, written}
 use Rattle.column.specs.Questions.{paired, offsets_valid, sequences_valid}
 use Rattle.column.specs.Runs.{Sequence, sequence, Runs, runs, ends_of, values_of}
 use Rattle.column.specs.declared.answer.RleBatch.{RleBatch}
-use Rattle.column.specs.declared.answer.Batched.{Batched}
+use Rattle.column.specs.declared.error.Refusal.{Refusal}
 use Rattle.column.specs.Lent.{Lent, given, after}
 
 pub record Flat : Type 0 where
@@ -72,13 +72,13 @@ abbrev pub flat_counts : List Runs → RleBatch
 flat_counts cs = record { keys = length cs; runs = total (map length cs) }
 
 -- the promise of a call that writes sequences laid flat, each buffer before and after
-pub record WrittenFlat (o : Outcome (List Runs)) (r : Batched) (x x' : List ℕ) (e e' v v' : List ℤ) : Type 0 where
-  pub answer : shown_batched r ≡ counts flat_counts o
+pub record WrittenFlat (o : Outcome (List Runs)) (r : Result RleBatch Refusal) (x x' : List ℕ) (e e' v v' : List ℤ) : Type 0 where
+  pub answer : outcome_of r ≡ counts flat_counts o
   pub offsets : x' ≡ written flat_offsets o x
   pub ends : e' ≡ written flat_ends o e
   pub values : v' ≡ written flat_values o v
 
 -- of the buffers that a call is lent: question 12 is about their lengths
-abbrev pub WritesFlat : (List ℕ → Outcome (List Runs)) → Lent ℕ → Lent ℤ → Lent ℤ → Batched → Type 0
+abbrev pub WritesFlat : (List ℕ → Outcome (List Runs)) → Lent ℕ → Lent ℤ → Lent ℤ → Result RleBatch Refusal → Type 0
 WritesFlat call x e v r =
     WrittenFlat (call (length (given x) ∷ length (given e) ∷ length (given v) ∷ [])) r (given x) (after x) (given e) (after e) (given v) (after v)

@@ -1,17 +1,9 @@
--- What a call comes to, with document 01's number and values for each case of the declared answers.
-use Rattle.std.specs.Prelude.{ℕ, List, [], ◌∷◌, ◌≡◌, ℤ, pos, length}
-use Rattle.std.proofs.Math.Option.{Option, none, some}
+-- What a call comes to, with document 01's number and values for each error.
+use Rattle.std.specs.Prelude.{ℕ, List, [], ◌∷◌, ◌≡◌, ℤ, pos, length, Option, Result, Ok, Err}
 use Rattle.column.specs.declared.error.Error.{Error}
 use Rattle.column.specs.declared.error.Error.TheVariants.{UnknownCode, LengthMismatch, InvalidOffsets, InvalidEnds, TooMany, NegativeRun, Overflow}
 use Rattle.column.specs.declared.error.Error.TheVariants.{DuplicateKey, InvalidInterval, UnequalLength, LengthTooShort, ShortBuffer}
-use Rattle.column.specs.declared.error.InKey.{InKey}
-use Rattle.column.specs.declared.error.InKey.TheVariants.{Outside, Position}
 use Rattle.column.specs.declared.error.Refusal.{Refusal}
-use Rattle.column.specs.declared.answer.Checked.{Checked}
-use Rattle.column.specs.declared.answer.Counted.{Counted}
-use Rattle.column.specs.declared.answer.Found.{Found}
-use Rattle.column.specs.declared.answer.RleBatch.{RleBatch}
-use Rattle.column.specs.declared.answer.Batched.{Batched}
 use Rattle.column.specs.Runs.{Runs, ends_of, values_of, over}
 use Rattle.column.specs.Lent.{Lent, given, after}
 
@@ -56,31 +48,13 @@ shown_by (UnequalLength left right) = left ∷ right ∷ []
 shown_by (LengthTooShort requested required) = requested ∷ required ∷ []
 shown_by (ShortBuffer which needed given) = pos which ∷ pos needed ∷ pos given ∷ []
 
-abbrev pub position_of : InKey → Option ℕ
-position_of Outside = none
-position_of (Position p) = some p
-
 abbrev pub paper : Refusal → PaperRefusal
-paper r = record { number = number_of r.error; values = shown_by r.error; position = position_of r.in_key }
+paper r = record { number = number_of r.error; values = shown_by r.error; position = r.in_key }
 
--- ---- what each declared answer shows
-
-abbrev pub shown_checked : Checked → Outcome (Unit {0})
-shown_checked Checked.Valid = answers tt
-shown_checked (Checked.Refused r) = refuses (paper r)
-
-abbrev pub shown_counted : Counted → Outcome ℕ
-shown_counted (Counted.Count n) = answers n
-shown_counted (Counted.Refused r) = refuses (paper r)
-
-abbrev pub shown_found : Found → Outcome (Option ℕ)
-shown_found (Found.At i) = answers (some i)
-shown_found Found.Nothing = answers none
-shown_found (Found.Refused r) = refuses (paper r)
-
-abbrev pub shown_batched : Batched → Outcome RleBatch
-shown_batched (Batched.Batch b) = answers b
-shown_batched (Batched.Refused r) = refuses (paper r)
+-- what the answer of a call shows
+abbrev pub outcome_of : {X : Type 0} → Result X Refusal → Outcome X
+outcome_of (Ok x) = answers x
+outcome_of (Err r) = refuses (paper r)
 
 -- ---- what a call returns and leaves, of what it comes to
 
@@ -95,22 +69,22 @@ written f (answers x) before = over (f x) before
 written f (refuses r) before = before
 
 -- the promise of a call that writes runs into two buffers, each before and after
-pub record WrittenRuns (o : Outcome Runs) (r : Counted) (e e' v v' : List ℤ) : Type 0 where
-  pub answer : shown_counted r ≡ counts length o
+pub record WrittenRuns (o : Outcome Runs) (r : Result ℕ Refusal) (e e' v v' : List ℤ) : Type 0 where
+  pub answer : outcome_of r ≡ counts length o
   pub ends : e' ≡ written ends_of o e
   pub values : v' ≡ written values_of o v
 
 -- of the buffers that a call is lent: question 12 is about their lengths
-abbrev pub WritesRuns : (List ℕ → Outcome Runs) → Lent ℤ → Lent ℤ → Counted → Type 0
+abbrev pub WritesRuns : (List ℕ → Outcome Runs) → Lent ℤ → Lent ℤ → Result ℕ Refusal → Type 0
 WritesRuns call e v r =
     WrittenRuns (call (length (given e) ∷ length (given v) ∷ [])) r (given e) (after e) (given v) (after v)
 
 -- and of one that writes entries into a single buffer
-pub record WrittenEntries {A : Type 0} (o : Outcome (List A)) (r : Counted) (b b' : List A) : Type 0 where
-  pub answer : shown_counted r ≡ counts length o
+pub record WrittenEntries {A : Type 0} (o : Outcome (List A)) (r : Result ℕ Refusal) (b b' : List A) : Type 0 where
+  pub answer : outcome_of r ≡ counts length o
   pub entries : b' ≡ written (λ xs. xs) o b
 
 -- of the buffers that a call is lent: question 12 is about their lengths
-abbrev pub WritesEntries : {A : Type 0} → (List ℕ → Outcome (List A)) → Lent A → Counted → Type 0
+abbrev pub WritesEntries : {A : Type 0} → (List ℕ → Outcome (List A)) → Lent A → Result ℕ Refusal → Type 0
 WritesEntries call b r =
     WrittenEntries (call (length (given b) ∷ [])) r (given b) (after b)

@@ -1,10 +1,7 @@
 -- The questions of document 01, in its order.
-use Rattle.std.specs.Prelude.{ℕ, suc, ◌+◌, ◌^◌, min, ◌-◌, Bool, true, false, not, ◌&&◌, List, [], ◌∷◌, ℤ, pos, length, get_or, take, drop, eqb, leb, ltb}
-use Rattle.std.proofs.Math.Option.{none}
+use Rattle.std.specs.Prelude.{ℕ, suc, ◌+◌, ◌^◌, min, ◌-◌, Bool, true, false, not, ◌&&◌, List, [], ◌∷◌, ℤ, pos, length, get_or, take, drop, eqb, leb, ltb, Option, Some, None}
 use Rattle.std.specs.Int.Signed.{le_z, lt_z}
 use Rattle.num.specs.Numbers.{saturated, larger_of}
-use Rattle.column.specs.declared.answer.Fill.{Fill}
-use Rattle.column.specs.declared.answer.Fill.TheVariants.{Value, Missing}
 use Rattle.column.specs.Lists.{any, parts}
 use Rattle.column.specs.Runs.{Sequence, to_nat}
 use Rattle.column.specs.Asking.{Question, refusal, ◌unless◌, first_no, each, refused_in_key}
@@ -66,7 +63,7 @@ offsets_valid os n = refusal 3 [] unless start_and_rise os && eqb (last_offset 0
 
 -- is each end, from index i on, above the one before it?
 unfoldable pub ends_from : ℕ → ℤ → List ℤ → Question
-ends_from i before [] = none
+ends_from i before [] = None
 ends_from i before (e ∷ es) = first_no ((refusal 4 (pos i ∷ []) unless lt_z before e) ∷ ends_from (suc i) e es ∷ [])
 
 -- are ends valid, "the first above 0, each above the one before"?
@@ -99,7 +96,7 @@ fits n = refusal 7 [] unless ltb n (2 ^ 63)
 
 -- "In `from_runs` 6 and 7 are asked run by run": from run i on, the length so far being p
 unfoldable pub run_by_run : ℕ → ℕ → List ℤ → Question
-run_by_run i p [] = none
+run_by_run i p [] = None
 run_by_run i p (run ∷ rs) = first_no (not_negative i run ∷ fits (p + to_nat run) ∷ run_by_run (suc i) (p + to_nat run) rs ∷ [])
 
 -- ---- 8 DuplicateKey
@@ -127,14 +124,14 @@ intervals starts ends = each (interval_at ends) starts
 -- a side: its length, and what stands where it has ended
 pub record Side : Type 0 where
   pub length : ℤ
-  pub fill : Fill
+  pub fill : Option ℤ
 
-abbrev pub side : ℤ → Fill → Side
+abbrev pub side : ℤ → Option ℤ → Side
 side n fill = record { length = n; fill = fill }
 
-abbrev pub is_missing : Fill → Bool
-is_missing Missing = true
-is_missing (Value v) = false
+abbrev pub is_missing : Option ℤ → Bool
+is_missing None = true
+is_missing (Some v) = false
 
 -- the greatest length
 abbrev pub longest : List Side → ℤ
@@ -163,7 +160,7 @@ room_at which needed given = refusal 12 (pos which ∷ pos (saturated needed) �
 
 -- each buffer, from number i on, of which `given` are the lengths
 unfoldable pub room_from : ℕ → List ℕ → List ℕ → Question
-room_from i [] given = none
+room_from i [] given = None
 room_from i (n ∷ ns) given = first_no (room_at i n (get_or given 0 0) ∷ room_from (suc i) ns (drop 1 given) ∷ [])
 
 -- what each output or scratch buffer needs, and how long each is, in argument order

@@ -44,15 +44,9 @@ pub enum Error {
     },
 }
 
-// The key or sequence position that a refusal inside a batch or a many-way call also carries.
-#[derive(Clone, Copy)]
-pub enum InKey {
-    Outside,
-    Position(usize),
-}
-
+// An error, and the key or sequence position that one inside a batch or a many-way call also carries.
 #[derive(Clone, Copy)]
 pub struct Refusal {
     pub error: Error,
-    pub in_key: InKey,
+    pub in_key: Option<usize>,
 }

@@ -50,13 +50,11 @@ pub fn append_merged(
         offset ends.now values.now out_ends.old out_ends.new out_values.old out_values.new writer result }
 {
     let mut next = writer;
-    let mut r: usize = 0;
-    while r < ends.len() {
+    for r in 0..ends.len() {
         let end = ends[r];
         let value = values[r];
         let to = end as usize - start + offset;
         next = push_merged(next, out_ends, out_values, to as i64, value);
-        r += 1;
     }
     next
 }

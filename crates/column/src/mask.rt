@@ -6,14 +6,12 @@ ghost use Rattle.column.specs.Workers.{first_unlisted, mask_ones};
 pub fn first_unlisted(mask: &[u8]) -> usize
     ensures { result ≡ first_unlisted mask.now }
 {
-    let mut i = 0;
-    while i < mask.len() {
-        if 1 < mask[i] {
+    for (i, byte) in mask.iter().enumerate() {
+        if 1 < *byte {
             return i;
         }
-        i += 1;
     }
-    i
+    mask.len()
 }
 
 // One more if the byte is 1.
@@ -29,11 +27,8 @@ pub fn mask_ones(mask: &[u8]) -> usize
     ensures { result ≡ mask_ones mask.now }
 {
     let mut count: usize = 0;
-    let mut i: usize = 0;
-    while i < mask.len() {
-        let byte = mask[i];
-        count = count_if_one(count, byte);
-        i += 1;
+    for byte in mask {
+        count = count_if_one(count, *byte);
     }
     count
 }

@@ -1,5 +1,5 @@
-// Reading the flat lists of a sequence.
-ghost use Rattle.std.specs.Prelude.{◌≡◌, get_or};
+// Reading the flat lists of a sequence, and any list.
+ghost use Rattle.std.specs.Prelude.{◌≡◌, ◌-◌, length, get_or};
 ghost use Rattle.column.specs.Lists.{part};
 ghost use Rattle.column.specs.Runs.{end_before, to_nat, length_of_ends};
 
@@ -14,19 +14,21 @@ pub fn to_nat(x: i64) -> usize
 pub fn length(ends: &[i64]) -> i64
     ensures { result ≡ length_of_ends ends.now }
 {
-    let n = ends.len();
-    if n == 0 { 0 } else { ends[n - 1] }
+    ends.last().copied().unwrap_or(0)
 }
 
-// The entry at an index, or another number past the last.
-pub fn entry_or(entries: &[i64], index: usize, otherwise: i64) -> i64
+// How many sequences lie flat: one less than the offsets.
+pub fn count(offsets: &[usize]) -> usize
+    ensures { result ≡ length offsets.now - 1 }
+{
+    offsets.len().saturating_sub(1)
+}
+
+// The entry at an index, or another value past the last.
+pub fn entry_or<T: Copy>(entries: &[T], index: usize, otherwise: T) -> T
     ensures { result ≡ get_or entries.now index otherwise }
 {
-    if index < entries.len() {
-        entries[index]
-    } else {
-        otherwise
-    }
+    entries.get(index).copied().unwrap_or(otherwise)
 }
 
 // The end before an index, 0 before the first.
@@ -41,7 +43,7 @@ pub fn end_before(ends: &[i64], index: usize) -> i64
 }
 
 // The entries from one index up to another, as far as there are any.
-pub fn part(entries: &[i64], from: usize, to: usize) -> &[i64]
+pub fn part<T>(entries: &[T], from: usize, to: usize) -> &[T]
     ensures { result.now ≡ part from to entries.now }
 {
     let n = entries.len();

@@ -51,10 +51,10 @@ to_bits-value f (inf _) s a v = elim v [ ]
 -- ---- what is kept, q, and the k digits that were dropped, are written next to each other
 
 same_digits : (z p k : ℕ) → z ≤ p + k → (0 < k → p - 1 + k < z) → z - p ≡ k
-same_digits z p k h l = elim (eq-zero-or-pos k) [ inl e ↦ none z p k h e | inr g ↦ all z p k h (l g) ]
+same_digits z p k h l = elim (eq-zero-or-pos k) [ inl e ↦ None z p k h e | inr g ↦ all z p k h (l g) ]
   where
-    none : (z p k : ℕ) → z ≤ p + k → k ≡ 0 → z - p ≡ k
-    none z p k h e = omega arith
+    None : (z p k : ℕ) → z ≤ p + k → k ≡ 0 → z - p ≡ k
+    None z p k h e = omega arith
 
     all : (z p k : ℕ) → z ≤ p + k → p - 1 + k < z → z - p ≡ k
     all z p k h g = omega arith

@@ -12,25 +12,24 @@ ghost use Rattle.column.specs.Questions.{long_enough, room_at, room, both, seque
 ghost use Rattle.column.specs.Runs.{to_nat, sequence};
 ghost use Rattle.questions.specs.Workers.{ends_from_quarters};
 
-use column::answer::{Asked, Fill};
-use column::error::{Error, InKey, Refusal};
+use column::error::{Error, Refusal};
 use column::{mask, sequence};
 
 // The first length that does not fit i64.
 const LIMIT: usize = 0x8000_0000_0000_0000;
 
 // A "no" that carries no position.
-fn no(error: Error) -> Asked
+fn no(error: Error) -> Result<(), Refusal>
     ensures { shown_asked result ≡ refusal (number_of error) (shown_by error) }
 {
-    Asked::No(Refusal {
+    Err(Refusal {
         error,
-        in_key: InKey::Outside,
+        in_key: None,
     })
 }
 
 // 1
-pub fn ask_code(low: u8, high: u8, code: u8) -> Asked
+pub fn ask_code(low: u8, high: u8, code: u8) -> Result<(), Refusal>
     ensures { shown_asked result ≡ listed low high code }
 {
     if code < low {
@@ -39,10 +38,10 @@ pub fn ask_code(low: u8, high: u8, code: u8) -> Asked
     if high < code {
         return no(Error::UnknownCode { code });
     }
-    Asked::Yes
+    Ok(())
 }
 
-pub fn ask_mask(mask: &[u8]) -> Asked
+pub fn ask_mask(mask: &[u8]) -> Result<(), Refusal>
     ensures { shown_asked result ≡ mask_listed mask.now }
 {
     let i = mask::first_unlisted(mask);
@@ -50,23 +49,23 @@ pub fn ask_mask(mask: &[u8]) -> Asked
         let code = mask[i];
         no(Error::UnknownCode { code })
     } else {
-        Asked::Yes
+        Ok(())
     }
 }
 
 // 2
-pub fn ask_lengths(what: u8, left: usize, right: usize) -> Asked
+pub fn ask_lengths(what: u8, left: usize, right: usize) -> Result<(), Refusal>
     ensures { shown_asked result ≡ agree what left right }
 {
     if left == right {
-        Asked::Yes
+        Ok(())
     } else {
         no(Error::LengthMismatch { what, left, right })
     }
 }
 
 // What 6 of 2.
-pub fn ask_mask_length(mask: &[u8], ends: &[i64]) -> Asked
+pub fn ask_mask_length(mask: &[u8], ends: &[i64]) -> Result<(), Refusal>
     ensures { shown_asked result ≡ mask_agrees mask.now ends.now }
 {
     if ends.len() == 0 {
@@ -76,12 +75,12 @@ pub fn ask_mask_length(mask: &[u8], ends: &[i64]) -> Asked
     }
 }
 
-pub fn ask_used(used: usize, ends: usize, values: usize) -> Asked
+pub fn ask_used(used: usize, ends: usize, values: usize) -> Result<(), Refusal>
     ensures { shown_asked result ≡ used_within used ends values }
 {
     let shorter = num::smaller_count(ends, values);
     if used <= shorter {
-        Asked::Yes
+        Ok(())
     } else {
         no(Error::LengthMismatch {
             what: 5,
@@ -102,14 +101,11 @@ fn start_and_rise(offsets: &[usize]) -> bool
         return false;
     }
     let mut before = 0;
-    let mut i = 0;
-    while i < offsets.len() {
-        let offset = offsets[i];
-        if offset < before {
+    for offset in offsets {
+        if *offset < before {
             return false;
         }
-        before = offset;
-        i += 1;
+        before = *offset;
     }
     true
 }
@@ -118,48 +114,45 @@ fn start_and_rise(offsets: &[usize]) -> bool
 pub fn last_offset(offsets: &[usize]) -> usize
     ensures { result ≡ last_offset 0 offsets.now }
 {
-    let n = offsets.len();
-    if n == 0 { 0 } else { offsets[n - 1] }
+    offsets.last().copied().unwrap_or(0)
 }
 
-pub fn ask_offsets_rise(offsets: &[usize]) -> Asked
+pub fn ask_offsets_rise(offsets: &[usize]) -> Result<(), Refusal>
     ensures { shown_asked result ≡ offsets_rise offsets.now }
 {
     if start_and_rise(offsets) {
-        Asked::Yes
+        Ok(())
     } else {
         no(Error::InvalidOffsets)
     }
 }
 
-pub fn ask_offsets(offsets: &[usize], ends: usize) -> Asked
+pub fn ask_offsets(offsets: &[usize], ends: usize) -> Result<(), Refusal>
     ensures { shown_asked result ≡ offsets_valid offsets.now ends }
 {
     if !start_and_rise(offsets) {
         return no(Error::InvalidOffsets);
     }
     if last_offset(offsets) == ends {
-        Asked::Yes
+        Ok(())
     } else {
         no(Error::InvalidOffsets)
     }
 }
 
 // 4, end by end from an index on; `first` is the end before it.
-fn ask_ends_from(ends: &[i64], from: usize, first: i64) -> Asked
+fn ask_ends_from(ends: &[i64], from: usize, first: i64) -> Result<(), Refusal>
     ensures { shown_asked result ≡ ends_from from first (drop from ends.now) }
 {
     let mut before = first;
-    let mut i = from;
-    while i < ends.len() {
+    for i in from..ends.len() {
         let end = ends[i];
         if end <= before {
             return no(Error::InvalidEnds { index: i });
         }
         before = end;
-        i += 1;
     }
-    Asked::Yes
+    Ok(())
 }
 
 // Whether each end in four quarters is above the one before. The quarters are read side by side: far memory brings four of them in little
@@ -172,8 +165,7 @@ fn quarters_rise(ends: &[i64]) -> bool
     let mut second = sequence::end_before(ends, quarter);
     let mut third = sequence::end_before(ends, quarter * 2);
     let mut fourth = sequence::end_before(ends, quarter * 3);
-    let mut i: usize = 0;
-    while i < quarter {
+    for i in 0..quarter {
         let a = ends[i];
         let b = ends[quarter + i];
         let c = ends[quarter * 2 + i];
@@ -194,13 +186,12 @@ fn quarters_rise(ends: &[i64]) -> bool
         second = b;
         third = c;
         fourth = d;
-        i += 1;
     }
     true
 }
 
 // 4
-pub fn ask_ends(ends: &[i64]) -> Asked
+pub fn ask_ends(ends: &[i64]) -> Result<(), Refusal>
     ensures { shown_asked result ≡ ends_valid ends.now }
 {
     if quarters_rise(ends) {
@@ -212,158 +203,130 @@ pub fn ask_ends(ends: &[i64]) -> Asked
 }
 
 // What 3 of 2, and 4, of one sequence.
-pub fn ask_sequence(ends: &[i64], values: &[i64]) -> Asked
+pub fn ask_sequence(ends: &[i64], values: &[i64]) -> Result<(), Refusal>
     ensures { shown_asked result ≡ first_no (paired (sequence ends.now values.now) ∷ ends_valid ends.now ∷ []) }
 {
-    ask_lengths(3, ends.len(), values.len()).and(ask_ends(ends))
+    ask_lengths(3, ends.len(), values.len())?;
+    ask_ends(ends)
 }
 
 // The same answer, for the key or sequence at a position.
-pub fn in_key(asked: Asked, position: usize) -> Asked
+pub fn in_key(asked: Result<(), Refusal>, position: usize) -> Result<(), Refusal>
     ensures { shown_asked result ≡ refused_in_key position (shown_asked asked) }
 {
     match asked {
-        Asked::Yes => Asked::Yes,
-        Asked::No(r) => {
-            let error = r.error;
-            Asked::No(Refusal {
-                error,
-                in_key: InKey::Position(position),
-            })
-        }
+        Ok(()) => Ok(()),
+        Err(refusal) => Err(Refusal {
+            error: refusal.error,
+            in_key: Some(position),
+        }),
     }
 }
 
 // 4, of sequences laid flat.
-pub fn ask_sequences(offsets: &[usize], ends: &[i64]) -> Asked
+pub fn ask_sequences(offsets: &[usize], ends: &[i64]) -> Result<(), Refusal>
     ensures { shown_asked result ≡ sequences_valid offsets.now ends.now }
 {
-    let mut k = 0;
-    while k + 1 < offsets.len() {
-        let from = offsets[k];
-        let to = offsets[k + 1];
-        let asked = in_key(ask_ends(sequence::part(ends, from, to)), k);
-        match asked {
-            Asked::Yes => {}
-            Asked::No(r) => return Asked::No(r),
-        }
-        k += 1;
+    for k in 0..sequence::count(offsets) {
+        let own = sequence::part(ends, offsets[k], offsets[k + 1]);
+        in_key(ask_ends(own), k)?;
     }
-    Asked::Yes
+    Ok(())
 }
 
 // What 3 of 2, 3 and 4, of sequences laid flat.
-pub fn ask_flat(offsets: &[usize], ends: &[i64], values: &[i64]) -> Asked
+pub fn ask_flat(offsets: &[usize], ends: &[i64], values: &[i64]) -> Result<(), Refusal>
     ensures { shown_asked result ≡ first_no (flat_asked (flat offsets.now ends.now values.now)) }
 {
-    ask_lengths(3, ends.len(), values.len())
-        .and(ask_offsets(offsets, ends.len()))
-        .and(ask_sequences(offsets, ends))
+    ask_lengths(3, ends.len(), values.len())?;
+    ask_offsets(offsets, ends.len())?;
+    ask_sequences(offsets, ends)
 }
 
 // 5
-pub fn ask_columns(limit: usize, columns: usize) -> Asked
+pub fn ask_columns(limit: usize, columns: usize) -> Result<(), Refusal>
     ensures { shown_asked result ≡ at_most limit columns }
 {
     if columns <= limit {
-        Asked::Yes
+        Ok(())
     } else {
         no(Error::TooMany { number: columns })
     }
 }
 
 // 6
-pub fn ask_run(index: usize, run: i64) -> Asked
+pub fn ask_run(index: usize, run: i64) -> Result<(), Refusal>
     ensures { shown_asked result ≡ not_negative index run }
 {
     if run < 0 {
         no(Error::NegativeRun { index, run })
     } else {
-        Asked::Yes
+        Ok(())
     }
 }
 
 // 7, of a length and a run after it; a negative number counts as 0.
-pub fn ask_sum(length: i64, run: i64) -> Asked
+pub fn ask_sum(length: i64, run: i64) -> Result<(), Refusal>
     ensures { shown_asked result ≡ fits (to_nat length + to_nat run) }
 {
     ask_fits(sequence::to_nat(length) + sequence::to_nat(run))
 }
 
 // 7, of a new length.
-pub fn ask_fits(length: usize) -> Asked
+pub fn ask_fits(length: usize) -> Result<(), Refusal>
     ensures { shown_asked result ≡ fits length }
 {
     if length < LIMIT {
-        Asked::Yes
+        Ok(())
     } else {
         no(Error::Overflow)
     }
 }
 
 // 6 and 7, run by run.
-pub fn ask_runs(runs: &[i64]) -> Asked
+pub fn ask_runs(runs: &[i64]) -> Result<(), Refusal>
     ensures { shown_asked result ≡ run_by_run 0 0 runs.now }
 {
     let mut total: usize = 0;
-    let mut i = 0;
-    while i < runs.len() {
-        let run = runs[i];
-        if run < 0 {
-            return no(Error::NegativeRun { index: i, run });
-        }
-        let next = total + (run as usize);
-        if LIMIT <= next {
-            return no(Error::Overflow);
-        }
-        total = next;
-        i += 1;
+    for index in 0..runs.len() {
+        let run = runs[index];
+        ask_run(index, run)?;
+        total += run as usize;
+        ask_fits(total)?;
     }
-    Asked::Yes
+    Ok(())
 }
 
 // 9
-pub fn ask_intervals(starts: &[i64], ends: &[i64]) -> Asked
+pub fn ask_intervals(starts: &[i64], ends: &[i64]) -> Result<(), Refusal>
     ensures { shown_asked result ≡ intervals starts.now ends.now }
 {
-    let mut i = 0;
-    while i < starts.len() {
-        let start = starts[i];
-        let end = sequence::entry_or(ends, i, 0);
+    for index in 0..starts.len() {
+        let start = starts[index];
+        let end = sequence::entry_or(ends, index, 0);
         if start < 0 {
-            return no(Error::InvalidInterval {
-                index: i,
-                start,
-                end,
-            });
+            return no(Error::InvalidInterval { index, start, end });
         }
         if end < start {
-            return no(Error::InvalidInterval {
-                index: i,
-                start,
-                end,
-            });
+            return no(Error::InvalidInterval { index, start, end });
         }
-        i += 1;
     }
-    Asked::Yes
+    Ok(())
 }
 
 // 10
-fn lacks(length: i64, longest: i64, fill: Fill) -> bool
+fn lacks(length: i64, longest: i64, fill: Option<i64>) -> bool
     ensures { result ≡ lt_z length longest && is_missing fill }
 {
-    if length < longest {
-        match fill {
-            Fill::Value(_) => false,
-            Fill::Missing => true,
-        }
-    } else {
-        false
-    }
+    length < longest && fill.is_none()
 }
 
-pub fn ask_fills(left: i64, right: i64, fill_left: Fill, fill_right: Fill) -> Asked
+pub fn ask_fills(
+    left: i64,
+    right: i64,
+    fill_left: Option<i64>,
+    fill_right: Option<i64>,
+) -> Result<(), Refusal>
     ensures { shown_asked result ≡ filled left right (side left fill_left ∷ side right fill_right ∷ []) }
 {
     let longest = num::larger(left, num::larger(right, 0));
@@ -373,11 +336,11 @@ pub fn ask_fills(left: i64, right: i64, fill_left: Fill, fill_right: Fill) -> As
     if lacks(right, longest, fill_right) {
         return no(Error::UnequalLength { left, right });
     }
-    Asked::Yes
+    Ok(())
 }
 
 // 11
-pub fn ask_length(requested: i64, required: i64) -> Asked
+pub fn ask_length(requested: i64, required: i64) -> Result<(), Refusal>
     ensures { shown_asked result ≡ long_enough requested required }
 {
     if requested < required {
@@ -386,16 +349,16 @@ pub fn ask_length(requested: i64, required: i64) -> Asked
             required,
         })
     } else {
-        Asked::Yes
+        Ok(())
     }
 }
 
 // 12
-pub fn ask_room(which: usize, needed: usize, given: usize) -> Asked
+pub fn ask_room(which: usize, needed: usize, given: usize) -> Result<(), Refusal>
     ensures { shown_asked result ≡ room_at which needed given }
 {
     if needed <= given {
-        Asked::Yes
+        Ok(())
     } else {
         no(Error::ShortBuffer {
             which,
@@ -412,19 +375,20 @@ pub fn ask_flat_room(
     out_offsets: usize,
     out_ends: usize,
     out_values: usize,
-) -> Asked
+) -> Result<(), Refusal>
     ensures { shown_asked result ≡ room (offsets ∷ both runs) (out_offsets ∷ out_ends ∷ out_values ∷ []) }
 {
-    ask_room(0, offsets, out_offsets)
-        .and(ask_room(1, runs, out_ends))
-        .and(ask_room(2, runs, out_values))
+    ask_room(0, offsets, out_offsets)?;
+    ask_room(1, runs, out_ends)?;
+    ask_room(2, runs, out_values)
 }
 
 // 12, of a buffer for ends and one for values.
-pub fn ask_both(needed: usize, ends: usize, values: usize) -> Asked
+pub fn ask_both(needed: usize, ends: usize, values: usize) -> Result<(), Refusal>
     ensures { shown_asked result ≡ room (both needed) (ends ∷ values ∷ []) }
 {
-    ask_room(0, needed, ends).and(ask_room(1, needed, values))
+    ask_room(0, needed, ends)?;
+    ask_room(1, needed, values)
 }
 
 // What 3 of 2, 4 and 12, of a call that makes a sequence out of one.
@@ -434,8 +398,9 @@ pub fn ask_sequence_into(
     needed: usize,
     out_ends: usize,
     out_values: usize,
-) -> Asked
+) -> Result<(), Refusal>
     ensures { shown_asked result ≡ sequence_asked (sequence ends.now values.now) needed (out_ends ∷ out_values ∷ []) }
 {
-    ask_sequence(ends, values).and(ask_both(needed, out_ends, out_values))
+    ask_sequence(ends, values)?;
+    ask_both(needed, out_ends, out_values)
 }

@@ -1,16 +1,14 @@
-use mathlib.Core.Path.{◌≡◌, sym, ap, ◌∙◌, subst}
+use mathlib.Core.Path.{◌≡◌, sym, ap, ◌∙◌}
 use Prim.Native.Nat.{ℕ, suc, ◌+◌, ◌-◌, ◌*◌, ◌^◌, ◌<◌}
 use native.Mathlib.Nat.{add_comm, le_of_eq}
 use native.Mathlib.Omega.{arith}
-use lib.Count.{count_leading_zeros, leading_le, leading_top}
+use lib.Count.{count_leading_zeros, leading_top}
 use lib.Pow.{shl_exact}
 use lib.IntN.{pos}
 use lib.Ieee.{binary64, to_bits, of_int}
 use lib.Ieee.Nearest.{closest}
-use mir.Syntax.{w64}
-use mir.Val.{Fits}
 use Rattle.float.specs.Float.{converted}
-use Rattle.float.proofs.Patterns.{size-bits, bits_fit}
+use Rattle.float.proofs.Patterns.{size-bits}
 use Rattle.float.proofs.magnitude_bits.Goals as goal
 
 not-zero : (n : ℕ) → (n ≡ 0 → ⊥) → 0 < n
@@ -34,21 +32,6 @@ written c =
 pub returns-then-n-eq0 : goal.returns-then-n-eq0
 unfolding converted to_bits of_int
 returns-then-n-eq0 c = ap (λ (n : ℕ). to_bits binary64 (converted (pos n))) (sym c.if-n-eq0.true)
-
-pub overflow_cast-zeros : goal.overflow_cast-zeros
-overflow_cast-zeros c = omega (arith, leading_le 64 c.args.n)
-
-pub overflow_shl-n : goal.overflow_shl-n
-overflow_shl-n c = zeros-lt c.args.n c.if-n-eq0.false c.ranges.n.fits
-
-pub overflow_cast-exponent : goal.overflow_cast-exponent
-overflow_cast-exponent c = omega (arith, leading_le 64 c.args.n)
-
-pub overflow_sub-exponent : goal.overflow_sub-exponent
-overflow_sub-exponent c = omega (arith, leading_le 64 c.args.n)
-
-pub overflow_add-result : goal.overflow_add-result
-overflow_add-result c = subst (Fits w64) (sym (written c)) (bits_fit (pos c.args.n))
 
 pub returns : goal.returns
 returns c = written c

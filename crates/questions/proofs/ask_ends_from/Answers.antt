@@ -1,13 +1,10 @@
-use mathlib.Core.Path.{refl, sym, ◌∙◌}
+use mathlib.Core.Path.{sym, ◌∙◌}
 use lib.ListN.{get_or}
 use lib.IntN.{pos}
 use mir.Facts.{to_z-of_z}
 use Rattle.num.proofs.Bits.{back}
 use Rattle.column.proofs.YesNo.{ends_next, ends-refused, ends-end}
 use Rattle.questions.proofs.ask_ends_from.Goals as goal
-
-pub loop-i-init : goal.loop-i-init
-loop-i-init c = refl
 
 pub returns-then-end-before : goal.returns-then-end-before
 returns-then-end-before c =

@@ -1,9 +1,16 @@
+use mathlib.Core.Path.{◌∙◌, sym}
 use Rattle.column.specs.Questions.{paired}
-use Rattle.column.proofs.FirstNo.{asks-first, asks_then}
+use Rattle.column.proofs.FirstNo.{ends_at, goes_on, alone}
 use Rattle.questions.proofs.ask_flat.Goals as goal
+
+pub returns-in_err-ask_lengths : goal.returns-in_err-ask_lengths
+unfolding paired
+returns-in_err-ask_lengths c = ends_at _ _ _ c.from_residual.ensures.1 c.in_err-ask_lengths.ensures
+
+pub returns-in_err-ask_offsets : goal.returns-in_err-ask_offsets
+unfolding paired
+returns-in_err-ask_offsets c = goes_on _ c.in_ok-ask_lengths.ensures (ends_at _ _ _ c.from_residual-in_err-ask_offsets.ensures.1 c.in_err-ask_offsets.ensures)
 
 pub returns : goal.returns
 unfolding paired
-returns c =
-    let asked = asks_then (asks-first c.ask_lengths.ensures) c.and.ensures (λ y. c.ask_offsets.ensures) in
-    (asks_then asked c.and-2.ensures (λ y. c.ask_sequences.ensures)).told
+returns c = goes_on _ c.in_ok-ask_lengths.ensures (goes_on _ c.in_ok-ask_offsets.ensures (c.ask_sequences.ensures ∙ sym (alone _)))

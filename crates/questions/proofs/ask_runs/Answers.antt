@@ -1,54 +1,44 @@
+use mathlib.Core.Path.{sym, ap, ◌∙◌}
+use lib.IntN.{pos}
+use lib.ListN.{get_or}
 use mir.Syntax.{w64}
 use mir.Val.{SFits}
-use Rattle.column.proofs.Naturals.{to_nat_cast, to_nat_abs, to_nat-below}
-use native.Mathlib.Omega.{arith}
-use mathlib.Core.Path.{refl, sym, ◌∙◌}
-use lib.ListN.{get_or}
-use lib.IntN.{pos}
 use Rattle.num.proofs.Bits.{back}
-use Rattle.column.proofs.YesNo.{runs_negative, runs-overflow, runs-next, runs-end}
-use borrow.Author.Rules.{rules}
+use Rattle.column.specs.Asking.{shown_asked}
+use Rattle.column.proofs.Naturals.{to_nat_cast, to_nat_abs}
+use Rattle.column.proofs.Promised.{passed_on}
+use Rattle.column.proofs.Told.{negative_told, fits_told}
+use Rattle.column.proofs.YesNo.{runs-negative, runs-overflow, runs-next, runs-end}
 use Rattle.questions.proofs.ask_runs.Goals as goal
 
-pub loop-i-init : goal.loop-i-init
-loop-i-init c = (search rules, search rules, refl)
+pub returns-in_err-ask_run : goal.returns-in_err-ask_run
+returns-in_err-ask_run c =
+    let z = get_or c.args.runs.now c.loop-index.index (pos 0) in
+    ap shown_asked (passed_on _ _ c.from_residual.ensures.1)
+    ∙ sym (c.loop-index.invariant.1 ∙ runs-negative _ _ _ c.loop-index-test.true (rw (back z c.run-1.given) at c.in_err-ask_run.ensures))
 
-pub returns-then-run-lt0 : goal.returns-then-run-lt0
-returns-then-run-lt0 c =
-    let e = back (get_or c.args.runs.now c.loop-i.i (pos 0)) c.run-1.given in
-    rw e at c.no.ensures ∙ sym (c.loop-i.invariant.2 ∙ runs_negative _ _ _ c.loop-i-test.true (rw e at c.if-run-lt0.true))
+pub overflow_cast-total : goal.overflow_cast-total
+overflow_cast-total c =
+    let z = get_or c.args.runs.now c.loop-index.index (pos 0) in
+    to_nat_cast z (record { sfits = c.run-1.given }) (negative_told _ z (sym (rw (back z c.run-1.given) at c.in_ok-ask_run.ensures)))
 
-pub overflow_cast-next : goal.overflow_cast-next
-overflow_cast-next c =
-    let z = get_or c.args.runs.now c.loop-i.i (pos 0) in
-    to_nat_cast z (record { sfits = c.run-1.given }) (rw (back z c.run-1.given) at c.if-run-lt0.false)
-
-pub overflow_add-next : goal.overflow_add-next
-overflow_add-next c =
-    let z = get_or c.args.runs.now c.loop-i.i (pos 0) in
+pub returns-in_err-ask_fits : goal.returns-in_err-ask_fits
+returns-in_err-ask_fits c =
+    let z = get_or c.args.runs.now c.loop-index.index (pos 0) in
     let f : SFits w64 z = record { sfits = c.run-1.given } in
-    rw (to_nat_abs z f (rw (back z f.sfits) at c.if-run-lt0.false)) (record { fits = omega (arith, to_nat-below z f, c.loop-i.invariant.1) })
+    let natural = rw (back z f.sfits) at c.in_ok-ask_run.ensures in
+    ap shown_asked (passed_on _ _ c.from_residual-in_err-ask_fits.ensures.1)
+    ∙ sym (c.loop-index.invariant.1 ∙ runs-overflow _ _ _ c.loop-index-test.true natural
+    (rw (to_nat_abs z f (negative_told _ z (sym natural))) at c.in_err-ask_fits.ensures))
 
-pub returns-then-next-ge-LIMIT : goal.returns-then-next-ge-LIMIT
-returns-then-next-ge-LIMIT c =
-    let z = get_or c.args.runs.now c.loop-i.i (pos 0) in
+pub loop-index-preserved : goal.loop-index-preserved
+loop-index-preserved c =
+    let z = get_or c.args.runs.now c.loop-index.index (pos 0) in
     let f : SFits w64 z = record { sfits = c.run-1.given } in
-    let t = rw (back z f.sfits) at c.if-run-lt0.false in
-    c.no-then-next-ge-LIMIT.ensures
-    ∙ sym (c.loop-i.invariant.2 ∙ runs-overflow _ _ _ c.loop-i-test.true t (rw (to_nat_abs z f t) at c.if-next-ge-LIMIT.true))
-
-pub loop-i-preserved : goal.loop-i-preserved
-loop-i-preserved c =
-    let z = get_or c.args.runs.now c.loop-i.i (pos 0) in
-    let f : SFits w64 z = record { sfits = c.run-1.given } in
-    let t = rw (back z f.sfits) at c.if-run-lt0.false in
-    let k = rw (to_nat_abs z f t) at c.if-next-ge-LIMIT.false in
-    rw (to_nat_abs z f t) (
-      omega (arith, c.loop-i-test.true),
-      k,
-      c.loop-i.invariant.2
-          ∙ runs-next _ _ _ c.loop-i-test.true t k,
-    )
+    let natural = rw (back z f.sfits) at c.in_ok-ask_run.ensures in
+    let cast = to_nat_abs z f (negative_told _ z (sym natural)) in
+    let fitting = rw cast at c.in_ok-ask_fits.ensures in
+    rw cast (fits_told _ (sym fitting), c.loop-index.invariant.1 ∙ runs-next _ _ _ c.loop-index-test.true natural fitting)
 
 pub returns : goal.returns
-returns c = sym (c.loop-i.invariant.2 ∙ runs-end _ _ _ c.loop-i-test.false)
+returns c = sym (c.loop-index.invariant.1 ∙ runs-end _ _ _ c.loop-index-test.false)

@@ -1,7 +1,12 @@
 use Rattle.column.specs.Questions.{paired}
-use Rattle.column.proofs.FirstNo.{asked-last}
+use Rattle.column.proofs.FirstNo.{ends_at, goes_on, alone}
+use mathlib.Core.Path.{◌∙◌, sym}
 use Rattle.questions.proofs.ask_sequence.Goals as goal
+
+pub returns-in_err-ask_lengths : goal.returns-in_err-ask_lengths
+unfolding paired
+returns-in_err-ask_lengths c = ends_at _ _ _ c.from_residual.ensures.1 c.in_err-ask_lengths.ensures
 
 pub returns : goal.returns
 unfolding paired
-returns c = asked-last _ c.and.ensures c.ask_lengths.ensures (λ e. c.ask_ends.ensures)
+returns c = goes_on _ c.in_ok-ask_lengths.ensures (c.ask_ends.ensures ∙ sym (alone _))

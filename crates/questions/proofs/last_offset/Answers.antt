@@ -1,9 +1,7 @@
-use mathlib.Core.Path.{sym}
-use Rattle.column.proofs.Lists.{last_none, last_is}
+use mathlib.Core.Path.{ap, ◌∙◌}
+use Rattle.std.specs.Prelude.{unwrap_or}
+use Rattle.column.proofs.Lists.{offset_read}
 use Rattle.questions.proofs.last_offset.Goals as goal
 
-pub returns-then-n-eq0 : goal.returns-then-n-eq0
-returns-then-n-eq0 c = sym (last_none c.args.offsets.now c.if-n-eq0.true)
-
-pub returns-else-n-eq0 : goal.returns-else-n-eq0
-returns-else-n-eq0 c = sym (last_is c.args.offsets.now c.if-n-eq0.false)
+pub returns : goal.returns
+returns c = c.unwrap_or.ensures ∙ ap (λ o. unwrap_or o 0) c.copied.ensures ∙ offset_read c.args.offsets.now c.last.ensures.value

@@ -1,9 +1,5 @@
-use Prim.Native.Nat.{◌-◌}
 use Rattle.questions.proofs.Quarters.{Quarters}
 use Rattle.questions.proofs.quarters_rise.Given as goal
 
 abbrev pub invariant-loop-i : goal.invariant-loop-i
 invariant-loop-i l = Quarters l.ends l.quarter l.i l.first l.second l.third l.fourth
-
-abbrev pub decreases-loop-i : goal.decreases-loop-i
-decreases-loop-i l = l.quarter - l.i

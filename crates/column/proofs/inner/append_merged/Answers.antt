@@ -1,6 +1,5 @@
 use mir.Facts.{to_z_pos}
 use mir.Syntax.{w64}
-use mathlib.Core.Path.{sym, ◌∙◌}
 use native.Mathlib.Omega.{arith}
 use Rattle.num.proofs.Bits.{back, end_nat, end_cast}
 use Rattle.column.proofs.Appending.{append_at, append-start, append-room, append-next, append-end}
@@ -19,11 +18,6 @@ overflow_sub-to c =
     let a = append_at _ _ _ _ _ _ _ c.requires.movable c.loop-r.invariant c.loop-r-test.true in
     omega (arith, a.1, end_nat a.0 c.end-1.given)
 
-pub overflow_add-to : goal.overflow_add-to
-overflow_add-to c =
-    let a = append_at _ _ _ _ _ _ _ c.requires.movable c.loop-r.invariant c.loop-r-test.true in
-    omega (arith, a.2, end_nat a.0 c.end-1.given)
-
 pub overflow_cast-to-in-loop-r : goal.overflow_cast-to-in-loop-r
 overflow_cast-to-in-loop-r c =
     let a = append_at _ _ _ _ _ _ _ c.requires.movable c.loop-r.invariant c.loop-r-test.true in
@@ -40,12 +34,6 @@ loop-r-preserved c =
     let a = append_at _ _ _ _ _ _ _ c.requires.movable c.loop-r.invariant c.loop-r-test.true in
     append-next _ _ _ _ _ _ _ c.requires.movable c.loop-r.invariant c.loop-r-test.true (back _ c.value-1.given)
     c.push_merged-next.ensures (let n = end_nat a.0 c.end-1.given in rw n (to_z_pos w64 a.2))
-
-pub shape_of-out_ends : goal.shape_of-out_ends
-shape_of-out_ends c = (c.loop-r.invariant.pushed _ _ _ _ c.requires.behind).long_ends ∙ sym c.requires.behind.merging.long_ends
-
-pub shape_of-out_values : goal.shape_of-out_values
-shape_of-out_values c = (c.loop-r.invariant.pushed _ _ _ _ c.requires.behind).long_values ∙ sym c.requires.behind.merging.long_values
 
 pub returns : goal.returns
 returns c = append-end _ _ _ _ _ _ _ c.requires.movable c.loop-r.invariant c.loop-r-test.false

@@ -1,10 +1,12 @@
-use mathlib.Core.Path.{sym, ◌∙◌}
+use mathlib.Core.Path.{ap, ◌∙◌}
+use lib.IntN.{pos}
+use Rattle.std.specs.Prelude.{unwrap_or}
 use Rattle.num.proofs.Bits.{back}
-use Rattle.column.proofs.Sequences.{length_none, length_last}
+use Rattle.column.proofs.Sequences.{last_read}
 use Rattle.column.proofs.sequence.length.Goals as goal
 
-pub returns-then-n-eq0 : goal.returns-then-n-eq0
-returns-then-n-eq0 c = sym (length_none c.args.ends.now c.if-n-eq0.true)
-
-pub returns-else-n-eq0 : goal.returns-else-n-eq0
-returns-else-n-eq0 c = back _ c.result-1.given ∙ sym (length_last c.args.ends.now c.if-n-eq0.false)
+pub returns : goal.returns
+returns c =
+    back _ c.unwrap_or.type_inv ∙ c.unwrap_or.ensures
+    ∙ ap (λ o. unwrap_or o (pos 0)) c.copied.ensures
+    ∙ last_read c.args.ends.now c.last.ensures.value
