@@ -1,14 +1,16 @@
 -- What the questions of a batch tell.
 -- Assumes nothing.
 use Prim.Native.Nat.{ℕ, ◌+◌, ◌≤◌, ◌<◌, ◌^◌}
-use mathlib.Core.Option.{none}
+use Rattle.std.specs.Prelude.{Some, None, Result, Ok, Err, ⊤}
 use mathlib.Core.List.{List, [], ◌∷◌}
-use mathlib.Core.Path.{◌≡◌, sym, ◌∙◌}
+use mathlib.Core.Path.{◌≡◌, refl, sym, ◌∙◌}
 use native.Mathlib.Omega.{arith}
 use lib.IntN.{ℤ}
 use lib.ListN.{length}
 use Rattle.num.specs.Numbers.{saturated}
-use Rattle.column.specs.Asking.{first_no}
+use Rattle.column.specs.declared.error.Refusal.{Refusal}
+use Rattle.column.specs.Asking.{Question, shown_asked, first_no, ◌otherwise◌}
+use Rattle.column.specs.Paper.{PaperRefusal, outcome_of}
 use Rattle.column.specs.Questions.{paired, room_at, room}
 use Rattle.column.proofs.FirstNo.{all_yes}
 use Rattle.column.proofs.Told.{agree-told, room-told}
@@ -16,22 +18,31 @@ use Rattle.column.proofs.YesNo.{room-each, room-saturated}
 use Rattle.batch.specs.Batch.{Batch, batch, keyed, lengths_asked, content_asked, batch_valid, batch_needs, both_lengths, both_content, both_valid}
 use Rattle.batch.specs.Workers.{ValidBatch}
 
+-- what a call that only checks answers
+pub checked : (r : Result ⊤ Refusal) {q : Question} → shown_asked r ≡ q → outcome_of r ≡ q otherwise tt
+checked (Ok x) h = rw (sym h) refl
+checked (Err e) h = rw (sym h) refl
+
+-- a "no" to the first of several questions
+pub first-refused : {r : PaperRefusal} {q : Question} (qs : List Question) → Some r ≡ q → Some r ≡ first_no (q ∷ qs)
+first-refused qs h = rw (sym h) refl
+
 -- what 2 and what 3
-lengths-told : (ks os : List ℕ) (es vs : List ℤ) → first_no (lengths_asked (batch ks os es vs)) ≡ none → (length os ≡ length ks + 1) × (length es ≡ length vs)
+lengths-told : (ks os : List ℕ) (es vs : List ℤ) → first_no (lengths_asked (batch ks os es vs)) ≡ None → (length os ≡ length ks + 1) × (length es ≡ length vs)
 unfolding keyed paired
 lengths-told ks os es vs h =
     let y = all_yes (lengths_asked (batch ks os es vs)) h in
     (agree-told 2 (length os) (length ks + 1) y.0, agree-told 3 (length es) (length vs) y.1.0)
 
 -- 2, 3 and 4
-pub batch-told : (ks os : List ℕ) (es vs : List ℤ) → first_no (lengths_asked (batch ks os es vs)) ≡ none → first_no (content_asked (batch ks os es vs)) ≡ none
+pub batch-told : (ks os : List ℕ) (es vs : List ℤ) → first_no (lengths_asked (batch ks os es vs)) ≡ None → first_no (content_asked (batch ks os es vs)) ≡ None
     → ValidBatch (batch ks os es vs)
 batch-told ks os es vs h k =
     let l = lengths-told ks os es vs h in
     let y = all_yes (content_asked (batch ks os es vs)) k in
     record { keyed = l.0; paired = l.1; offsets = y.0; valid = y.1.0 }
 
-pub valid-told : (ks os : List ℕ) (es vs : List ℤ) → batch_valid (batch ks os es vs) ≡ none → ValidBatch (batch ks os es vs)
+pub valid-told : (ks os : List ℕ) (es vs : List ℤ) → batch_valid (batch ks os es vs) ≡ None → ValidBatch (batch ks os es vs)
 unfolding batch_valid
 valid-told ks os es vs h =
     let y = all_yes (first_no (lengths_asked (batch ks os es vs)) ∷ first_no (content_asked (batch ks os es vs)) ∷ []) h in
@@ -46,7 +57,7 @@ module _ (ka oa : List ℕ) (ea va : List ℤ) (kb ob : List ℕ) (eb vb : List 
   abbrev second : Batch
   second = batch kb ob eb vb
 
-  pub both_told : both_valid first second ≡ none → ValidBatch first × ValidBatch second
+  pub both_told : both_valid first second ≡ None → ValidBatch first × ValidBatch second
   unfolding both_valid keyed paired
   both_told h =
       let y = all_yes (first_no (both_lengths first second) ∷ first_no (both_content first second) ∷ []) h in
@@ -76,7 +87,7 @@ module _ (keys runs k x e v : ℕ) where
     pub for_ends : runs ≤ e
     pub for_values : runs ≤ v
 
-  pub batch-room : room (batch_needs keys runs) (k ∷ x ∷ e ∷ v ∷ []) ≡ none → Room
+  pub batch-room : room (batch_needs keys runs) (k ∷ x ∷ e ∷ v ∷ []) ≡ None → Room
   batch-room h =
       let y = all_yes (room_at 0 keys k ∷ room_at 1 (keys + 1) x ∷ room_at 2 runs e ∷ room_at 3 runs v ∷ [])
       (sym (room-each (batch_needs keys runs) (k ∷ x ∷ e ∷ v ∷ [])) ∙ h) in

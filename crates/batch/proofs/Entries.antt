@@ -2,7 +2,7 @@
 -- Assumes nothing.
 use Prim.Native.Nat.{ℕ, zero, suc, ◌+◌, ◌-◌, ◌≤◌, ◌<◌}
 use mathlib.Core.Bool.{Bool, true, false, cond, ◌||◌}
-use mathlib.Core.Option.{none}
+use Rattle.std.specs.Prelude.{None}
 use mathlib.Core.List.{List, [], ◌∷◌, map}
 use mathlib.Core.Path.{◌≡◌, refl, ap, sym, ◌∙◌}
 use native.Mathlib.Numerals.{add-one}
@@ -85,7 +85,7 @@ unfolding columns sequences_of runs_of
 at_columns [] es vs k = refl
 at_columns (a ∷ os) es vs k = at_columns_from a os es vs k
 
-valid_at : (ess : List (List ℤ)) (k : ℕ) → AllValid ess → ends_valid (get_or ess k []) ≡ none
+valid_at : (ess : List (List ℤ)) (k : ℕ) → AllValid ess → ends_valid (get_or ess k []) ≡ None
 unfolding ends_valid ends_from
 valid_at [] k v = refl
 valid_at (es ∷ ess) zero v = v.0
@@ -154,7 +154,7 @@ module _ (ks os : List ℕ) (es vs : List ℤ) (v : ValidBatch (batch ks os es v
     pub column_is : column_at (batch ks os es vs) k ≡ runs_of (get_or (parts os es) k []) (get_or (parts os vs) k [])
     column_is = at_columns os es vs k
 
-    pub part-valid : ends_valid (get_or (parts os es) k []) ≡ none
+    pub part-valid : ends_valid (get_or (parts os es) k []) ≡ None
     part-valid = valid_at (parts os es) k parts-valid
 
     pub column-valid : Valid (column_at (batch ks os es vs) k)

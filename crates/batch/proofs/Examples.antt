@@ -1,6 +1,6 @@
 -- Worked examples of from_parts and get, computed from their definitions.
 -- Assumes nothing.
-use mathlib.Core.Option.{Option, none, some}
+use Rattle.std.specs.Prelude.{Option, Some, None}
 use mathlib.Core.List.{List, [], ◌∷◌}
 use mathlib.Core.Path.{refl}
 use lib.IntN.{pos}
@@ -23,16 +23,16 @@ abbrev as_got : Outcome (Option Runs) → Outcome Lines
 as_got o = counts lines o
   where
     lines : Option Runs → Lines
-    lines none = []
-    lines (some rs) = ends_of rs ∷ values_of rs ∷ []
+    lines None = []
+    lines (Some rs) = ends_of rs ∷ values_of rs ∷ []
 
 -- a double key (8 with the position of the second); a key that is there, a short buffer, an absent key, and a key of no runs
 abbrev rows : List Row
 rows =
     row (as_checked (from_parts a)) (answers [])
-    ∷ row (as_checked (from_parts (batch (5 ∷ 2 ∷ 5 ∷ []) (0 ∷ 0 ∷ 0 ∷ 0 ∷ []) [] []))) (refused 8 (pos 2 ∷ []) none)
+    ∷ row (as_checked (from_parts (batch (5 ∷ 2 ∷ 5 ∷ []) (0 ∷ 0 ∷ 0 ∷ 0 ∷ []) [] []))) (refused 8 (pos 2 ∷ []) None)
     ∷ row (as_got (get a 5 (2 ∷ 2 ∷ []))) (answers ((pos 2 ∷ pos 3 ∷ []) ∷ (pos 7 ∷ pos 4 ∷ []) ∷ []))
-    ∷ row (as_got (get a 5 (2 ∷ 1 ∷ []))) (refused 12 (pos 1 ∷ pos 2 ∷ pos 1 ∷ []) none)
+    ∷ row (as_got (get a 5 (2 ∷ 1 ∷ []))) (refused 12 (pos 1 ∷ pos 2 ∷ pos 1 ∷ []) None)
     ∷ row (as_got (get a 9 (0 ∷ 0 ∷ []))) (answers [])
     ∷ row (as_got (get (batch (5 ∷ []) (0 ∷ 0 ∷ []) [] []) 5 (0 ∷ 0 ∷ []))) (answers ([] ∷ [] ∷ []))
     ∷ []

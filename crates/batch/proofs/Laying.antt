@@ -1,7 +1,7 @@
 -- Entries laid flat one after another, and what a call promises of them.
 -- Assumes nothing.
 use Prim.Native.Nat.{ℕ, ◌+◌, ◌-◌, ◌≤◌, ◌<◌}
-use mathlib.Core.Option.{none, some}
+use Rattle.std.specs.Prelude.{Some, None, Result, Ok, IsErrAnd}
 use mathlib.Core.List.{List, [], ◌∷◌, ◌++◌, map}
 use mathlib.Core.Path.{◌≡◌, refl, ap, ap₂, sym, ◌∙◌}
 use native.Mathlib.Numerals.{add-one}
@@ -10,7 +10,6 @@ use borrow.Rule.Slice.PartMut.{put_mid}
 use lib.IntN.{ℤ}
 use lib.ListN.{length, get_or, take, drop, set, length-map, get_or-map}
 use lib.Seq.{take-suc, take_all}
-use Rattle.column.specs.declared.answer.Batched.{Batched}
 use Rattle.column.specs.declared.answer.RleBatch.{RleBatch}
 use Rattle.column.specs.declared.error.Refusal.{Refusal}
 use Rattle.column.specs.Asking.{Question, ◌otherwise◌}
@@ -19,6 +18,7 @@ use Rattle.column.specs.Lists.{total}
 use Rattle.column.specs.Paper.{answers, paper}
 use Rattle.column.specs.Runs.{Filled}
 use Rattle.column.proofs.Buffer.{Written, write_start, write_next}
+use Rattle.column.proofs.Promised.{passed_on}
 use Rattle.column.proofs.Laying.{Laying, laying_start, laying-room, laying-next, laying_end}
 use Rattle.batch.specs.Batch.{Entry, columns_of, WrittenBatch}
 use Rattle.batch.specs.Workers.{FilledBatch}
@@ -74,11 +74,12 @@ batch-end {es} {x = x} {n = n} hx s h =
 -- ---- what a worker laid flat, after a "yes" to every question, is what a call promises; and so is what was there, after a "no"
 
 module _ {q : Question} (es : List Entry) where
-  pub batch-written : {k k' x x' : List ℕ} {e e' v v' : List ℤ} {r : RleBatch} → q ≡ none → r.keys ≡ length es → FilledBatch es k k' x x' e e' v v' r.runs
-      → WrittenBatch (q otherwise es) (Batched.Batch r) k k' x x' e e' v v'
+  pub batch-written : {k k' x x' : List ℕ} {e e' v v' : List ℤ} {r : RleBatch} → q ≡ None → r.keys ≡ length es → FilledBatch es k k' x x' e e' v v' r.runs
+      → WrittenBatch (q otherwise es) (Ok r) k k' x x' e e' v v'
   batch-written {r = r} h ek f =
       let a : r ≡ flat_counts (columns_of es) = ap₂ (λ (a b : ℕ). record { keys = a; runs = b }) (ek ∙ sym (length-map es (λ (e : Entry). e.runs))) f.count in
       rw h (record { answer = ap answers a; keys = f.keys; offsets = f.offsets; ends = f.ends; values = f.values })
 
-  pub batch-refused : {r : Refusal} {k x : List ℕ} {e v : List ℤ} → q ≡ some (paper r) → WrittenBatch (q otherwise es) (Batched.Refused r) k k x x e e v v
-  batch-refused h = rw h (record { answer = refl; keys = refl; offsets = refl; ends = refl; values = refl })
+  pub batch-refused : (r : Result RleBatch Refusal) (y : Refusal) {k x : List ℕ} {e v : List ℤ} → IsErrAnd r (λ (z : Refusal). z ≡ y) → Some (paper y) ≡ q
+      → WrittenBatch (q otherwise es) r k k x x e e v v
+  batch-refused r y h f = rw (sym f, passed_on r y h) (record { answer = refl; keys = refl; offsets = refl; ends = refl; values = refl })

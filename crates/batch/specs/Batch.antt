@@ -1,13 +1,14 @@
 -- batch.rs: a batch, what it is asked, and what a call that writes one promises.
-use Rattle.std.specs.Prelude.{ℕ, ◌+◌, Bool, cond, List, [], ◌∷◌, map, ◌≡◌, ℤ, length, eqb}
-use Rattle.column.specs.declared.answer.Batched.{Batched}
+use Rattle.std.specs.Prelude.{ℕ, ◌+◌, Bool, cond, List, [], ◌∷◌, map, ◌≡◌, ℤ, length, eqb, Result}
 use Rattle.column.specs.Asking.{Question, first_no}
 use Rattle.column.specs.Flat.{Flat, flat, columns, paired_flat, offsets_flat, ends_flat, flat_offsets, flat_ends, flat_values, flat_counts}
 use Rattle.column.specs.Lists.{any}
-use Rattle.column.specs.Paper.{Outcome, shown_batched, counts, written}
+use Rattle.column.specs.Paper.{Outcome, counts, written, outcome_of}
 use Rattle.column.specs.Questions.{agree}
 use Rattle.column.specs.Runs.{Runs}
 use Rattle.column.specs.Lent.{Lent, given, after}
+use Rattle.column.specs.declared.answer.RleBatch.{RleBatch}
+use Rattle.column.specs.declared.error.Refusal.{Refusal}
 
 -- "A batch is u32 keys, offsets, and flat ends and values", as a call is handed it
 pub record Batch : Type 0 where
@@ -40,15 +41,15 @@ abbrev pub columns_of : List Entry → List Runs
 columns_of es = map (λ (e : Entry). e.runs) es
 
 -- the promise of a call that writes a batch into four buffers, each before and after
-pub record WrittenBatch (o : Outcome (List Entry)) (r : Batched) (k k' x x' : List ℕ) (e e' v v' : List ℤ) : Type 0 where
-  pub answer : shown_batched r ≡ counts (λ es. flat_counts (columns_of es)) o
+pub record WrittenBatch (o : Outcome (List Entry)) (r : Result RleBatch Refusal) (k k' x x' : List ℕ) (e e' v v' : List ℤ) : Type 0 where
+  pub answer : outcome_of r ≡ counts (λ es. flat_counts (columns_of es)) o
   pub keys : k' ≡ written keys_of o k
   pub offsets : x' ≡ written (λ es. flat_offsets (columns_of es)) o x
   pub ends : e' ≡ written (λ es. flat_ends (columns_of es)) o e
   pub values : v' ≡ written (λ es. flat_values (columns_of es)) o v
 
 -- of the buffers that a call is lent: question 12 is about their lengths
-abbrev pub WritesBatch : (List ℕ → Outcome (List Entry)) → Lent ℕ → Lent ℕ → Lent ℤ → Lent ℤ → Batched → Type 0
+abbrev pub WritesBatch : (List ℕ → Outcome (List Entry)) → Lent ℕ → Lent ℕ → Lent ℤ → Lent ℤ → Result RleBatch Refusal → Type 0
 WritesBatch call k x e v r =
     WrittenBatch (call (length (given k) ∷ length (given x) ∷ length (given e) ∷ length (given v) ∷ [])) r
     (given k) (after k) (given x) (after x) (given e) (after e) (given v) (after v)

@@ -1,6 +1,5 @@
 -- What the workers leave and require.
-use Rattle.std.specs.Prelude.{ℕ, ◌+◌, ◌-◌, ◌≤◌, ◌<◌, ◌^◌, Bool, true, false, cond, List, map, ◌≡◌, ℤ, ltb, length, get_or}
-use Rattle.std.proofs.Math.Option.{none}
+use Rattle.std.specs.Prelude.{ℕ, ◌+◌, ◌-◌, ◌≤◌, ◌<◌, ◌^◌, Bool, true, false, cond, List, map, ◌≡◌, ℤ, ltb, length, get_or, Option, Some, None, IfSome}
 use Rattle.column.specs.declared.answer.RleBatch.{RleBatch}
 use Rattle.column.specs.Flat.{offsets_flat, ends_flat, flat_offsets, flat_ends, flat_values}
 use Rattle.column.specs.Lists.{total}
@@ -16,8 +15,8 @@ use Rattle.column.specs.Lent.{Lent, given, after}
 pub record ValidBatch (b : Batch) : Type 0 where
   pub keyed : length b.flat.offsets ≡ length b.keys + 1
   pub paired : length b.flat.ends ≡ length b.flat.values
-  pub offsets : offsets_flat b.flat ≡ none
-  pub valid : ends_flat b.flat ≡ none
+  pub offsets : offsets_flat b.flat ≡ None
+  pub valid : ends_flat b.flat ≡ None
 
 -- entries laid flat, written into the front of four buffers, each before and after, and how many runs they have
 pub record FilledBatch (es : List Entry) (k k' x x' : List ℕ) (e e' v v' : List ℤ) (n : ℕ) : Type 0 where
@@ -40,14 +39,19 @@ pub record FilledCounts (es : List Entry) (k k' x x' : List ℕ) (e e' v v' : Li
 abbrev pub FillsCounts : List Entry → Lent ℕ → Lent ℕ → Lent ℤ → Lent ℤ → RleBatch → Type 0
 FillsCounts es k x e v r = FilledCounts es (given k) (after k) (given x) (after x) (given e) (after e) (given v) (after v) r
 
--- ---- the keys of two batches, one after the other: f tells what is at each place
+-- ---- the keys of two batches, one after the other: f tells what is at each place, t whether it is kept
 
--- r is the lowest place from n on, below the number of places, that is kept; or that number
-pub record NextKept (f : ℕ → Joined) (places n : ℕ) (r : Joined) : Type 0 where
-  pub after : n ≤ r.at
-  pub within : r.at ≤ places
-  pub before : (i : ℕ) → n ≤ i → i < r.at → (f i).kept ≡ false
-  pub here : r.at < places → (r ≡ f r.at) × ((f r.at).kept ≡ true)
+-- the place of what is found, or the number of places
+abbrev pub place_of : ℕ → Option Joined → ℕ
+place_of places None = places
+place_of places (Some j) = j.at
+
+-- r is what is at the lowest place from n on, below the number of places, that is kept; or there is none
+pub record NextKept (f : ℕ → Joined) (t : ℕ → Bool) (places n : ℕ) (r : Option Joined) : Type 0 where
+  pub after : n ≤ place_of places r
+  pub within : place_of places r ≤ places
+  pub before : (i : ℕ) → n ≤ i → i < place_of places r → t i ≡ false
+  pub here : IfSome r (λ (j : Joined). (j.at < places) × (j ≡ f j.at) × (t j.at ≡ true))
 
 -- ---- each looked up in the other batch
 

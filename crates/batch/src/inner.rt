@@ -11,15 +11,10 @@ use column::sequence;
 pub fn part_at<'o, 'e>(offsets: &'o [usize], entries: &'e [i64], position: usize) -> &'e [i64]
     ensures { result.now ≡ get_or (parts offsets.now entries.now) position [] }
 {
-    if offsets.len() <= position {
+    if sequence::count(offsets) <= position {
         return &entries[..0];
     }
-    if offsets.len() <= position + 1 {
-        return &entries[..0];
-    }
-    let from = offsets[position];
-    let to = offsets[position + 1];
-    sequence::part(entries, from, to)
+    sequence::part(entries, offsets[position], offsets[position + 1])
 }
 
 // The entries, copied to the front of a buffer.
@@ -27,10 +22,5 @@ pub fn copy(entries: &[i64], out: &mut [i64])
     requires { length entries.now ≤ length out.old }
     ensures { out.new ≡ over entries.now out.old }
 {
-    let mut i: usize = 0;
-    while i < entries.len() {
-        let entry = entries[i];
-        out[i] = entry;
-        i += 1;
-    }
+    out[..entries.len()].copy_from_slice(entries);
 }

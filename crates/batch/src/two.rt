@@ -4,13 +4,12 @@ ghost use Rattle.std.specs.Prelude.{◌≡◌};
 ghost use Rattle.column.specs.Asking.{shown_asked, first_no};
 ghost use Rattle.batch.specs.Batch.{both_lengths, both_content, both_valid, batch};
 
-use column::answer::Asked;
+use column::error::Refusal;
 
-// What is at a place: whether it gives a key of the result, the key, and its position in each batch, past the last where it has none.
+// What is at a place: the key, and its position in each batch, past the last where it has none.
 #[derive(Clone, Copy)]
 pub struct Joined {
     pub at: usize,
-    pub kept: bool,
     pub key: u32,
     pub a: usize,
     pub b: usize,
@@ -26,14 +25,14 @@ fn ask_lengths(
     b_offsets: &[usize],
     b_ends: &[i64],
     b_values: &[i64],
-) -> Asked
+) -> Result<(), Refusal>
     ensures { shown_asked result ≡ first_no
         (both_lengths (batch a_keys.now a_offsets.now a_ends.now a_values.now) (batch b_keys.now b_offsets.now b_ends.now b_values.now)) }
 {
-    questions::ask_lengths(2, a_offsets.len(), a_keys.len() + 1)
-        .and(questions::ask_lengths(2, b_offsets.len(), b_keys.len() + 1))
-        .and(questions::ask_lengths(3, a_ends.len(), a_values.len()))
-        .and(questions::ask_lengths(3, b_ends.len(), b_values.len()))
+    questions::ask_lengths(2, a_offsets.len(), a_keys.len() + 1)?;
+    questions::ask_lengths(2, b_offsets.len(), b_keys.len() + 1)?;
+    questions::ask_lengths(3, a_ends.len(), a_values.len())?;
+    questions::ask_lengths(3, b_ends.len(), b_values.len())
 }
 
 // 3 and 4, of both batches.
@@ -46,14 +45,14 @@ fn ask_content(
     b_offsets: &[usize],
     b_ends: &[i64],
     b_values: &[i64],
-) -> Asked
+) -> Result<(), Refusal>
     ensures { shown_asked result ≡ first_no
         (both_content (batch a_keys.now a_offsets.now a_ends.now a_values.now) (batch b_keys.now b_offsets.now b_ends.now b_values.now)) }
 {
-    questions::ask_offsets(a_offsets, a_ends.len())
-        .and(questions::ask_offsets(b_offsets, b_ends.len()))
-        .and(questions::ask_sequences(a_offsets, a_ends))
-        .and(questions::ask_sequences(b_offsets, b_ends))
+    questions::ask_offsets(a_offsets, a_ends.len())?;
+    questions::ask_offsets(b_offsets, b_ends.len())?;
+    questions::ask_sequences(a_offsets, a_ends)?;
+    questions::ask_sequences(b_offsets, b_ends)
 }
 
 // 2, 3 and 4, of both batches.
@@ -66,14 +65,14 @@ pub fn ask_batches(
     b_offsets: &[usize],
     b_ends: &[i64],
     b_values: &[i64],
-) -> Asked
+) -> Result<(), Refusal>
     ensures { shown_asked
         result ≡ both_valid (batch a_keys.now a_offsets.now a_ends.now a_values.now) (batch b_keys.now b_offsets.now b_ends.now b_values.now) }
 {
     ask_lengths(
         a_keys, a_offsets, a_ends, a_values, b_keys, b_offsets, b_ends, b_values,
-    )
-    .and(ask_content(
+    )?;
+    ask_content(
         a_keys, a_offsets, a_ends, a_values, b_keys, b_offsets, b_ends, b_values,
-    ))
+    )
 }

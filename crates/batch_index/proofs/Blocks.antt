@@ -1,10 +1,9 @@
 -- The first double key, by blocks: f is a search in the keys from n up to m that finds one of a key's positions, and the same for equal keys.
 -- Assumes nothing.
-use Prim.Native.Nat.{ℕ, ◌+◌, ◌-◌, ◌≤◌, ◌<◌, ◌/◌, min}
+use Prim.Native.Nat.{ℕ, ◌+◌, ◌-◌, ◌≤◌, ◌<◌, min}
 use mathlib.Core.Bool.{true}
 use mathlib.Core.List.{List}
 use mathlib.Core.Path.{◌≡◌, sym, ap, ◌∙◌}
-use native.Mathlib.Nat.{div-lt_iff_lt-mul}
 use native.Mathlib.Omega.{arith}
 use lib.Dec.{eqb, ltb}
 use lib.ListN.{length, get_or, drop, length-take, length-drop}
@@ -30,9 +29,6 @@ use Rattle.batch_index.proofs.Table.{Position, looked_up-position}
 
 pub part_length : (n m : ℕ) (ks : List ℕ) → n ≤ m → m ≤ length ks → length (part n m ks) ≡ m - n
 part_length n m ks h l = simp (length-take, length-drop) (omega arith)
-
-pub found_within : (n m : ℕ) (ks : List ℕ) {w : ℕ} → n ≤ m → m ≤ length ks → w ≤ length (part n m ks) → n + w ≤ m
-found_within n m ks h l k = omega (arith, part_length n m ks h l)
 
 module _ (ks : List ℕ) where
   doubled_at : (i j : ℕ) → j < i → i < length ks → get_or ks i 0 ≡ get_or ks j 0 → doubled ks i ≡ true
@@ -82,28 +78,7 @@ module _ (ks : List ℕ) where
     found_at key h =
         sym ((sound key).here (rw (part_length n m ks nm ml) h)) ∙ get_or-take (m - n) (drop n ks) (f key) 0 h ∙ get_or-drop n ks (f key) 0
 
-    pub entering_start : (limit : ℕ) → Entering f n m limit limit n
-    entering_start limit =
-        record {
-          begun = omega arith;
-          ended = nm;
-          limited = limited-same;
-          single = λ j h k l a. let z : ⊥ = omega arith in absurd z;
-          known = λ j h l. let z : ⊥ = omega arith in absurd z;
-        }
-
-    pub entering_end : {limit r i : ℕ} → Entering f n m limit r i → m ≤ i → CheckedBlock f ks n m limit r
-    entering_end c h =
-        record {
-          limited = c.limited;
-          single = λ j a b k d x y. c.single j a k d (omega arith) y;
-          known = λ x j a b. c.known j a (omega arith);
-        }
-
     -- ---- the keys after it
-
-    pub resting_start : Resting f n m m
-    resting_start = record { begun = omega arith; other = λ j h l. let z : ⊥ = omega arith in absurd z }
 
     module _ {i : ℕ} (s : Resting f n m i) where
       pub resting-found : {limit at : ℕ} → i < limit → limit ≤ length ks → at ≡ f (get_or ks i 0) → at < m - n → PassedRest f ks n m limit i
@@ -115,32 +90,6 @@ module _ (ks : List ℕ) where
             };
             other = s.other;
           }
-
-      pub resting-next : {at : ℕ} → at ≡ f (get_or ks i 0) → m - n ≤ at → Resting f n m (i + 1)
-      resting-next e k =
-          record {
-            begun = omega (arith, s.begun);
-            other = λ j h l. by-test (eqb j i)
-                (λ t. let z = eqb-true j i t in rw z (omega arith)) (λ t. s.other j h (omega (arith, eqb-false j i t)));
-          }
-
-      pub resting-end : {limit : ℕ} → limit ≤ i → PassedRest f ks n m limit limit
-      resting-end l = record { limited = limited-same; other = λ j h k. s.other j h (omega arith) }
-
-    -- ---- both
-
-    pub passed-block : {limit s r : ℕ} → CheckedBlock f ks n m limit s → PassedRest f ks n m s r → PassedBlock ks n m limit r
-    passed-block {limit} {s} {r} c p =
-        record {
-          limited = limited-more c.limited p.limited;
-          single = λ i h l j a b e. by-test (ltb j m)
-              (λ t. c.single i h l j a (ltb-true j m t) (omega (arith, p.limited.within)) e)
-              (λ t. by-test (eqb (n + f (get_or ks i 0)) i)
-              (λ o. let q : f (get_or ks j 0) ≡ f (get_or ks i 0) = ap f e in
-              let z : ⊥ = omega (arith, p.other j (ltb-false j m t) b, eqb-true (n + f (get_or ks i 0)) i o) in z)
-              (λ o. c.known (omega (arith, ltb-false j m t, p.limited.within)) i h l (eqb-false (n + f (get_or ks i 0)) i o) j a
-              (omega (arith, p.limited.within)) e));
-        }
 
   -- ---- the key at i is entered, and found at w of the block
 
@@ -225,10 +174,6 @@ module _ (ks : List ℕ) where
         by-test (ltb i (n + w)) (λ t. limit_next a x (q (ltb-true i (n + w) t)))
         (λ t. let b = ltb-false i (n + w) t in rw (p b) (next a (omega arith) c.limited (λ o. absurd (o (own a b)))))
 
-  -- the last block
-  pub passed-last : {f : ℕ → ℕ} {n m r : ℕ} → CheckedBlock f ks n m m r → PassedBlock ks n m m r
-  passed-last c = record { limited = c.limited; single = λ i h l j a b. c.single i h l j a (omega (arith, c.limited.within)) b }
-
   -- ---- one block after another, those before n are passed
 
   pub record Passing (limit n : ℕ) : Type 0 where
@@ -258,9 +203,3 @@ module _ (ks : List ℕ) where
 
   pub passing-last : {limit n r : ℕ} → Passing limit n → PassedBlock ks n limit limit r → FirstDouble ks r
   passing-last p b = passing-end (passing-next p b) b.limited.within
-
--- blocks of about the same size
-pub block_within : (keys : ℕ) → keys / (keys / 6144 + 1) + 1 ≤ 6144
-block_within keys =
-    let q = keys / 6144 + 1 in
-    let l : keys / q < 6144 = (div-lt_iff_lt-mul {k = q} {x = keys} {y = 6144} (omega arith)).1 (omega arith) in omega arith

@@ -12,94 +12,13 @@ use borrow.Author.Tests.{eqb-true, eqb-false, eq-eqb, ltb-true, ltb-false, lt-lt
 use Rattle.num.proofs.Tests.{by-test}
 use Rattle.batch_index.specs.declared.inner.links.Links.{Links}
 use Rattle.batch_index.specs.declared.inner.links.Member.{Member}
-use Rattle.batch_index.specs.Workers.{
-  doubled,
-  NextPosition,
-  part,
-  capacity,
-  dropped,
-  CheckedEnd,
-  Cleared,
-  FoundBefore,
-  Mark,
-  Marks,
-  entry_position,
-}
-use Rattle.batch_index.specs.Workers.{Entry, Entries, Head, Chains, Listed, Linked, LinkedFrom, LinkedAt, LinkLent}
+use Rattle.batch_index.specs.Workers.{doubled, NextPosition, part, capacity, dropped, CheckedEnd, FoundBefore, Marks, entry_position}
+use Rattle.batch_index.specs.Workers.{Entry, Entries, Head, Chains, Listed, Linked, LinkedFrom, LinkLent}
 use Rattle.batch_index.proofs.Lowest.{no_test, skip-start, next-found, next-end, next-earlier}
 use Rattle.batch_index.proofs.Doubles.{among_none, among_at}
 use Rattle.batch_index.proofs.Table.{Position}
 use Rattle.batch_index.proofs.Wanted.{changed}
 use Rattle.batch_index.proofs.Blocks.{found_at}
-
--- ---- each key is found at its own position or before it, those before i are
-
-pub end-start : {f : ℕ → ℕ} {ks : List ℕ} {n m : ℕ} → n ≤ m → CheckedEnd f ks n m n
-end-start h = record { after = omega arith; within = h; low = λ i a b. let z : ⊥ = omega arith in absurd z }
-
-pub end-next : {f : ℕ → ℕ} {ks : List ℕ} {n m i w : ℕ} → CheckedEnd f ks n m i → i < m → w ≡ f (get_or ks i 0) → w ≤ i - n → CheckedEnd f ks n m (i + 1)
-end-next {f} {ks} {n} {m} {i} s h e l = record {
-  after = omega (arith, s.after);
-  within = omega arith;
-  low = λ j a b. by-test (eqb j i) (λ t. let z = eqb-true j i t in rw z (omega (arith, s.after))) (λ t. s.low j a (omega (arith, eqb-false j i t)));
-}
-
--- ---- none is noted, those before i are not
-
-pub record Clearing (fs : List ℕ) (i : ℕ) : Type 0 where
-  pub each : (w : ℕ) → w < i → get_or fs w 0 ≡ 65535
-
-pub clear_start : {fs : List ℕ} → Clearing fs 0
-clear_start = record { each = λ w h. let z : ⊥ = omega arith in absurd z }
-
-pub clear_next : {fs : List ℕ} {i v : ℕ} → i < length fs → v ≡ 65535 → Clearing fs i → Clearing (set fs i v) (i + 1)
-clear_next {fs} {i} {v} h e s = record { each = λ w l. changed (λ x y. y ≡ 65535) fs i v w h e (λ d. s.each w (omega (arith, d))) }
-
-pub clear_end : {fs : List ℕ} {size i : ℕ} → size ≤ i → Clearing fs i → Cleared size fs
-clear_end h s = record { each = λ w l. s.each w (omega arith) }
-
--- ---- keys before the block: those before i are looked up
-
-module _ (f : ℕ → ℕ) (ks : List ℕ) (size : ℕ) where
-  pub mark_start : {fs : List ℕ} → Cleared size fs → Marks f ks size 0 fs
-  mark_start u = record {
-    each = λ w h. record {
-      none = λ d j l. let z : ⊥ = omega arith in absurd z;
-      some = λ e. let z : ⊥ = omega (arith, u.each w h, e) in absurd z;
-      unlinked = omega (arith, u.each w h);
-    };
-  }
-
-  pub mark_end : {fs : List ℕ} {i n : ℕ} → n ≤ i → i ≤ n → Marks f ks size i fs → Marks f ks size n fs
-  mark_end {i = i} {n} h l m = let e : i ≡ n = omega arith in rw e at m
-
-  found-more : {i w : ℕ} → FoundBefore f ks i w → FoundBefore f ks (i + 1) w
-  found-more b = record { position = b.position; before = omega (arith, b.before); found = b.found }
-
-  -- the key at i is found at v
-  module _ {fs : List ℕ} {i v : ℕ} (s : Marks f ks size i fs) (e : v ≡ f (get_or ks i 0)) where
-    kept : (w : ℕ) → w < size → (v ≡ w → ⊥) → Mark f ks (i + 1) w (get_or fs w 0)
-    kept w h d = let m = s.each w h in record {
-      none = λ x j l q. by-test (eqb j i)
-          (λ t. let z = eqb-true j i t in d (e ∙ ap (λ (y : ℕ). f (get_or ks y 0)) (sym z) ∙ q))
-          (λ t. m.none x j (omega (arith, eqb-false j i t)) q);
-      some = λ x. found-more (m.some x);
-      unlinked = m.unlinked;
-    }
-
-    pub mark_other : size ≤ v → Marks f ks size (i + 1) fs
-    mark_other a = record { each = λ w h. kept w h (λ z. let y : ⊥ = omega arith in y) }
-
-    pub mark_found : {x : ℕ} → x ≡ dropped → v < length fs → Marks f ks size (i + 1) (set fs v x)
-    mark_found {x} q a = record {
-      each = λ w h. changed (λ y z. y < size → Mark f ks (i + 1) y z) fs v x w a
-          (λ l. record {
-            none = λ d. absurd (d q);
-            some = λ z. record { position = i; before = omega arith; found = sym e };
-            unlinked = omega arith;
-          })
-          (λ d l. kept w l (λ z. d (sym z))) h;
-    }
 
 -- ---- entries
 
@@ -166,33 +85,6 @@ module _ (f : ℕ → ℕ) (ks : List ℕ) (n size : ℕ) where
       next = λ x o. next-earlier (get_or ks (n + w) 0) ks (omega arith) (λ q. d (e ∙ ap f q ∙ o)) (r.next x o);
       made = r.made;
       own = r.own;
-    }
-
-    pub linking_none : size ≤ v → Linking fs ns ps count (i - 1)
-    linking_none a = record {
-      within = omega (arith, s.within);
-      room = s.room;
-      ranks = λ w l. other (λ z. let y : ⊥ = omega arith in y) (s.ranks w l);
-      entries = s.entries;
-    }
-
-    -- one that begins before the block
-    pub linking_dropped : v < size → get_or fs v 0 ≡ dropped → Linking fs ns ps count (i - 1)
-    linking_dropped a q = record {
-      within = omega (arith, s.within);
-      room = s.room;
-      ranks = λ w l. by-test (eqb v w)
-          (λ t. let z = eqb-true v w t in
-          let r = s.ranks w l in
-          let y : get_or fs w 0 ≡ dropped = ap (λ (x : ℕ). get_or fs x 0) (sym z) ∙ q in record {
-            some = r.some;
-            none = r.none;
-            next = λ d. absurd (d y);
-            made = r.made;
-            own = r.own;
-          })
-          (λ t. other (eqb-false v w t) (s.ranks w l));
-      entries = s.entries;
     }
 
     -- one more entry
@@ -337,9 +229,6 @@ module _ {n : ℕ} {ks fs ns ps : List ℕ} {l : Links} (e : l.linked ≡ false)
 
   pub none_from : LinkedFrom n ks fs ns ps l
   none_from = record { known = none-known; begun = h; some = λ t. no_test t e }
-
-  pub none_at : n < l.to → LinkedAt n ks fs ns ps l
-  none_at k = record { known = none-known; begun = h; ended = k }
 
 -- ---- reading them
 

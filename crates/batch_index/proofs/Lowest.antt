@@ -66,12 +66,6 @@ module _ (key : ℕ) (ks : List ℕ) where
   skip-start {n} h = record { after = omega arith; within = h; before = others-none n }
 
   module _ {n i : ℕ} (s : Skipped key ks n i) where
-    pub skip_stride : {m : ℕ} → i ≤ m → m ≤ length ks → Others key ks i m → Skipped key ks n m
-    skip_stride {m} h k f = record { after = omega (arith, s.after); within = k; before = others-more n i m s.before f }
-
-    pub skip-one : i < length ks → (get_or ks i 0 ≡ key → ⊥) → Skipped key ks n (i + 1)
-    skip-one h d = skip_stride (omega arith) (omega arith) (others-one i (ne_eqb key (get_or ks i 0) (λ e. d (sym e))))
-
     pub next-found : get_or ks i 0 ≡ key → NextPosition key ks n i
     next-found e = record { after = s.after; within = s.within; before = s.before; here = λ h. e }
 
@@ -94,29 +88,6 @@ module _ (key : ℕ) (ks : List ℕ) where
     pub within : i ≤ to
     pub few : count ≤ i - n
     pub all : count ≡ i - n → Others key ks n i
-
-  pub counted_none : {n to : ℕ} → n ≤ to → Counted n to 0 n
-  counted_none {n} h = record { begun = omega arith; within = h; few = omega arith; all = λ e. others-none n }
-
-  pub counted-more : {n to count i r : ℕ} → Counted n to count i → i < to → r ≡ cond (eqb (get_or ks i 0) key) count (count + 1) → Counted n to r
-      (i + 1)
-  counted-more {n} {count = count} {i} {r} c h er =
-      by-test (eqb (get_or ks i 0) key)
-      (λ t. let e : r ≡ count = er ∙ rw t in
-      record {
-        begun = omega (arith, c.begun);
-        within = omega arith;
-        few = omega (arith, c.begun, c.few);
-        all = λ a. let z : ⊥ = omega (arith, c.begun, c.few) in absurd z;
-      })
-      (λ f. let e : r ≡ count + 1 = er ∙ rw f in
-      record {
-        begun = omega (arith, c.begun);
-        within = omega arith;
-        few = omega (arith, c.begun, c.few);
-        all = λ a. others-more n i (i + 1) (c.all (omega (arith, c.begun, c.few)))
-            (others-one i (ne_eqb key (get_or ks i 0) (λ u. eqb-false (get_or ks i 0) key f (sym u))));
-      })
 
 pub next-lowest : (key : ℕ) (ks : List ℕ) {r : ℕ} → NextPosition key ks 0 r → r ≡ lowest key ks
 next-lowest key ks {r} s = lowest_is key ks r s.within (λ j l e. eqb-false key (get_or ks j 0) (s.before j (omega arith) l) (sym e)) s.here

@@ -1,10 +1,9 @@
 -- A table of the positions of keys: what is found in it for a key, whatever it holds.
 -- Assumes nothing.
-use Prim.Native.Nat.{ℕ, zero, suc, ◌+◌, ◌-◌, ◌*◌, ◌≤◌, ◌<◌, ◌^◌}
+use Prim.Native.Nat.{ℕ, zero, suc, ◌+◌, ◌-◌, ◌≤◌, ◌<◌}
 use mathlib.Core.Bool.{Bool, true, false, cond}
 use mathlib.Core.List.{List}
 use mathlib.Core.Path.{◌≡◌, refl, sym, ap, ◌∙◌}
-use native.Mathlib.Nat.{lt_of_le_of_lt, mul-le-mul_left, le_of_lt, mul-lt-mul_of_pos_right, div-lt_iff_lt-mul}
 use native.Mathlib.Omega.{arith}
 use lib.Dec.{eqb, ltb}
 use lib.ListN.{length, get_or, set, length-set}
@@ -14,13 +13,6 @@ use Rattle.num.proofs.Tests.{by-test}
 use Rattle.batch_index.specs.Workers.{mixed, place_of, in_filter, probed, looked_up, Put, Entered}
 
 -- ---- places
-
-pub product-below : (m n : ℕ) → m < 2 ^ 32 → n < 2 ^ 32 → m * n < 2 ^ 64
-product-below m n hm hn = lt_of_le_of_lt (mul-le-mul_left m (le_of_lt hn)) (omega arith)
-
-pub place-below : (n x : ℕ) → x < 2 ^ 32 → 0 < n → place_of n x < n
-place-below n x l h =
-    (div-lt_iff_lt-mul {k = 2 ^ 32} {x = x * n} {y = n} (omega arith)).1 (omega (arith, mul-lt-mul_of_pos_right {k = n} l h))
 
 -- ---- what is found
 
@@ -67,9 +59,6 @@ module _ (table filter ks : List ℕ) (key : ℕ) {x : ℕ} (e : x ≡ mixed key
 pub record Probing (table ks : List ℕ) (key from x d : ℕ) : Type 0 where
   pub within : d ≤ 32
   pub same : probed 32 table ks key from ≡ probed (32 - d) table ks key x
-
-pub probing_start : (table ks : List ℕ) (key from : ℕ) → Probing table ks key from from 0
-probing_start table ks key from = record { within = omega arith; same = refl }
 
 module _ {table ks : List ℕ} {key from x d : ℕ} (p : Probing table ks key from x d) where
   pub probing_end : 32 ≤ d → length ks ≡ probed 32 table ks key from
@@ -122,9 +111,6 @@ module _ (table ks : List ℕ) (s v : ℕ) (empty : length ks ≤ get_or table s
 pub record Seeking (table ks : List ℕ) (key from x d : ℕ) : Type 0 where
   pub same : Probing table ks key from x d
   pub given : (s v : ℕ) → length ks ≤ get_or table s 0 → Probing (set table s v) ks key from x d
-
-pub seeking_start : (table ks : List ℕ) (key from : ℕ) → Seeking table ks key from from 0
-seeking_start table ks key from = record { same = probing_start table ks key from; given = λ s v h. probing_start (set table s v) ks key from }
 
 -- the next number, its slot, and what that holds
 module _ {table ks : List ℕ} {key from x d : ℕ} (q : Seeking table ks key from x d) {y slot at : ℕ} (l : d < 32) (ey : y ≡ mixed x)

@@ -1,6 +1,6 @@
 -- Where wanted keys stand, by a search f in them that finds one of a key's positions, and the same for equal keys.
 -- Assumes nothing.
-use Prim.Native.Nat.{ℕ, ◌+◌, ◌-◌, ◌≤◌, ◌<◌}
+use Prim.Native.Nat.{ℕ, ◌-◌, ◌≤◌, ◌<◌}
 use mathlib.Core.List.{List}
 use mathlib.Core.Path.{◌≡◌, sym, ap, ◌∙◌}
 use native.Mathlib.Omega.{arith}
@@ -10,8 +10,8 @@ use lib.Seq.{get_or-set_same, get_or-set_other}
 use borrow.Author.Tests.{eqb-true, eqb-false}
 use Rattle.num.proofs.Tests.{by-test}
 use Rattle.batch_index.specs.Calls.{lowest}
-use Rattle.batch_index.specs.Workers.{NextPosition, Unfound, FoundOnce}
-use Rattle.batch_index.proofs.Lowest.{skip-start, next-found, next-end, next-earlier, next-lowest}
+use Rattle.batch_index.specs.Workers.{NextPosition, FoundOnce}
+use Rattle.batch_index.proofs.Lowest.{skip-start, next-found, next-earlier, next-lowest}
 use Rattle.batch_index.proofs.Table.{Position}
 
 -- what a list holds at j, after it was changed at i
@@ -21,35 +21,12 @@ changed P fs i v j h here other =
     (λ t. let e = eqb-true j i t in rw (e, get_or-set_same fs i v 0 h) here)
     (λ t. let d = eqb-false j i t in rw (get_or-set_other fs i j v 0 d) (other d))
 
--- ---- each says that it stands nowhere, those before i do
-
-pub record Clearing (ks fs : List ℕ) (i : ℕ) : Type 0 where
-  pub each : (j : ℕ) → j < i → get_or fs j 0 ≡ length ks
-
-pub clear_start : {ks fs : List ℕ} → Clearing ks fs 0
-clear_start = record { each = λ j h. let z : ⊥ = omega arith in absurd z }
-
-pub clear_next : {ks fs : List ℕ} {i v : ℕ} → i < length fs → v ≡ length ks → Clearing ks fs i → Clearing ks (set fs i v) (i + 1)
-clear_next {ks} {fs} {i} {v} h e s = record {
-  each = λ j l. changed (λ x y. y ≡ length ks) fs i v j h e (λ d. s.each j (omega (arith, d)));
-}
-
-pub clear_end : {ks ws fs : List ℕ} {i : ℕ} → length ws ≤ i → Clearing ks fs i → Unfound ks ws fs
-clear_end h s = record { each = λ j l. s.each j (omega arith) }
-
 -- ---- the positions of keys, from the last to the one at i
 
 module _ (f : ℕ → ℕ) (ks ws : List ℕ) where
   pub record Noted (fs : List ℕ) (i : ℕ) : Type 0 where
     pub within : i ≤ length ks
     pub next : (j : ℕ) → j < length ws → f (get_or ws j 0) ≡ j → NextPosition (get_or ws j 0) ks i (get_or fs j 0)
-
-  pub note_start : {fs : List ℕ} → Unfound ks ws fs → Noted fs (length ks)
-  note_start u =
-      record {
-        within = omega arith;
-        next = λ j h o. rw (u.each j h) (next-end (get_or ws j 0) ks (skip-start (get_or ws j 0) ks (omega arith)) (omega arith));
-      }
 
   pub note_end : {fs : List ℕ} {i : ℕ} → i ≤ 0 → Noted fs i → FoundOnce f ks ws fs
   note_end {i = i} h s =
@@ -61,14 +38,6 @@ module _ (f : ℕ → ℕ) (ks ws : List ℕ) where
 
     -- one more key: w is where it is found
     module _ {fs : List ℕ} {i w : ℕ} (s : Noted fs i) (h : 0 < i) (e : w ≡ f (get_or ks (i - 1) 0)) where
-      pub note-none : length ws ≤ w → Noted fs (i - 1)
-      note-none a =
-          record {
-            within = omega (arith, s.within);
-            next = λ j m o. next-earlier (get_or ws j 0) ks (omega arith)
-                (λ q. let z : w ≡ j = e ∙ ap f q ∙ o in let y : ⊥ = omega arith in absurd y) (s.next j m o);
-          }
-
       pub note-found : w < length ws → length ws ≤ length fs → Noted (set fs w (i - 1)) (i - 1)
       note-found a r =
           record {
@@ -88,13 +57,3 @@ module _ (f : ℕ → ℕ) (ks ws : List ℕ) where
   pub record Shared (fs : List ℕ) (i : ℕ) : Type 0 where
     pub once : FoundOnce f ks ws fs
     pub all : (j : ℕ) → j < i → get_or fs j 0 ≡ lowest (get_or ws j 0) ks
-
-  pub share_start : {fs : List ℕ} → FoundOnce f ks ws fs → Shared fs 0
-  share_start s = record { once = s; all = λ j h. let z : ⊥ = omega arith in absurd z }
-
-  pub share_next : {fs : List ℕ} {i v : ℕ} → Shared fs i → i < length fs → v ≡ lowest (get_or ws i 0) ks → Shared (set fs i v) (i + 1)
-  share_next {fs} {i} {v} s h e =
-      record {
-        once = record { own = λ j l o. changed (λ x y. y ≡ lowest (get_or ws x 0) ks) fs i v j h e (λ d. s.once.own j l o) };
-        all = λ j l. changed (λ x y. y ≡ lowest (get_or ws x 0) ks) fs i v j h e (λ d. s.all j (omega (arith, d)));
-      }

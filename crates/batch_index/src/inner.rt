@@ -25,10 +25,8 @@ fn all_others(keys: &[u32], from: usize, to: usize, key: u32) -> bool
     ensures { result ≡ true → Others key keys.now from to }
 {
     let mut count: u32 = 0;
-    let mut i = from;
-    while i < to {
+    for i in from..to {
         count = count_if_other(count, keys[i], key);
-        i += 1;
     }
     widened(count) == to - from
 }
@@ -54,14 +52,12 @@ pub fn scan_from(keys: &[u32], from: usize, key: u32) -> usize
     requires { from ≤ length keys.now }
     ensures { NextPosition key keys.now from result }
 {
-    let mut i = skip_others(keys, from, key);
-    while i < keys.len() {
+    for i in skip_others(keys, from, key)..keys.len() {
         if keys[i] == key {
             return i;
         }
-        i += 1;
     }
-    i
+    keys.len()
 }
 
 pub fn scan(keys: &[u32], key: u32) -> usize

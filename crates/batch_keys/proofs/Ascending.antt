@@ -8,7 +8,7 @@ use native.Mathlib.Omega.{arith}
 use lib.Dec.{eqb, ltb}
 use lib.ListN.{length, get_or, drop, length-drop}
 use lib.Seq.{drop-cons}
-use borrow.Author.Tests.{ltb-true, ltb-false, lt-ltb, le-ltb}
+use borrow.Author.Tests.{ltb-true, ltb-false, lt-ltb}
 use Rattle.num.proofs.Tests.{by-test, both_true}
 use Rattle.batch_index.specs.Calls.{lowest}
 use Rattle.batch_index.proofs.Lowest.{lowest_is}
@@ -48,9 +48,6 @@ pub record Risen (ks : List ℕ) (i : ℕ) : Type 0 where
   pub past : 0 < i
   pub rest : ascends ks ≡ ascends (drop (i - 1) ks)
 
-pub risen_start : (ks : List ℕ) → Risen ks 1
-risen_start ks = record { past = omega arith; rest = refl }
-
 module _ (ks : List ℕ) where
   pub risen_next : (i : ℕ) → Risen ks i → i < length ks → get_or ks (i - 1) 0 < get_or ks i 0 → Risen ks (i + 1)
   risen_next zero s h k = let z : ⊥ = omega (arith, s.past) in absurd z
@@ -61,12 +58,6 @@ module _ (ks : List ℕ) where
         past = omega arith;
         rest = s.rest ∙ rw (d, e) (two ks i h ∙ rw (lt-ltb (get_or ks i 0) (get_or ks (suc i) 0) (rw d at k), drop-cons ks (suc i) 0 h));
       }
-
-  pub risen_not : (i : ℕ) → Risen ks i → i < length ks → get_or ks i 0 ≤ get_or ks (i - 1) 0 → false ≡ ascends ks
-  risen_not zero s h k = let z : ⊥ = omega (arith, s.past) in absurd z
-  risen_not (suc i) s h k =
-      let d : suc i - 1 ≡ i = omega arith in
-      sym (s.rest ∙ rw d (two ks i h ∙ rw (le-ltb (get_or ks i 0) (get_or ks (suc i) 0) (rw d at k))))
 
   pub risen_end : (i : ℕ) → Risen ks i → length ks ≤ i → true ≡ ascends ks
   risen_end i s h = sym (s.rest ∙ short-ascends (drop (i - 1) ks) (omega (arith, length-drop (i - 1) ks)))
@@ -82,9 +73,6 @@ module _ (key : ℕ) (ks : List ℕ) (t : ascends ks ≡ true) where
   ascends_le : (i j : ℕ) → i ≤ j → j < length ks → get_or ks i 0 ≤ get_or ks j 0
   ascends_le i j h k = by-test (ltb i j) (λ s. omega (arith, ascends_at ks i j t (ltb-true i j s) k))
       (λ s. let e : i ≡ j = omega (arith, ltb-false i j s) in rw e (omega arith))
-
-  pub halved_start : Halved key ks 0 (length ks)
-  halved_start = record { inside = omega arith; below = λ j h. let z : ⊥ = omega arith in absurd z; above = λ j h k. let z : ⊥ = omega arith in absurd z }
 
   module _ {low size : ℕ} (s : Halved key ks low size) where
     pub halved-inside : 0 < size → low + (size - size / 2) - 1 < length ks

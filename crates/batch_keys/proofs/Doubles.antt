@@ -2,7 +2,7 @@
 -- Assumes nothing.
 use Prim.Native.Nat.{ℕ, zero, suc, ◌≤◌, ◌<◌}
 use mathlib.Core.Bool.{true, false}
-use mathlib.Core.Option.{none}
+use Rattle.std.specs.Prelude.{None}
 use mathlib.Core.List.{List, [], ◌∷◌}
 use mathlib.Core.Path.{◌≡◌, refl, sym, ◌∙◌}
 use native.Mathlib.Numerals.{add-one}
@@ -44,19 +44,19 @@ module _ (ks : List ℕ) where
       ∙ rw add-one at (each_next (distinct_at ks) i ks 0 (omega arith) (distinct_yes ks i (get_or ks i 0) (s i (omega arith))))
 
   -- what "yes" tells, from i on
-  asked-next : (i : ℕ) → i < length ks → each_from (distinct_at ks) i (drop i ks) ≡ none → (doubled ks i ≡ false)
-      × (each_from (distinct_at ks) (suc i) (drop (suc i) ks) ≡ none)
+  asked-next : (i : ℕ) → i < length ks → each_from (distinct_at ks) i (drop i ks) ≡ None → (doubled ks i ≡ false)
+      × (each_from (distinct_at ks) (suc i) (drop (suc i) ks) ≡ None)
   unfolding each_from
   asked-next i h e =
       let y = all_yes (distinct_at ks i (get_or ks i 0) ∷ each_from (distinct_at ks) (suc i) (drop (suc i) ks) ∷ []) (rw (drop-cons ks i 0 h) at e) in
-      (by-test (doubled ks i) (λ t. let z : refusal 8 (pos i ∷ []) ≡ none = sym (distinct_refused ks i (get_or ks i 0) t) ∙ y.0 in cc) (λ t. t), y.1.0)
+      (by-test (doubled ks i) (λ t. let z : refusal 8 (pos i ∷ []) ≡ None = sym (distinct_refused ks i (get_or ks i 0) t) ∙ y.0 in cc) (λ t. t), y.1.0)
 
-  asked-rest : (i : ℕ) → i ≤ length ks → distinct_keys ks ≡ none → each_from (distinct_at ks) i (drop i ks) ≡ none
+  asked-rest : (i : ℕ) → i ≤ length ks → distinct_keys ks ≡ None → each_from (distinct_at ks) i (drop i ks) ≡ None
   unfolding distinct_keys
   asked-rest zero h e = e
   asked-rest (suc i) h e = (asked-next i (omega arith) (asked-rest i (omega arith) e)).1
 
-  pub distinct_apart : distinct_keys ks ≡ none → Apart ks
+  pub distinct_apart : distinct_keys ks ≡ None → Apart ks
   distinct_apart y i j h k e = among_not (get_or ks j 0) ks j i (asked-next j k (asked-rest j (omega arith) y)).0 h (omega arith) (sym e)
 
   module _ {r : ℕ} (f : FirstDouble ks r) where
@@ -65,7 +65,7 @@ module _ (ks : List ℕ) where
         sym (asked-from r f.within f.before
         ∙ each-refused (distinct_at ks) r ks 0 h (distinct_refused ks r (get_or ks r 0) (f.here h)))
 
-    pub first-none : length ks ≤ r → none ≡ distinct_keys ks
+    pub first-none : length ks ≤ r → None ≡ distinct_keys ks
     first-none h = sym (asked-from r f.within f.before ∙ each-end (distinct_at ks) r ks 0 h)
 
 -- ---- what is known of keys
@@ -73,5 +73,5 @@ module _ (ks : List ℕ) where
 pub known-ascends : (o : Order) (ks : List ℕ) → o ≡ Ascending → Known o ks → ascends ks ≡ true
 known-ascends o ks e k = rw e at k
 
-pub known_distinct : (o : Order) (ks : List ℕ) → o ≡ Distinct → Known o ks → distinct_keys ks ≡ none
+pub known_distinct : (o : Order) (ks : List ℕ) → o ≡ Distinct → Known o ks → distinct_keys ks ≡ None
 known_distinct o ks e k = rw e at k

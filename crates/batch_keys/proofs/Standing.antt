@@ -2,7 +2,7 @@
 -- Assumes nothing.
 use Prim.Native.Nat.{ℕ, ◌≤◌, ◌<◌}
 use mathlib.Core.Bool.{Bool, true, false, ◌&&◌}
-use mathlib.Core.Option.{none, some}
+use Rattle.std.specs.Prelude.{Some, None}
 use mathlib.Core.List.{List}
 use mathlib.Core.Path.{◌≡◌, sym, ◌∙◌}
 use native.Mathlib.Omega.{arith}
@@ -16,12 +16,6 @@ use Rattle.batch_index.proofs.Lowest.{no_test, lowest_is}
 use Rattle.batch_keys.specs.Calls.{position}
 
 -- ---- a key looked for at one position
-
-pub stands-within : (ks : List ℕ) (i key : ℕ) → i < length ks → eqb (get_or ks i 0) key ≡ ltb i (length ks) && eqb (get_or ks i 0) key
-stands-within ks i key h = rw (lt-ltb i (length ks) h)
-
-pub stands-behind : (ks : List ℕ) (i key : ℕ) → length ks ≤ i → false ≡ ltb i (length ks) && eqb (get_or ks i 0) key
-stands-behind ks i key h = rw (le-ltb i (length ks) h)
 
 module _ {r : Bool} (ks : List ℕ) (i key : ℕ) (e : r ≡ ltb i (length ks) && eqb (get_or ks i 0) key) where
   pub stands : r ≡ true → (i < length ks) × (get_or ks i 0 ≡ key)
@@ -44,10 +38,10 @@ apart_found ks i key a e t = let s = stands ks i key e t in lowest_is key ks i (
 -- ---- the answer
 
 module _ (ks : List ℕ) (key : ℕ) {r : ℕ} (e : r ≡ lowest key ks) where
-  pub position-found : r < length ks → answers (some r) ≡ position ks key
+  pub position-found : r < length ks → answers (Some r) ≡ position ks key
   unfolding position
   position-found h = rw (← e, lt-ltb r (length ks) h)
 
-  pub position-none : length ks ≤ r → answers none ≡ position ks key
+  pub position-none : length ks ≤ r → answers None ≡ position ks key
   unfolding position
   position-none h = rw (← e, le-ltb r (length ks) h)

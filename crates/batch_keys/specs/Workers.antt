@@ -1,6 +1,5 @@
 -- What the searches leave and require.
-use Rattle.std.specs.Prelude.{ℕ, ◌+◌, ◌≤◌, ◌<◌, ◌^◌, Bool, true, ◌&&◌, List, [], ◌∷◌, ◌≡◌, ltb, length, get_or}
-use Rattle.std.proofs.Math.Option.{none}
+use Rattle.std.specs.Prelude.{ℕ, ◌+◌, ◌≤◌, ◌<◌, ◌^◌, Bool, true, ◌&&◌, List, [], ◌∷◌, ◌≡◌, ltb, length, get_or, None}
 use Rattle.column.specs.Questions.{distinct_keys}
 use Rattle.column.specs.Workers.{KeptBlock}
 use Rattle.batch_index.specs.Calls.{lowest}
@@ -19,7 +18,7 @@ ascends (k ∷ ks) = ascends_from k ks
 -- what is known of keys
 abbrev pub Known : Order → List ℕ → Type 0
 Known Ascending ks = ascends ks ≡ true
-Known Distinct ks = distinct_keys ks ≡ none
+Known Distinct ks = distinct_keys ks ≡ None
 Known Unknown ks = Unit {0}
 
 -- ---- wanted keys in blocks, each found at once

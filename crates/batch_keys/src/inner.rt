@@ -10,11 +10,7 @@ use batch_index::inner::widened;
 fn stands_at(keys: &[u32], position: usize, key: u32) -> bool
     ensures { result ≡ ltb position (length keys.now) && eqb (get_or keys.now position 0) key }
 {
-    if position < keys.len() {
-        keys[position] == key
-    } else {
-        false
-    }
+    position < keys.len() && keys[position] == key
 }
 
 // Where the search goes on: `step` further if the key there is below the one looked for.

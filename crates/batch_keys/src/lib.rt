@@ -5,14 +5,13 @@ pub mod inner;
 
 ghost use Rattle.std.specs.Prelude.{◌≡◌};
 ghost use Rattle.column.specs.Asking.{shown_asked};
-ghost use Rattle.column.specs.Paper.{shown_found};
+ghost use Rattle.column.specs.Paper.{outcome_of};
 ghost use Rattle.column.specs.Questions.{distinct_keys};
 ghost use Rattle.batch_index.specs.Workers.{FirstDouble};
 ghost use Rattle.batch_keys.specs.Calls as calls;
 ghost use Rattle.batch_keys.specs.Workers.{ascends};
 
-use column::answer::{Asked, Found};
-use column::error::{Error, InKey, Refusal};
+use column::error::{Error, Refusal};
 
 // What is known of keys: each is above the one before it; or none is given twice.
 #[derive(Clone, Copy)]
@@ -26,14 +25,12 @@ pub enum Order {
 fn ascends(keys: &[u32]) -> bool
     ensures { result ≡ ascends keys.now }
 {
-    let mut i: usize = 1;
-    while i < keys.len() {
+    for i in 1..keys.len() {
         let before = keys[i - 1];
         let key = keys[i];
         if key <= before {
             return false;
         }
-        i += 1;
     }
     true
 }
@@ -49,28 +46,28 @@ pub fn first_duplicate(keys: &[u32]) -> usize
 }
 
 // 8
-pub fn ask_keys(keys: &[u32]) -> Asked
+pub fn ask_keys(keys: &[u32]) -> Result<(), Refusal>
     ensures { shown_asked result ≡ distinct_keys keys.now }
 {
     let position = first_duplicate(keys);
     if position < keys.len() {
-        Asked::No(Refusal {
+        Err(Refusal {
             error: Error::DuplicateKey { position },
-            in_key: InKey::Outside,
+            in_key: None,
         })
     } else {
-        Asked::Yes
+        Ok(())
     }
 }
 
 // The lowest position of a key.
-pub fn position(keys: &[u32], key: u32) -> Found
-    ensures { shown_found result ≡ calls.position keys.now key }
+pub fn position(keys: &[u32], key: u32) -> Result<Option<usize>, Refusal>
+    ensures { outcome_of result ≡ calls.position keys.now key }
 {
     let at = batch_index::inner::scan(keys, key);
     if at < keys.len() {
-        Found::At(at)
+        Ok(Some(at))
     } else {
-        Found::Nothing
+        Ok(None)
     }
 }

@@ -1,8 +1,13 @@
+use mathlib.Core.Path.{◌∙◌, sym}
 use Rattle.column.specs.Questions.{paired}
-use Rattle.column.proofs.FirstNo.{asks-first, asks_then}
+use Rattle.column.proofs.FirstNo.{ends_at, goes_on, alone}
 use Rattle.batch.specs.Batch.{keyed}
 use Rattle.batch.proofs.ask_lengths.Goals as goal
 
+pub returns-in_err-ask_lengths : goal.returns-in_err-ask_lengths
+unfolding keyed paired
+returns-in_err-ask_lengths c = ends_at _ _ _ c.from_residual.ensures.1 c.in_err-ask_lengths.ensures
+
 pub returns : goal.returns
 unfolding keyed paired
-returns c = (asks_then (asks-first c.ask_lengths.ensures) c.and.ensures (λ y. c.ask_lengths-2.ensures)).told
+returns c = goes_on _ c.in_ok-ask_lengths.ensures (c.ask_lengths-2.ensures ∙ sym (alone _))

@@ -1,67 +1,35 @@
-use Prim.Native.Nat.{◌≤◌}
-use mathlib.Core.Path.{◌≡◌, ap}
-use lib.ListN.{length}
-use Rattle.column.specs.Asking.{shown_asked}
-use Rattle.column.proofs.Promised.{asked-yes, asked_no}
-use Rattle.batch.proofs.Getting.{get_asked, get-asked, get-room, got-nothing, got-runs, got-refused}
+use Rattle.batch.proofs.Asks.{first-refused}
+use Rattle.batch.proofs.Getting.{get-refused, room-asked, get-room, got-nothing, got-runs}
 use Rattle.batch.proofs.get.Goals as goal
+
+pub returns-in_err-ask_batch : goal.returns-in_err-ask_batch
+returns-in_err-ask_batch c =
+    get-refused _ _ _ _ _ c.scan-at.ensures _ _ _ _ c.from_residual.ensures.1 (first-refused _ c.in_err-ask_batch.ensures)
+
+pub returns-in_err-ask_both : goal.returns-in_err-ask_both
+returns-in_err-ask_both c =
+    get-refused _ _ _ _ _ c.scan-at.ensures _ _ _ _ c.from_residual-in_err-ask_both.ensures.1
+    (room-asked _ _ _ _ _ c.scan-at.ensures c.part_at-found_ends.ensures c.part_at-found_values.ensures _ _ c.in_ok-ask_batch.ensures
+    c.in_err-ask_both.ensures)
 
 pub returns-then-at-keys : goal.returns-then-at-keys
 returns-then-at-keys c =
-    let asked : (let a = c.args in
-    shown_asked c.and-asked.result ≡ get_asked a.keys.now a.offsets.now a.ends.now a.values.now a.key (length a.out_ends.now)
-    (length a.out_values.now)) = let a = c.args in
-    get-asked _ _ _ _ _ c.scan-at.ensures (length a.out_ends.now) (length a.out_values.now) (ap length c.part_at-found_ends.ensures)
-    c.and-asked.ensures c.ask_batch.ensures c.ask_both.ensures in
-    let a = c.args in
-    got-nothing _ _ _ _ _ c.scan-at.ensures a.out_ends.now a.out_values.now (asked-yes asked c.in-Yes.is) c.if-at-keys.true
+    got-nothing _ _ _ _ _ c.scan-at.ensures c.part_at-found_ends.ensures c.part_at-found_values.ensures _ _ c.in_ok-ask_batch.ensures
+    c.in_ok-ask_both.ensures c.if-at-keys.true
 
 pub copy-requires : goal.copy-requires
 copy-requires c =
-    let asked : (let a = c.args in
-    shown_asked c.and-asked.result ≡ get_asked a.keys.now a.offsets.now a.ends.now a.values.now a.key (length a.out_ends.now)
-    (length a.out_values.now)) = let a = c.args in
-    get-asked _ _ _ _ _ c.scan-at.ensures (length a.out_ends.now) (length a.out_values.now) (ap length c.part_at-found_ends.ensures)
-    c.and-asked.ensures c.ask_batch.ensures c.ask_both.ensures in
-    let fits : (let a = c.args in
-    (length c.part_at-found_ends.result.now ≤ length a.out_ends.now)
-    × (length c.part_at-found_values.result.now ≤ length a.out_values.now)) = let a = c.args in
-    let r = get-room _ _ _ _ _ c.scan-at.ensures a.out_ends.now a.out_values.now (asked-yes asked c.in-Yes.is) in
-    (rw c.part_at-found_ends.ensures r.0, rw c.part_at-found_values.ensures r.1) in
-    fits.0
-
-pub copy-requires-in-Yes : goal.copy-requires-in-Yes
-copy-requires-in-Yes c =
-    let asked : (let a = c.args in
-    shown_asked c.and-asked.result ≡ get_asked a.keys.now a.offsets.now a.ends.now a.values.now a.key (length a.out_ends.now)
-    (length a.out_values.now)) = let a = c.args in
-    get-asked _ _ _ _ _ c.scan-at.ensures (length a.out_ends.now) (length a.out_values.now) (ap length c.part_at-found_ends.ensures)
-    c.and-asked.ensures c.ask_batch.ensures c.ask_both.ensures in
-    let fits : (let a = c.args in
-    (length c.part_at-found_ends.result.now ≤ length a.out_ends.now)
-    × (length c.part_at-found_values.result.now ≤ length a.out_values.now)) = let a = c.args in
-    let r = get-room _ _ _ _ _ c.scan-at.ensures a.out_ends.now a.out_values.now (asked-yes asked c.in-Yes.is) in
-    (rw c.part_at-found_ends.ensures r.0, rw c.part_at-found_values.ensures r.1) in
-    fits.1
-
-pub returns-else-at-keys : goal.returns-else-at-keys
-returns-else-at-keys c =
-    let asked : (let a = c.args in
-    shown_asked c.and-asked.result ≡ get_asked a.keys.now a.offsets.now a.ends.now a.values.now a.key (length a.out_ends.now)
-    (length a.out_values.now)) = let a = c.args in
-    get-asked _ _ _ _ _ c.scan-at.ensures (length a.out_ends.now) (length a.out_values.now) (ap length c.part_at-found_ends.ensures)
-    c.and-asked.ensures c.ask_batch.ensures c.ask_both.ensures in
     let a = c.args in
-    got-runs _ _ _ _ _ c.scan-at.ensures a.out_ends.now a.out_values.now (asked-yes asked c.in-Yes.is) c.if-at-keys.false
-    (ap length c.part_at-found_ends.ensures) (rw c.part_at-found_ends.ensures at c.copy.ensures)
-    (rw c.part_at-found_values.ensures at c.copy-in-Yes.ensures)
+    (get-room _ _ _ _ _ c.scan-at.ensures c.part_at-found_ends.ensures c.part_at-found_values.ensures a.out_ends.now a.out_values.now
+    c.in_ok-ask_batch.ensures c.in_ok-ask_both.ensures).0
 
-pub returns-in-No : goal.returns-in-No
-returns-in-No c =
-    let asked : (let a = c.args in
-    shown_asked c.and-asked.result ≡ get_asked a.keys.now a.offsets.now a.ends.now a.values.now a.key (length a.out_ends.now)
-    (length a.out_values.now)) = let a = c.args in
-    get-asked _ _ _ _ _ c.scan-at.ensures (length a.out_ends.now) (length a.out_values.now) (ap length c.part_at-found_ends.ensures)
-    c.and-asked.ensures c.ask_batch.ensures c.ask_both.ensures in
+pub copy-requires-2 : goal.copy-requires-2
+copy-requires-2 c =
     let a = c.args in
-    got-refused _ _ _ _ _ c.scan-at.ensures a.out_ends.now a.out_values.now (asked_no _ asked c.in-No.is)
+    (get-room _ _ _ _ _ c.scan-at.ensures c.part_at-found_ends.ensures c.part_at-found_values.ensures a.out_ends.now a.out_values.now
+    c.in_ok-ask_batch.ensures c.in_ok-ask_both.ensures).1
+
+pub returns : goal.returns
+returns c =
+    got-runs _ _ _ _ _ c.scan-at.ensures c.part_at-found_ends.ensures c.part_at-found_values.ensures _ _ c.in_ok-ask_batch.ensures
+    c.in_ok-ask_both.ensures c.if-at-keys.false c.copy.ensures c.copy-2.ensures

@@ -16,45 +16,25 @@ pub struct Lookup {
 fn enough(a_keys: usize, b_keys: usize) -> bool
     ensures { result ≡ true → (a_keys < 2 ^ 32) × (b_keys < 2 ^ 32) }
 {
-    if batch_keys::inner::index_pays(Order::Unknown, a_keys, b_keys) {
-        return batch_keys::inner::index_pays(Order::Unknown, b_keys, a_keys);
-    }
-    false
+    batch_keys::inner::index_pays(Order::Unknown, a_keys, b_keys)
+        && batch_keys::inner::index_pays(Order::Unknown, b_keys, a_keys)
 }
 
 // Whether both have the same keys at the same positions, where a key is looked for first.
 fn aligned(a_keys: &[u32], b_keys: &[u32]) -> bool {
-    if a_keys.len() != b_keys.len() {
-        return false;
-    }
-    let mut i: usize = 0;
-    while i < a_keys.len() {
-        if a_keys[i] != b_keys[i] {
-            return false;
-        }
-        i += 1;
-    }
-    true
+    a_keys == b_keys
 }
 
 fn ascending(order: Order) -> bool {
-    match order {
-        Order::Ascending => true,
-        Order::Distinct | Order::Unknown => false,
-    }
+    matches!(order, Order::Ascending)
 }
 
 // Whether a search for each key would take longer than an index.
 fn index_pays(a_keys: &[u32], b_keys: &[u32], a_order: Order, b_order: Order) -> bool
     ensures { result ≡ true → (length a_keys.now < 2 ^ 32) × (length b_keys.now < 2 ^ 32) }
 {
-    if aligned(a_keys, b_keys) {
+    if aligned(a_keys, b_keys) || ascending(a_order) && ascending(b_order) {
         return false;
-    }
-    if ascending(a_order) {
-        if ascending(b_order) {
-            return false;
-        }
     }
     enough(a_keys.len(), b_keys.len())
 }

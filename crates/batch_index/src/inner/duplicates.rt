@@ -37,14 +37,12 @@ fn enter_block(
     ensures { CheckedBlock (looked_up table.new filter.now (part from to keys.now)) keys.now from to limit result }
 {
     let mut limit = limit;
-    let mut i = from;
-    while i < to {
+    for i in from..to {
         let at = from + enter(&mut *table, filter, &keys[from..to], i - from);
         if at < i {
             return num::smaller_count(i, limit);
         }
         limit = limit_after(keys, i, at, limit);
-        i += 1;
     }
     limit
 }
@@ -61,12 +59,10 @@ fn pass_rest(
     requires { (from ≤ to) × (to ≤ length keys.now) × (limit ≤ length keys.now) × Sized table.now filter.now }
     ensures { PassedRest (looked_up table.now filter.now (part from to keys.now)) keys.now from to limit result }
 {
-    let mut i = to;
-    while i < limit {
+    for i in to..limit {
         if look_up(table, filter, &keys[from..to], keys[i]) < to - from {
             return i;
         }
-        i += 1;
     }
     limit
 }
@@ -119,14 +115,14 @@ pub fn first_duplicate(keys: &[u32]) -> usize
     }
     let size = block_size(keys.len());
     let mut limit = keys.len();
-    let mut from: usize = 0;
-    while from + size < limit {
-        let to = from + size;
-        limit = pass_block(keys, from, to, limit);
-        from = to;
+    for from in (0..keys.len()).step_by(size) {
+        if limit <= from {
+            return limit;
+        }
+        if limit - from <= size {
+            return pass_last(keys, from, limit);
+        }
+        limit = pass_block(keys, from, from + size, limit);
     }
-    if limit <= from {
-        return limit;
-    }
-    pass_last(keys, from, limit)
+    limit
 }

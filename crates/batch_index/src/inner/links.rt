@@ -50,25 +50,19 @@ fn checked_end(keys: &[u32], from: usize, to: usize, table: &[u16], filter: &[u6
     requires { (from ≤ to) × (to ≤ length keys.now) × Sized table.now filter.now }
     ensures { CheckedEnd (looked_up table.now filter.now (part from to keys.now)) keys.now from to result }
 {
-    let mut i = from;
-    while i < to {
+    for i in from..to {
         if i - from < look_up(table, filter, &keys[from..to], keys[i]) {
             return i;
         }
-        i += 1;
     }
-    i
+    to
 }
 
 fn clear(first: &mut [u16], size: usize)
     requires { size ≤ length first.old }
     ensures { Cleared size first.new }
 {
-    let mut w: usize = 0;
-    while w < size {
-        first[w] = NONE;
-        w += 1;
-    }
+    first[..size].fill(NONE);
 }
 
 // Marks the keys of the block that begin before it.
@@ -85,10 +79,8 @@ fn drop_begun(
         × Cleared size first.old }
     ensures { Marks (looked_up table.now filter.now (part from to keys.now)) keys.now size from first.new }
 {
-    let mut i: usize = 0;
-    while i < from {
+    for i in 0..from {
         let w = look_up(table, filter, &keys[from..to], keys[i]);
-        i += 1;
         if w < size {
             first[w] = DROPPED;
         }
@@ -113,9 +105,7 @@ fn link_keys(
     ensures { LinkedFrom from keys.now first.new next.new positions.new result }
 {
     let mut count: usize = 0;
-    let mut i = keys.len();
-    while from < i {
-        i -= 1;
+    for i in (from..keys.len()).rev() {
         let w = look_up(table, filter, &keys[from..to], keys[i]);
         if w < end - from {
             let head = first[w];

@@ -56,8 +56,7 @@ fn probe(table: &[u16], keys: &[u32], key: u32, from: u32) -> usize
     ensures { result ≡ probed 32 table.now keys.now key from }
 {
     let mut x = from;
-    let mut d: usize = 0;
-    while d < PROBES {
+    for _d in 0..PROBES {
         x = mixed(x);
         let at = widened(table[place(x, table.len())]);
         if keys.len() <= at {
@@ -66,7 +65,6 @@ fn probe(table: &[u16], keys: &[u32], key: u32, from: u32) -> usize
         if keys[at] == key {
             return at;
         }
-        d += 1;
     }
     keys.len()
 }
@@ -91,8 +89,7 @@ fn put(table: &mut [u16], keys: &[u32], i: usize, from: u32) -> usize
 {
     let key = keys[i];
     let mut x = from;
-    let mut d: usize = 0;
-    while d < PROBES {
+    for _d in 0..PROBES {
         x = mixed(x);
         let slot = place(x, table.len());
         let at = widened(table[slot]);
@@ -103,7 +100,6 @@ fn put(table: &mut [u16], keys: &[u32], i: usize, from: u32) -> usize
         if keys[at] == key {
             return at;
         }
-        d += 1;
     }
     keys.len()
 }
@@ -124,10 +120,8 @@ pub fn enter(table: &mut [u16], filter: &[u64], keys: &[u32], i: usize) -> usize
 pub fn fill_filter(filter: &mut [u64], keys: &[u32])
     requires { (0 < length filter.old) × (length filter.old < 2 ^ 26) }
 {
-    let mut i: usize = 0;
-    while i < keys.len() {
-        set(&mut *filter, mixed(keys[i]));
-        i += 1;
+    for key in keys {
+        set(&mut *filter, mixed(*key));
     }
 }
 
@@ -135,9 +129,7 @@ pub fn fill_filter(filter: &mut [u64], keys: &[u32])
 pub fn fill(table: &mut [u16], filter: &[u64], keys: &[u32])
     requires { Sized table.old filter.now × (length keys.now < 2 ^ 16) }
 {
-    let mut i: usize = 0;
-    while i < keys.len() {
+    for i in 0..keys.len() {
         enter(&mut *table, filter, keys, i);
-        i += 1;
     }
 }

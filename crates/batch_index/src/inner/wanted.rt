@@ -11,11 +11,7 @@ fn clear(keys: &[u32], wanted: &[u32], found: &mut [u32])
     requires { (length keys.now < 2 ^ 32) × (length wanted.now ≤ length found.old) }
     ensures { Unfound keys.now wanted.now found.new }
 {
-    let mut i: usize = 0;
-    while i < wanted.len() {
-        found[i] = keys.len() as u32;
-        i += 1;
-    }
+    found[..wanted.len()].fill(keys.len() as u32);
 }
 
 // Notes the position of each key, from the last key to the first, for the wanted key that is found for it.
@@ -24,9 +20,7 @@ fn note_positions(keys: &[u32], wanted: &[u32], table: &[u16], filter: &[u64], f
         × Unfound keys.now wanted.now found.old }
     ensures { FoundOnce (looked_up table.now filter.now wanted.now) keys.now wanted.now found.new }
 {
-    let mut i = keys.len();
-    while 0 < i {
-        i -= 1;
+    for i in (0..keys.len()).rev() {
         let w = look_up(table, filter, wanted, keys[i]);
         if w < wanted.len() {
             found[w] = i as u32;
@@ -60,11 +54,9 @@ fn share_positions(keys: &[u32], wanted: &[u32], table: &[u16], filter: &[u64], 
         × FoundOnce (looked_up table.now filter.now wanted.now) keys.now wanted.now found.old }
     ensures { FoundAll keys.now wanted.now found.new }
 {
-    let mut i: usize = 0;
-    while i < wanted.len() {
+    for i in 0..wanted.len() {
         let at = position_of(keys, wanted, table, filter, &*found, wanted[i]);
         found[i] = at as u32;
-        i += 1;
     }
 }
 

@@ -8,9 +8,6 @@ returns-then-stands_at c =
     let ks = c.args.keys.now in
     apart_found ks _ _ (ascends_apart ks (known-ascends _ ks c.in-Ascending.is c.requires)) c.stands_at.ensures c.if-stands_at.true
 
-pub halve-requires : goal.halve-requires
-halve-requires c = known-ascends _ c.args.keys.now c.in-Ascending.is c.requires
-
 pub returns-then-stands_at-2 : goal.returns-then-stands_at-2
 returns-then-stands_at-2 c =
     apart_found _ _ _ (distinct_apart _ (known_distinct _ _ c.in-Distinct.is c.requires)) c.stands_at-in-Distinct.ensures

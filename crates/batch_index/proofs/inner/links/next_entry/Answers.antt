@@ -3,14 +3,6 @@ use native.Mathlib.Omega.{arith}
 use Rattle.batch_index.proofs.Links.{entry_next, entry-last, next-listed, last-listed}
 use Rattle.batch_index.proofs.inner.links.next_entry.Goals as goal
 
-pub bounds-next-entry : goal.bounds-next-entry
-bounds-next-entry c = let pre = c.requires in omega (arith, pre.0.nexts pre.1, pre.3)
-
-pub bounds-positions-entry : goal.bounds-positions-entry
-bounds-positions-entry c =
-    let pre = c.requires in
-    omega (arith, pre.0.positions pre.1, c.if-entry-lt-CAPACITY.true)
-
 pub returns-then-entry-lt-CAPACITY : goal.returns-then-entry-lt-CAPACITY
 returns-then-entry-lt-CAPACITY c =
     let x = c.widened-entry.ensures in

@@ -1,8 +1,5 @@
-use Rattle.batch_index.proofs.Table.{probing_start, probing_empty, probing_found, probing_next, probing_end}
+use Rattle.batch_index.proofs.Table.{probing_empty, probing_found, probing_next, probing_end}
 use Rattle.batch_index.proofs.inner.table.probe.Goals as goal
-
-pub loop-d-init : goal.loop-d-init
-loop-d-init c = probing_start _ _ _ _
 
 pub returns-then-keys-at : goal.returns-then-keys-at
 returns-then-keys-at c = probing_empty c.loop-d.invariant c.loop-d-test.true c.mixed-x.ensures c.place.ensures.0 c.widened-at.ensures c.if-keys-at.true
