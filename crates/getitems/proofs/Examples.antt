@@ -1,6 +1,6 @@
 -- Worked examples of getitems, computed from its definition. A is document 01's: ends 3, 5, 9, values 7, 2, 7.
 -- Assumes nothing.
-use mathlib.Core.Option.{none}
+use Rattle.std.specs.Prelude.{None}
 use mathlib.Core.List.{List, [], ◌∷◌, map}
 use mathlib.Core.Path.{refl}
 use lib.IntN.{pos, negsuc}
@@ -23,7 +23,7 @@ abbrev rows : List Row
 rows =
     row (as_flat (getitems a (pos 2 ∷ pos 9 ∷ pos 4 ∷ []) (pos 6 ∷ pos 12 ∷ pos 5 ∷ []) (4 ∷ 4 ∷ 4 ∷ [])))
     (answers ((pos 0 ∷ pos 3 ∷ pos 3 ∷ pos 4 ∷ []) ∷ (pos 1 ∷ pos 3 ∷ pos 4 ∷ pos 1 ∷ []) ∷ (pos 7 ∷ pos 2 ∷ pos 7 ∷ pos 2 ∷ []) ∷ []))
-    ∷ row (as_flat (getitems a (pos 2 ∷ negsuc 0 ∷ []) (pos 6 ∷ pos 3 ∷ []) (0 ∷ 0 ∷ 0 ∷ []))) (refused 9 (pos 1 ∷ negsuc 0 ∷ pos 3 ∷ []) none)
+    ∷ row (as_flat (getitems a (pos 2 ∷ negsuc 0 ∷ []) (pos 6 ∷ pos 3 ∷ []) (0 ∷ 0 ∷ 0 ∷ []))) (refused 9 (pos 1 ∷ negsuc 0 ∷ pos 3 ∷ []) None)
     ∷ []
 
 pub examples : Hold rows

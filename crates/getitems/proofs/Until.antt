@@ -1,27 +1,31 @@
 -- A slice from its first run up to the run that ends at or past its end: the searches find the two, and the end of a run tells whether it is the last.
 -- Assumes nothing.
-use Prim.Native.Nat.{ℕ, suc, ◌+◌, ◌-◌, ◌≤◌, ◌<◌, min}
-use mathlib.Core.Bool.{Bool, true, false}
-use mathlib.Core.Option.{none}
+use Prim.Native.Nat.{ℕ, suc, ◌+◌, ◌-◌, ◌≤◌, ◌<◌, ◌^◌, min}
+use mathlib.Core.Bool.{Bool, true, false, not}
+use Rattle.std.specs.Prelude.{None}
 use mathlib.Core.List.{List, [], ◌∷◌}
-use mathlib.Core.Path.{◌≡◌, refl, ap, sym, ◌∙◌}
+use mathlib.Core.Path.{◌≡◌, refl, ap, ap₂, sym, ◌∙◌}
 use native.Mathlib.Omega.{arith}
 use lib.IntN.{ℤ, pos, negsuc, ◌-ℤ◌}
-use lib.Signed.{le_z, lt_z}
-use lib.ListN.{length, get_or, drop, set, length-drop}
+use lib.Signed.{mag, le_z, lt_z}
+use lib.ListN.{length, get_or, drop, set, length-drop, length-set}
+use mir.Syntax.{w64}
+use mir.Val.{SFits, to_z, of_z}
+use mir.Facts.{to_z-of_z}
 use lib.Seq.{get_or-drop}
 use lib.Dec.{ltb}
 use borrow.Author.Tests.{leb-true, ltb-true, ltb-false, lt-ltb, le-ltb}
 use Rattle.num.specs.Numbers.{smaller_of}
-use Rattle.num.proofs.Tests.{by-test, le_lt}
+use Rattle.num.proofs.Tests.{by-test, le_lt, lt_le}
 use Rattle.column.specs.Questions.{ends_valid}
 use Rattle.column.specs.Runs.{to_nat, runs_of, length_of_ends, Filled}
+use Rattle.slice.specs.declared.inner.search.Interval.{Interval}
 use Rattle.slice.specs.declared.inner.search.TouchedRuns.{TouchedRuns}
 use Rattle.slice.specs.Calls.{first_where, first_end_above, slice_runs}
-use Rattle.slice.specs.Workers.{first_end_at_least, touched_by, Touches}
+use Rattle.slice.specs.Workers.{first_end_at_least, clamped_to, touched_by, Touches}
 use Rattle.slice.proofs.Searching.{where_below, where_at, least_above}
-use Rattle.slice.proofs.Slicing.{Slicing, slicing_start, slicing-next, slicing-end}
-use Rattle.slice.proofs.Touching.{Clamped, touched_none, touched_some, touched_inside, touches, touched_count, cut_touched}
+use Rattle.slice.proofs.Slicing.{Slicing, slicing_start, next_fits, slicing-next, slicing-end}
+use Rattle.slice.proofs.Touching.{Clamped, clamped-told, touched_none, touched_some, touched_inside, touches, touched_count, cut_touched}
 use Rattle.getitems.specs.Workers.{sought, found, SliceAt}
 
 -- ---- two tests, of which the looser passes all that the stricter does: the stricter one's end is looked for from the looser one's on
@@ -77,7 +81,7 @@ module _ (start stop : ℤ) (es : List ℤ) (k : 0 < (touched_by start stop es).
       rw ordered (omega (arith, least_on x y es h))
 
   -- a touched run that ends below the slice's end is not the last
-  more-end : ends_valid es ≡ none → (i : ℕ) → i < (touched_by start stop es).count
+  more-end : ends_valid es ≡ None → (i : ℕ) → i < (touched_by start stop es).count
       → lt_z (get_or es ((touched_by start stop es).first + i) (pos 0)) (touched_by start stop es).end ≡ ltb (i + 1) (touched_by start stop es).count
   unfolding touched_by first_end_at_least
   more-end v i h =
@@ -94,7 +98,7 @@ module _ (start stop : ℤ) (es : List ℤ) (k : 0 < (touched_by start stop es).
 
 -- ---- as the code finds them
 
-module _ {es : List ℤ} {start stop f t : ℤ} (c : Clamped es start stop f t) (v : ends_valid es ≡ none) where
+module _ {es : List ℤ} {start stop f t : ℤ} (c : Clamped es start stop f t) (v : ends_valid es ≡ None) where
   pub count_none : le_z t f ≡ true → 0 ≡ (touched_by start stop es).count
   count_none b = ap (λ (r : TouchedRuns). r.count) (touched_none c v b)
 
@@ -116,53 +120,98 @@ module _ {es : List ℤ} {start stop f t : ℤ} (c : Clamped es start stop f t) 
           let j = last_found start stop es count-some in
           (omega (arith, count-some), omega (arith, count-some))
 
-      pub held-touched : {n : ℕ} → n ≡ (touched_by start stop es).count
-          → ◌≡◌ {A = TouchedRuns} (record { first = first; count = n; start = f; end = t }) (touched_by start stop es)
-      held-touched d =
+      held-touched : ◌≡◌ {A = TouchedRuns} (record { first = first; count = (touched_by start stop es).count; start = f; end = t }) (touched_by start stop es)
+      held-touched =
           let i : first ≡ some.first = e ∙ first_found start stop es count-some ∙ ap (λ (r : TouchedRuns). r.first) (sym some_is) in
-          let j = d ∙ ap (λ (r : TouchedRuns). r.count) (sym some_is) in
-          rw (i, j) some_is
+          let j = ap (λ (r : TouchedRuns). r.count) (sym some_is) in
+          ap₂ (λ (a b : ℕ). record { first = a; count = b; start = f; end = t }) i j ∙ some_is
 
 -- ---- the slice written, up to the run that is the last
 
--- n of its runs are written, and a flag says whether there are more
-pub record Until (t : TouchedRuns) (es vs e₀ e v₀ v : List ℤ) (n : ℕ) (more : Bool) : Type 0 where
+-- n of its runs are written, and there are more
+pub record Until (t : TouchedRuns) (es vs e₀ e v₀ v : List ℤ) (n : ℕ) : Type 0 where
   pub slicing : Slicing t es vs e₀ e v₀ v n
-  pub told : more ≡ ltb n t.count
+  pub more : n < t.count
+  pub inside : t.first + n < length es
+  pub room_ends : n < length e
+  pub room_values : n < length v
 
-module _ {es vs e₀ v₀ : List ℤ} {first : ℕ} {start stop : ℤ} (p : SliceAt es vs first start stop e₀ v₀) where
+-- as the locals hold it
+abbrev held : ℤ → ℤ
+held z = to_z w64 (of_z w64 z)
+
+module _ {es vs e₀ v₀ : List ℤ} {first : ℕ} {start stop : ℤ} (p : SliceAt es vs first start stop e₀ v₀) (fs : SFits w64 start) (fe : SFits w64 stop)
+    {i : Interval} (ei : i ≡ clamped_to es (held start) (held stop)) (gs : SFits w64 i.start) (ge : SFits w64 i.end) where
+  interval : Clamped es start stop (held i.start) (held i.end)
+  interval = clamped-told ei fs fe gs ge
+
   slice_touches : Touches (touched_by start stop es) es vs e₀ v₀
   slice_touches =
       let c = touched_count start stop es vs p.valid p.paired in
       touches start stop es vs e₀ v₀ p.valid p.paired (omega (arith, p.room_ends)) (omega (arith, p.room_values))
 
-  slice_written : {e v : List ℤ} {n : ℕ} → Slicing (touched_by start stop es) es vs e₀ e v₀ v n → (touched_by start stop es).count ≤ n
+  slice_written : {e v : List ℤ} {n : ℕ} → Slicing (touched_by start stop es) es vs e₀ e v₀ v n → n ≡ (touched_by start stop es).count
       → Filled (slice_runs start stop (runs_of es vs)) e₀ e v₀ v n
-  slice_written s h = rw (cut_touched start stop es vs p.valid p.paired) at (slicing-end slice_touches s h)
+  slice_written s h = rw (cut_touched start stop es vs p.valid p.paired, sym h) at (slicing-end slice_touches s (omega (arith, h)))
 
-  pub slice_none : 0 ≡ (touched_by start stop es).count → Filled (slice_runs start stop (runs_of es vs)) e₀ e₀ v₀ v₀ 0
-  slice_none d = slice_written (slicing_start slice_touches) (omega arith)
+  pub slice_none : le_z (held i.end) (held i.start) ≡ true → Filled (slice_runs start stop (runs_of es vs)) e₀ e₀ v₀ v₀ 0
+  slice_none b = slice_written (slicing_start slice_touches) (count_none interval p.valid b)
 
-  module _ {t : TouchedRuns} (et : t ≡ touched_by start stop es) where
-    pub until_touches : Touches t es vs e₀ v₀
-    until_touches = rw et slice_touches
+  module _ (b : le_z (held i.end) (held i.start) ≡ false) where
+    abbrev locals : TouchedRuns
+    locals = record { first = first; count = (touched_by (held start) (held stop) es).count; start = held i.start; end = held i.end }
 
-    pub until_start : 0 < (touched_by start stop es).count → Until t es vs e₀ e₀ v₀ v₀ 0 true
-    until_start h = record { slicing = slicing_start until_touches; told = sym (lt-ltb 0 t.count (rw et h)) }
+    locals_are : locals ≡ touched_by start stop es
+    locals_are = rw (to_z-of_z fs, to_z-of_z fe) (held-touched interval p.valid b p.first_found)
 
-    module _ {e v : List ℤ} {n : ℕ} {more : Bool} (u : Until t es vs e₀ e v₀ v n more) where
-      pub until-more : more ≡ true → n < t.count
-      until-more h = ltb-true n t.count (sym u.told ∙ h)
+    counted : locals.count ≡ (touched_by start stop es).count
+    counted = ap (λ (r : TouchedRuns). r.count) locals_are
 
-      pub until-next : more ≡ true → {x y z w : ℤ} → x ≡ get_or es (t.first + n) (pos 0) → y ≡ smaller_of x t.end
-          → z ≡ y -ℤ t.start → w ≡ get_or vs (t.first + n) (pos 0) → Until t es vs e₀ (set e n z) v₀ (set v n w) (n + 1) (lt_z x t.end)
-      until-next h ex ey ez ew =
-          let k = until-more h in
-          let c : n < (touched_by start stop es).count = rw et at k in
-          record {
-            slicing = slicing-next until_touches n k ex ey u.slicing ez ew;
-            told = rw (ex, et) (more-end start stop es (omega arith) p.valid n c);
-          }
+    until_touches : Touches locals es vs e₀ v₀
+    until_touches = rw locals_are slice_touches
 
-      pub until_end : more ≡ false → Filled (slice_runs start stop (runs_of es vs)) e₀ e v₀ v n
-      until_end h = slice_written (rw et at u.slicing) (rw et at (ltb-false n t.count (sym u.told ∙ h)))
+    until_at : {e v : List ℤ} {n : ℕ} → Slicing locals es vs e₀ e v₀ v n → n < locals.count → length e ≡ length e₀ → length v ≡ length v₀
+        → Until locals es vs e₀ e v₀ v n
+    until_at s h le lv =
+        let t = until_touches in
+        record { slicing = s; more = h; inside = omega arith; room_ends = omega arith; room_values = omega arith }
+
+    pub until_start : Until locals es vs e₀ e₀ v₀ v₀ 0
+    until_start = until_at (slicing_start until_touches) (rw counted (count-some interval p.valid b)) refl refl
+
+    module _ {e v : List ℤ} {n : ℕ} (u : Until locals es vs e₀ e v₀ v n) (fx : SFits w64 (get_or es (first + n) (pos 0))) {y : ℤ}
+        (ey : y ≡ smaller_of (held (get_or es (first + n) (pos 0))) (held i.end)) (fy : mag y < 2 ^ 63) where
+      abbrev end : ℤ
+      end = held (get_or es (first + n) (pos 0))
+
+      pub until_fits : SFits w64 (held y -ℤ held i.start)
+      until_fits = next_fits until_touches n u.more ey fy fx refl refl
+
+      more_is : le_z (held i.end) end ≡ not (ltb (n + 1) locals.count)
+      more_is =
+          lt_le end (held i.end)
+          (rw (to_z-of_z fx) (rw (sym locals_are) at (more-end start stop es (count-some interval p.valid b) p.valid n (rw counted at u.more))))
+
+      module _ (fw : SFits w64 (get_or vs (first + n) (pos 0))) where
+        abbrev ends : List ℤ
+        ends = set e n (held (held y -ℤ held i.start))
+
+        abbrev values : List ℤ
+        values = set v n (held (get_or vs (first + n) (pos 0)))
+
+        next : Slicing locals es vs e₀ ends v₀ values (n + 1)
+        next = slicing-next until_touches n u.more ey fy fx refl refl u.slicing (to_z-of_z fw)
+
+        pub until-next : le_z (held i.end) end ≡ false → Until locals es vs e₀ ends v₀ values (n + 1)
+        until-next h =
+            by-test (ltb (n + 1) locals.count)
+            (λ t. until_at next (ltb-true (n + 1) locals.count t) (rw length-set u.slicing.ends.long) (rw length-set u.slicing.values.long))
+            (λ t. absurd (let z : true ≡ false = sym (more_is ∙ ap not t) ∙ h in let w : ◌≡◌ {A = ℕ} 0 1 = cc in omega arith))
+
+        pub until_end : le_z (held i.end) end ≡ true → Filled (slice_runs start stop (runs_of es vs)) e₀ ends v₀ values (n + 1)
+        until_end h =
+            by-test (ltb (n + 1) locals.count)
+            (λ t. absurd (let z : false ≡ true = sym (more_is ∙ ap not t) ∙ h in let w : ◌≡◌ {A = ℕ} 0 1 = cc in omega arith))
+            (λ t. let k = ltb-false (n + 1) locals.count t in
+            let m = u.more in
+            slice_written (rw locals_are at next) (omega (arith, counted)))

@@ -1,6 +1,5 @@
 -- What the workers leave and require.
-use Rattle.std.specs.Prelude.{ℕ, ◌+◌, ◌≤◌, ◌-◌, ◌<◌, ◌^◌, min, List, [], ◌∷◌, map, ◌≡◌, ℤ, pos, length, get_or}
-use Rattle.std.proofs.Math.Option.{none}
+use Rattle.std.specs.Prelude.{ℕ, ◌+◌, ◌≤◌, ◌-◌, ◌<◌, ◌^◌, min, List, [], ◌∷◌, map, ◌≡◌, ℤ, pos, length, get_or, None}
 use Rattle.column.specs.Lists.{total}
 use Rattle.column.specs.Questions.{ends_valid}
 use Rattle.column.specs.Runs.{Sequence, runs, runs_of, to_nat, length_of_ends}
@@ -38,7 +37,7 @@ pub record Begun (es ps : List ℤ) (from back : ℕ) (qs ls : List ℕ) : Type 
 -- they have ended
 pub record Searched (es ps : List ℤ) (back from : ℕ) (bs : List ℕ) : Type 0 where
   pub within : (d : ℕ) → d < block_size → get_or bs d 0 ≤ length es
-  pub found_all : ends_valid es ≡ none → (d : ℕ) → d < block_size → get_or bs d 0 ≡ found es back (get_or ps (from + d) (pos 0))
+  pub found_all : ends_valid es ≡ None → (d : ℕ) → d < block_size → get_or bs d 0 ≡ found es back (get_or ps (from + d) (pos 0))
 
 -- before the position at i is looked for
 abbrev pub Kept : List ℤ → List ℤ → ℕ → List ℕ → ℕ → Type 0
@@ -54,7 +53,7 @@ interval_counts (s ∷ ss) (e ∷ stops) es = (touched_by s e es).count ∷ inte
 
 -- what is known once getitems is not refused
 pub record Gettable (s : Sequence) (starts stops : List ℤ) (x : List ℕ) (e v : List ℤ) : Type 0 where
-  pub valid : ends_valid s.ends ≡ none
+  pub valid : ends_valid s.ends ≡ None
   pub paired : length s.ends ≡ length s.values
   pub intervals : length starts ≡ length stops
   pub room_offsets : length starts + 1 ≤ length x
@@ -63,7 +62,7 @@ pub record Gettable (s : Sequence) (starts stops : List ℤ) (x : List ℕ) (e v
 
 -- the slice of a sequence, whose first run is found, and the room for it
 pub record SliceAt (es vs : List ℤ) (first : ℕ) (start stop : ℤ) (e v : List ℤ) : Type 0 where
-  pub valid : ends_valid es ≡ none
+  pub valid : ends_valid es ≡ None
   pub paired : length es ≡ length vs
   pub first_found : first ≡ found es 0 start
   pub room_ends : length (slice_runs start stop (runs_of es vs)) ≤ length e
@@ -71,7 +70,7 @@ pub record SliceAt (es vs : List ℤ) (first : ℕ) (start stop : ℤ) (e v : Li
 
 -- what is known once slice_reduce is not refused
 pub record Reducible (s : Sequence) (starts stops : List ℤ) (k b : List ℕ) : Type 0 where
-  pub valid : ends_valid s.ends ≡ none
+  pub valid : ends_valid s.ends ≡ None
   pub paired : length s.ends ≡ length s.values
   pub intervals : length starts ≡ length stops
   pub room_kinds : length starts ≤ length k

@@ -1,8 +1,7 @@
 // Workers that assume what the calls have asked.
 pub mod searches;
 
-ghost use Rattle.std.specs.Prelude.{◌<◌, ◌^◌, map, ◌≡◌};
-ghost use Rattle.std.proofs.Math.Option.{none};
+ghost use Rattle.std.specs.Prelude.{◌<◌, ◌^◌, map, ◌≡◌, None};
 ghost use Rattle.column.specs.Questions.{ends_valid};
 ghost use Rattle.column.specs.Runs.{sequence, runs_of, Fills};
 ghost use Rattle.slice.specs.Workers.{touched_by};
@@ -19,7 +18,7 @@ use slice::inner::search;
 pub fn count_at(ends: &[i64], start: i64, stop: i64, first: usize, last: usize) -> usize
     requires { last < 2 ^ 63 }
     ensures { ends_valid ends.now
-        ≡ none → first ≡ found ends.now 0 start → last ≡ found ends.now 1 stop → result ≡ (touched_by start stop ends.now).count }
+        ≡ None → first ≡ found ends.now 0 start → last ≡ found ends.now 1 stop → result ≡ (touched_by start stop ends.now).count }
 {
     let interval = search::clamped(ends, start, stop);
     let from = interval.start;
@@ -54,16 +53,15 @@ fn slice_at(
         return 0;
     }
     let mut n: usize = 0;
-    let mut more = true;
-    while more {
+    loop {
         let end = ends[first + n];
-        let value = values[first + n];
         out_ends[n] = num::smaller(end, to) - from;
-        out_values[n] = value;
+        out_values[n] = values[first + n];
         n += 1;
-        more = end < to;
+        if to <= end {
+            return n;
+        }
     }
-    n
 }
 
 // The slice of each interval, after those of the intervals before it.
@@ -84,8 +82,7 @@ pub fn getitems(
     out_offsets[0] = 0;
     let mut firsts = [0usize; searches::BLOCK];
     let mut used: usize = 0;
-    let mut i: usize = 0;
-    while i < starts.len() {
+    for i in 0..starts.len() {
         let start = starts[i];
         let stop = stops[i];
         let first = searches::find_next(ends, starts, i, 0, &mut firsts);
@@ -98,8 +95,7 @@ pub fn getitems(
             &mut out_ends[used..],
             &mut out_values[used..],
         );
-        i += 1;
-        out_offsets[i] = used;
+        out_offsets[i + 1] = used;
     }
     used
 }
@@ -120,14 +116,12 @@ pub fn slice_reduce(
         (map (reduction code ddof) (interval_runs starts.now stops.now (runs_of ends.now values.now)))
         out_kinds.old out_kinds.new out_bits.old out_bits.new result }
 {
-    let mut i: usize = 0;
-    while i < starts.len() {
+    for i in 0..starts.len() {
         let start = starts[i];
         let stop = stops[i];
         let reduction = reduce::inner::reduce_slice(ends, values, start, stop, code, ddof);
         out_kinds[i] = reduce::inner::kind(reduction);
         out_bits[i] = reduce::inner::bits(reduction);
-        i += 1;
     }
-    i
+    starts.len()
 }

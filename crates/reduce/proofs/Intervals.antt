@@ -2,7 +2,7 @@
 -- Assumes nothing.
 use Prim.Native.Nat.{ℕ, ◌+◌, ◌≤◌, ◌<◌, ◌^◌}
 use mathlib.Core.Bool.{not}
-use mathlib.Core.Option.{none, some}
+use Rattle.std.specs.Prelude.{Some, None, Result, Ok, IsErrAnd}
 use mathlib.Core.List.{List, [], ◌∷◌, ◌++◌}
 use mathlib.Core.Path.{◌≡◌, refl, ap, sym, ◌∙◌}
 use native.Mathlib.Numerals.{add-one}
@@ -14,13 +14,13 @@ use lib.IntN.{ℤ}
 use lib.ListN.{length, get_or, take, set}
 use lib.Seq.{take-suc, take_all}
 use lib.Signed.{mag}
-use Rattle.column.specs.declared.answer.Counted.{Counted}
 use Rattle.column.specs.declared.error.Refusal.{Refusal}
 use Rattle.column.specs.Asking.{Question, ◌otherwise◌}
 use Rattle.column.specs.Paper.{answers, paper}
 use Rattle.column.specs.Questions.{ends_valid}
 use Rattle.column.specs.Runs.{runs_of}
 use Rattle.column.proofs.Buffer.{Written, write_start, write_next}
+use Rattle.column.proofs.Promised.{passed_on}
 use Rattle.slice.specs.declared.inner.search.TouchedRuns.{TouchedRuns}
 use Rattle.slice.specs.Workers.{touched_by}
 use Rattle.slice.specs.Calls.{slice_runs}
@@ -39,8 +39,8 @@ finite_no_nan (fin s m e) h = tt
 
 -- ---- of a slice, by the runs that the code found
 
-module _ (es vs : List ℤ) (valid : ends_valid es ≡ none) (l : length es ≡ length vs) (x y : ℤ) {t : TouchedRuns}
-    (et : ends_valid es ≡ none → t ≡ touched_by x y es) where
+module _ (es vs : List ℤ) (valid : ends_valid es ≡ None) (l : length es ≡ length vs) (x y : ℤ) {t : TouchedRuns}
+    (et : ends_valid es ≡ None → t ≡ touched_by x y es) where
   pub slice-window : mag t.end < 2 ^ 63 → Window t es vs
   slice-window f = rw (et valid) (window_of x y es vs valid l (rw (et valid) at f))
 
@@ -81,10 +81,10 @@ filling_end {rs = rs} {i = i} s h =
 
 -- ---- what a worker wrote, after a "yes" to every question, is what a call promises; and so is what was there, after a "no"
 
-pub reductions-written : {q : Question} (rs : List Reduction) {k k' b b' : List ℕ} {n : ℕ} → q ≡ none → FilledReductions rs k k' b b' n
-    → WrittenReductions (q otherwise rs) (Counted.Count n) k k' b b'
+pub reductions-written : {q : Question} (rs : List Reduction) {k k' b b' : List ℕ} {n : ℕ} → q ≡ None → FilledReductions rs k k' b b' n
+    → WrittenReductions (q otherwise rs) (Ok n) k k' b b'
 reductions-written rs h f = rw h (record { answer = ap answers f.count; kinds = f.kinds; bits = f.bits })
 
-pub reductions-refused : {q : Question} (rs : List Reduction) {r : Refusal} {k b : List ℕ} → q ≡ some (paper r)
-    → WrittenReductions (q otherwise rs) (Counted.Refused r) k k b b
-reductions-refused rs h = rw h (record { answer = refl; kinds = refl; bits = refl })
+pub reductions-refused : {q : Question} (rs : List Reduction) (r : Result ℕ Refusal) (e : Refusal) {k b : List ℕ}
+    → IsErrAnd r (λ (x : Refusal). x ≡ e) → Some (paper e) ≡ q → WrittenReductions (q otherwise rs) r k k b b
+reductions-refused rs r e h f = rw (sym f, passed_on r e h) (record { answer = refl; kinds = refl; bits = refl })

@@ -2,7 +2,7 @@
 -- Assumes nothing.
 use Prim.Native.Nat.{ℕ, ◌≤◌, ◌<◌, ◌^◌}
 use mathlib.Core.Bool.{Bool, true, false, cond, ◌&&◌}
-use mathlib.Core.Option.{none}
+use Rattle.std.specs.Prelude.{None}
 use mathlib.Core.List.{List, [], ◌∷◌}
 use mathlib.Core.Path.{◌≡◌, refl, ap, ap₂, sym, ◌∙◌}
 use native.Mathlib.Omega.{arith}
@@ -10,9 +10,10 @@ use lib.Dec.{T, eqb, lit≤}
 use lib.IntN.{ℤ, pos, ◌-ℤ◌}
 use lib.Ieee.{Float, nan, inf, fin, binary64, div}
 use lib.Ieee.Scale.{finite}
-use lib.Signed.{le_z, lt_z}
+use lib.Signed.{mag, le_z, lt_z}
 use mir.Syntax.{w64}
 use mir.Val.{SFits}
+use mir.Facts.{to_z-of_z}
 use borrow.Author.Tests.{leb-true, leb-false, ne_eqb, le-leb, lt-leb, lt-ltb}
 use Rattle.num.specs.Numbers.{wrap}
 use Rattle.num.proofs.Tests.{by-test, both_true}
@@ -30,11 +31,13 @@ use Rattle.num.proofs.Difference.{difference_of}
 use Rattle.reduce.specs.declared.Reduction.{Reduction}
 use Rattle.reduce.specs.declared.Reduction.TheVariants.{Whole, Fraction, Nothing}
 use Rattle.reduce.specs.Calls.{fold_runs, add_weight, add_product, add_square, plus_zero, sum_runs, mean_of, variance_of, has_variance, reduction}
-use Rattle.reduce.specs.Workers.{Window, window_ends, window_values, window_runs, body_of, ends_pass, SumOf, SquaresOf, divisor_of, VarianceBy, ReducesWindow}
+use Rattle.reduce.specs.Workers.{Window, window_ends, window_values, window_runs, body_of, ends_pass, SumOf, ProductsOf, Squarable, SquaresOf}
+use Rattle.reduce.specs.Workers.{divisor_of, VarianceBy, ReducesWindow}
 use Rattle.reduce.proofs.Divisor.{divisor_natural}
 use Rattle.reduce.proofs.Sums.{wrapped_fold}
 use Rattle.reduce.proofs.Totals.{body_rises}
-use Rattle.reduce.proofs.Walking.{above, last-natural, last-above}
+use Rattle.num.proofs.Bits.{back}
+use Rattle.reduce.proofs.Walking.{held, above, last-natural, last-above}
 use Rattle.reduce.proofs.Windows.{fold_counted, counted_none, counted-length}
 
 pub within-finite : (j : ℕ) (x : Float) → Within j x → T (finite x)
@@ -68,7 +71,7 @@ module _ (t : TouchedRuns) (es vs : List ℤ) (mean : Float) (d : ℤ) (nat : d 
 
 module _ (t : TouchedRuns) (es vs : List ℤ) (w : Window t es vs) where
   abbrev Rises : Type 0
-  Rises = ends_from 0 t.start (window_ends t es) ≡ none
+  Rises = ends_from 0 t.start (window_ends t es) ≡ None
 
   rising-runs : Rises → Rising (to_nat t.start) (runs_of (window_ends t es) (window_values t vs))
   rising-runs n = runs-rise (to_nat t.start) (window_ends t es) (window_values t vs)
@@ -81,7 +84,7 @@ module _ (t : TouchedRuns) (es vs : List ℤ) (w : Window t es vs) where
   -- where not all ends rise, they are refused
   refused : {runs : ℕ} → ends_from 0 t.start (window_ends t es) ≡ ends_pass runs t.count → runs < t.count → Rises → ⊥
   refused {runs} a h n =
-      let q : ◌≡◌ {A = Question} (refusal 4 (pos runs ∷ [])) none = sym (rw (lt-leb t.count runs h) at a) ∙ n in
+      let q : ◌≡◌ {A = Question} (refusal 4 (pos runs ∷ [])) None = sym (rw (lt-leb t.count runs h) at a) ∙ n in
       let x : ◌≡◌ {A = ℕ} 0 1 = cc in
       omega arith
 
@@ -185,3 +188,50 @@ module _ (t : TouchedRuns) (es vs : List ℤ) (w : Window t es vs) where
                   (λ y. let e : d ≡ pos 0 = ed' ∙ rw y in rw y (v.none_by_zero e)));
               finite = λ _. v.finite;
             }
+
+-- ---- the same by what the locals hold
+
+module _ (t : TouchedRuns) (es vs : List ℤ) (w : Window t es vs) (some : t.count ≡ 0 → ⊥) (fs : SFits w64 t.start) (fe : SFits w64 t.end)
+    {runs exact : ℕ} {total : Float} (p : ProductsOf t es vs runs total exact) (h : t.count ≤ runs) where
+  abbrev span : ℤ
+  span = held (held t.end -ℤ held t.start)
+
+  all_rise : Rises t es vs w
+  all_rise = all-rise t es vs w p.totalled.asked h
+
+  span_is : span ≡ t.end -ℤ t.start
+  span_is = rw (to_z-of_z fe, to_z-of_z fs) (to_z-of_z w.fitting)
+
+  pub span-natural : span ≡ pos (to_nat span)
+  span-natural = rw span_is (length-natural t es vs w some all_rise)
+
+  module _ {q : Float} (eq : q ≡ converted span) where
+    mean_held : div binary64 total q ≡ div binary64 total (converted (t.end -ℤ t.start))
+    mean_held = ap (div binary64 total) (eq ∙ ap converted span_is)
+
+    pub reduced-mean : (ddof : ℤ) {code : ℕ} → code ≡ 1 → ReducesWindow code ddof t es vs
+        (record { runs = t.count; reduction = Fraction (record { mean = div binary64 total q; variance = div binary64 total q }) })
+    reduced-mean ddof c =
+        mean-reduced t es vs w some all_rise total mean_held (p.totalled.folded all_rise) ddof c p.totalled.kept
+
+    module _ {ddof d : ℤ} (fo : SFits w64 ddof) (fd : mag d < 2 ^ 63) (ed : d ≡ divisor_of span (held ddof)) where
+      by : held d ≡ divisor_of (t.end -ℤ t.start) ddof
+      by = back d fd ∙ ed ∙ ap₂ divisor_of span_is (to_z-of_z fo)
+
+      pub variable : Squarable t es vs (div binary64 total q) exact × (held d ≡ pos (to_nat (held d)))
+      variable = (
+        record {
+          window = w;
+          some = omega (arith, some);
+          rising = all_rise;
+          bounded = mean-within t es vs w some all_rise total mean_held p.totalled.kept;
+          inside = p.inside;
+          exactly = p.exactly;
+        },
+        divisor_held t es vs w some all_rise ddof by,
+      )
+
+      pub reduced-variance : {code : ℕ} → (code ≡ 0 → ⊥) → (code ≡ 1 → ⊥) → {r : Reduction} → VarianceBy (held d) t es vs (div binary64 total q) r
+          → ReducesWindow code ddof t es vs (record { runs = t.count; reduction = r })
+      reduced-variance c0 c1 {r} v =
+          variance-reduced t es vs w some all_rise total mean_held (p.totalled.folded all_rise) ddof c0 c1 (held d) by r v

@@ -3,7 +3,7 @@
 -- Assumes nothing.
 use Prim.Native.Nat.{ℕ, suc, ◌+◌, ◌-◌, ◌≤◌, ◌<◌, ◌^◌, min}
 use mathlib.Core.Bool.{false}
-use mathlib.Core.Option.{none}
+use Rattle.std.specs.Prelude.{None}
 use mathlib.Core.List.{List, [], ◌∷◌, ◌++◌}
 use mathlib.Core.Path.{◌≡◌, refl, ap, ap₂, ◌∙◌}
 use native.Mathlib.Omega.{arith}
@@ -31,7 +31,7 @@ use Rattle.reduce.specs.Workers.{Window, whole_of, window_ends, window_values, w
 
 -- ---- the touched runs are a window
 
-pub window_of : (start end : ℤ) (es vs : List ℤ) → ends_valid es ≡ none → length es ≡ length vs → mag (touched_by start end es).end < 2 ^ 63
+pub window_of : (start end : ℤ) (es vs : List ℤ) → ends_valid es ≡ None → length es ≡ length vs → mag (touched_by start end es).end < 2 ^ 63
     → Window (touched_by start end es) es vs
 unfolding touched_by
 window_of start end es vs v l f =
@@ -67,8 +67,8 @@ some_runs n = ne_eqb (n + 1) 0 (λ e. omega arith)
 all_but_last : (n : ℕ) → n + 1 - 1 ≡ n
 all_but_last n = omega arith
 
-pub window-rises : (start end : ℤ) (es : List ℤ) → ends_valid es ≡ none
-    → ends_from 0 (touched_by start end es).start (window_ends (touched_by start end es) es) ≡ none
+pub window-rises : (start end : ℤ) (es : List ℤ) → ends_valid es ≡ None
+    → ends_from 0 (touched_by start end es).start (window_ends (touched_by start end es) es) ≡ None
 unfolding touched_by window_ends ends_from
 window-rises start end es v =
     let x = to_nat start in
@@ -110,7 +110,7 @@ cut-within x y p (pos e ∷ es) (v ∷ vs) r l =
     (λ t. rw (t, le-leb e x (ltb-false x e t)) (cut-within x y e es vs r.2 (omega arith)))
 cut-within x y p (negsuc e ∷ es) (v ∷ vs) r l = absurd (let z : ◌≡◌ {A = ℕ} 0 1 = cc in omega arith)
 
-pub window-slice : (start end : ℤ) (es vs : List ℤ) → ends_valid es ≡ none → length es ≡ length vs
+pub window-slice : (start end : ℤ) (es vs : List ℤ) → ends_valid es ≡ None → length es ≡ length vs
     → window_runs (touched_by start end es) es vs ≡ slice_runs start end (runs_of es vs)
 unfolding touched_by window_ends window_values slice_runs runs_of counted_from
 window-slice start end es vs v l =

@@ -1,5 +1,5 @@
 -- reduce.rs: the sum, the mean and the variance.
-use Rattle.std.specs.Prelude.{ℕ, ◌-◌, ◌^◌, Bool, false, cond, ◌&&◌, List, [], ◌∷◌, map, ◌≡◌, T, eqb, ltb, ℤ, pos, ◌+ℤ◌, ◌-ℤ◌, ◌*ℤ◌, length, Float}
+use Rattle.std.specs.Prelude.{ℕ, ◌-◌, ◌^◌, Bool, false, cond, ◌&&◌, List, [], ◌∷◌, map, ◌≡◌, T, eqb, ltb, ℤ, pos, ◌+ℤ◌, ◌-ℤ◌, ◌*ℤ◌, length, Float, Result, Ok, Err}
 use Rattle.std.specs.Int.Signed.{le_z, lt_z}
 use Rattle.std.specs.Float.{fin, binary64}
 use Rattle.std.specs.Float.Ieee.{add, sub, mul, div, to_bits}
@@ -7,15 +7,13 @@ use Rattle.std.specs.Float.Ieee.Scale.{finite}
 use Rattle.num.specs.Numbers.{residue, wrap}
 use Rattle.float.specs.Float.{converted}
 use Rattle.column.specs.Asking.{first_no, ◌otherwise◌}
-use Rattle.column.specs.Paper.{Outcome, answers, refuses, paper, shown_counted, counts, written}
+use Rattle.column.specs.Paper.{Outcome, counts, written, outcome_of}
 use Rattle.column.specs.Questions.{listed, paired, ends_valid}
 use Rattle.column.specs.Runs.{Sequence, Runs, runs, length_of}
-use Rattle.column.specs.declared.answer.Counted.{Counted}
-use Rattle.reduce.specs.declared.Summed.{Summed}
-use Rattle.reduce.specs.declared.Reduced.{Reduced}
 use Rattle.reduce.specs.declared.Reduction.{Reduction}
 use Rattle.reduce.specs.declared.Reduction.TheVariants.{Whole, Fraction, Nothing}
 use Rattle.column.specs.Lent.{Lent, given, after}
+use Rattle.column.specs.declared.error.Refusal.{Refusal}
 
 -- a step for each run from position p on, with its length and its value, in "run order"
 unfoldable pub fold_runs : {A : Type 0} → (A → ℕ → ℤ → A) → A → ℕ → Runs → A
@@ -31,10 +29,6 @@ add_weight sofar run value = sofar +ℤ pos run *ℤ value
 -- "`sum` adds run × value modulo 2^64 as signed"
 unfoldable pub sum_runs : Runs → ℤ
 sum_runs rs = wrap (fold_runs add_weight (pos 0) 0 rs)
-
-abbrev pub shown_summed : Summed → Outcome ℤ
-shown_summed (Summed.Total z) = answers z
-shown_summed (Summed.Refused r) = refuses (paper r)
 
 unfoldable pub sum : Sequence → Outcome ℤ
 sum s = first_no (paired s ∷ ends_valid s.ends ∷ []) otherwise sum_runs (runs s)
@@ -79,10 +73,6 @@ reduction code ddof rs =
 
 -- ---- reduce
 
-abbrev pub shown_reduced : Reduced → Outcome Reduction
-shown_reduced (Reduced.Answer a) = answers a
-shown_reduced (Reduced.Refused r) = refuses (paper r)
-
 -- "a reduction answers Whole, Fraction or Nothing"
 unfoldable pub reduce : Sequence → ℕ → ℤ → Outcome Reduction
 reduce s code ddof = first_no (listed 0 2 code ∷ paired s ∷ ends_valid s.ends ∷ []) otherwise reduction code ddof (runs s)
@@ -93,13 +83,13 @@ FiniteReduction (Whole z) = Unit {0}
 FiniteReduction (Fraction m) = T (finite m.mean) × T (finite m.variance)
 FiniteReduction Nothing = Unit {0}
 
-abbrev pub FiniteReduced : Reduced → Type 0
-FiniteReduced (Reduced.Answer a) = FiniteReduction a
-FiniteReduced (Reduced.Refused r) = Unit {0}
+abbrev pub FiniteReduced : Result Reduction Refusal → Type 0
+FiniteReduced (Ok a) = FiniteReduction a
+FiniteReduced (Err r) = Unit {0}
 
 -- the promise of a call that answers a reduction
-pub record Reduces (o : Outcome Reduction) (r : Reduced) : Type 0 where
-  pub answer : shown_reduced r ≡ o
+pub record Reduces (o : Outcome Reduction) (r : Result Reduction Refusal) : Type 0 where
+  pub answer : outcome_of r ≡ o
   pub finite : FiniteReduced r
 
 -- ---- reductions as they are written: "two buffers of one entry per interval"
@@ -123,12 +113,12 @@ unfoldable pub all_bits : List Reduction → List ℕ
 all_bits rs = map bits_of rs
 
 -- the promise of a call that writes reductions into two buffers, each before and after
-pub record WrittenReductions (o : Outcome (List Reduction)) (r : Counted) (k k' b b' : List ℕ) : Type 0 where
-  pub answer : shown_counted r ≡ counts length o
+pub record WrittenReductions (o : Outcome (List Reduction)) (r : Result ℕ Refusal) (k k' b b' : List ℕ) : Type 0 where
+  pub answer : outcome_of r ≡ counts length o
   pub kinds : k' ≡ written all_kinds o k
   pub bits : b' ≡ written all_bits o b
 
 -- of the buffers that a call is lent: question 12 is about their lengths
-abbrev pub WritesReductions : (List ℕ → Outcome (List Reduction)) → Lent ℕ → Lent ℕ → Counted → Type 0
+abbrev pub WritesReductions : (List ℕ → Outcome (List Reduction)) → Lent ℕ → Lent ℕ → Result ℕ Refusal → Type 0
 WritesReductions call k b r =
     WrittenReductions (call (length (given k) ∷ length (given b) ∷ [])) r (given k) (after k) (given b) (after b)

@@ -1,6 +1,6 @@
 -- What the workers leave and require.
-use Rattle.std.specs.Prelude.{ℕ, ◌+◌, ◌-◌, ◌≤◌, ◌<◌, ◌^◌, true, false, cond, ◌&&◌, List, [], ◌∷◌, ◌++◌, map, ◌≡◌, eqb, leb, ℤ, pos, nat_abs, ◌+ℤ◌, ◌-ℤ◌, ◌*ℤ◌, length, get_or, take, drop, Float}
-use Rattle.std.proofs.Math.Option.{none}
+use Rattle.std.specs.Prelude.{ℕ, ◌+◌, ◌-◌, ◌≤◌, ◌<◌, ◌^◌, true, false, cond, ◌&&◌, List, [], ◌∷◌, ◌++◌, map, ◌≡◌, eqb, leb, ℤ, pos, nat_abs, ◌+ℤ◌}
+use Rattle.std.specs.Prelude.{◌-ℤ◌, ◌*ℤ◌, length, get_or, take, drop, Float, None}
 use Rattle.std.specs.Int.Signed.{le_z, lt_z}
 use Rattle.std.specs.Float.{binary64}
 use Rattle.std.specs.Float.Ieee.{div}
@@ -115,7 +115,7 @@ pub record Window (t : TouchedRuns) (es vs : List ℤ) : Type 0 where
 -- what the steps over the runs of a window come to, where their ends rise
 pub record Totalled {A : Type 0} (step : A → ℕ → ℤ → A) (P : A → Type 0) (first : A) (t : TouchedRuns) (es vs : List ℤ) (runs : ℕ) (total : A) : Type 0 where
   pub asked : ends_from 0 t.start (window_ends t es) ≡ ends_pass runs t.count
-  pub folded : ends_from 0 t.start (window_ends t es) ≡ none → total ≡ fold_runs step first (to_nat t.start) (runs_of (window_ends t es) (window_values t vs))
+  pub folded : ends_from 0 t.start (window_ends t es) ≡ None → total ≡ fold_runs step first (to_nat t.start) (runs_of (window_ends t es) (window_values t vs))
   pub kept : P total
 
 abbrev pub SumOf : TouchedRuns → List ℤ → List ℤ → ℕ → ℤ → Type 0
@@ -130,7 +130,7 @@ pub record ProductsOf (t : TouchedRuns) (es vs : List ℤ) (runs : ℕ) (total :
 pub record Squarable (t : TouchedRuns) (es vs : List ℤ) (mean : Float) (exact : ℕ) : Type 0 where
   pub window : Window t es vs
   pub some : 0 < t.count
-  pub rising : ends_from 0 t.start (window_ends t es) ≡ none
+  pub rising : ends_from 0 t.start (window_ends t es) ≡ None
   pub bounded : Within 180 mean
   pub inside : exact ≤ t.count - 1
   pub exactly : ExactUpTo exact (to_nat t.start) (body_of t es) (body_of t vs)
@@ -162,8 +162,8 @@ window_runs t es vs = counted_from (to_nat t.start) (runs_of (window_ends t es) 
 -- a window is reduced, where its ends rise
 pub record ReducesWindow (code : ℕ) (ddof : ℤ) (t : TouchedRuns) (es vs : List ℤ) (r : WindowReduction) : Type 0 where
   pub asked : ends_from 0 t.start (window_ends t es) ≡ ends_pass r.runs t.count
-  pub answer : ends_from 0 t.start (window_ends t es) ≡ none → r.reduction ≡ reduction code ddof (window_runs t es vs)
-  pub finite : ends_from 0 t.start (window_ends t es) ≡ none → FiniteReduction r.reduction
+  pub answer : ends_from 0 t.start (window_ends t es) ≡ None → r.reduction ≡ reduction code ddof (window_runs t es vs)
+  pub finite : ends_from 0 t.start (window_ends t es) ≡ None → FiniteReduction r.reduction
 
 -- ---- of each interval
 

@@ -1,6 +1,5 @@
 // Workers that assume what the calls have asked. A walk passes runs as long as their ends rise, so that question 4 is asked on the way.
-ghost use Rattle.std.specs.Prelude.{◌≤◌, ◌^◌, true, ◌&&◌, ◌≡◌, pos, nat_abs, length};
-ghost use Rattle.std.proofs.Math.Option.{none};
+ghost use Rattle.std.specs.Prelude.{◌≤◌, ◌^◌, true, ◌&&◌, ◌≡◌, pos, nat_abs, length, None};
 ghost use Rattle.std.specs.Int.Signed.{lt_z};
 ghost use Rattle.column.specs.Questions.{ends_valid};
 ghost use Rattle.column.specs.Runs.{to_nat, runs_of};
@@ -66,8 +65,8 @@ fn sum_pairs(ends: &[i64], values: &[i64], start: i64) -> WholeSum
 {
     let mut total: i64 = 0;
     let mut before = start;
-    let mut i: usize = 0;
-    while i + 1 < ends.len() {
+    for pair in 0..ends.len() / 2 {
+        let i = 2 * pair;
         let first = ends[i];
         let second = ends[i + 1];
         if !both_rise(before, first, second) {
@@ -80,10 +79,9 @@ fn sum_pairs(ends: &[i64], values: &[i64], start: i64) -> WholeSum
         let one = add_weight(total, first - before, values[i]);
         total = add_weight(one, second - first, values[i + 1]);
         before = second;
-        i += 2;
     }
     WholeSum {
-        runs: i,
+        runs: ends.len() / 2 * 2,
         end: before,
         total,
     }
@@ -97,8 +95,7 @@ fn sum_runs(ends: &[i64], values: &[i64], start: i64) -> WholeSum
     let pairs = sum_pairs(ends, values, start);
     let mut total = pairs.total;
     let mut before = pairs.end;
-    let mut i = pairs.runs;
-    while i < ends.len() {
+    for i in pairs.runs..ends.len() {
         let end = ends[i];
         if end <= before {
             return WholeSum {
@@ -109,10 +106,9 @@ fn sum_runs(ends: &[i64], values: &[i64], start: i64) -> WholeSum
         }
         total = add_weight(total, end - before, values[i]);
         before = end;
-        i += 1;
     }
     WholeSum {
-        runs: i,
+        runs: ends.len(),
         end: before,
         total,
     }
@@ -184,8 +180,7 @@ fn exact_products(ends: &[i64], values: &[i64], start: i64) -> FloatSum
 {
     let mut total = 0.0;
     let mut before = start;
-    let mut i: usize = 0;
-    while i < ends.len() {
+    for i in 0..ends.len() {
         let end = ends[i];
         let value = values[i];
         if !is_exact(before, end, value) {
@@ -197,10 +192,9 @@ fn exact_products(ends: &[i64], values: &[i64], start: i64) -> FloatSum
         }
         total = add_exact_product(total, end - before, value);
         before = end;
-        i += 1;
     }
     FloatSum {
-        runs: i,
+        runs: ends.len(),
         end: before,
         total,
     }
@@ -214,8 +208,7 @@ fn products(ends: &[i64], values: &[i64], start: i64) -> ProductSum
     let exact = exact_products(ends, values, start);
     let mut total = exact.total;
     let mut before = exact.end;
-    let mut i = exact.runs;
-    while i < ends.len() {
+    for i in exact.runs..ends.len() {
         let end = ends[i];
         if end <= before {
             return ProductSum {
@@ -227,10 +220,9 @@ fn products(ends: &[i64], values: &[i64], start: i64) -> ProductSum
         }
         total = add_product(total, end - before, values[i]);
         before = end;
-        i += 1;
     }
     ProductSum {
-        runs: i,
+        runs: ends.len(),
         end: before,
         total,
         exact: exact.runs,
@@ -296,15 +288,13 @@ fn exact_squares(ends: &[i64], values: &[i64], start: i64, mean: f64, exact: usi
 {
     let mut total = 0.0;
     let mut before = start;
-    let mut i: usize = 0;
-    while i < exact {
+    for i in 0..exact {
         let end = ends[i];
         total = add_exact_square(mean, total, end - before, values[i]);
         before = end;
-        i += 1;
     }
     FloatSum {
-        runs: i,
+        runs: exact,
         end: before,
         total,
     }
@@ -318,15 +308,13 @@ fn squares(ends: &[i64], values: &[i64], start: i64, mean: f64, exact: usize) ->
     let first = exact_squares(ends, values, start, mean, exact);
     let mut total = first.total;
     let mut before = first.end;
-    let mut i = first.runs;
-    while i < ends.len() {
+    for i in first.runs..ends.len() {
         let end = ends[i];
         total = add_square(mean, total, end - before, values[i]);
         before = end;
-        i += 1;
     }
     FloatSum {
-        runs: i,
+        runs: ends.len(),
         end: before,
         total,
     }
@@ -439,7 +427,7 @@ pub fn reduce_slice(
     code: u8,
     ddof: i64,
 ) -> Reduction
-    requires { (ends_valid ends.now ≡ none) × (length ends.now ≡ length values.now) }
+    requires { (ends_valid ends.now ≡ None) × (length ends.now ≡ length values.now) }
     ensures { (result ≡ reduction code ddof (slice_runs start stop (runs_of ends.now values.now))) × FiniteReduction result }
 {
     let window = search::touched(ends, start, stop);

@@ -1,14 +1,14 @@
 -- A sequence moved up or down: what is left of it, by the run at which it is cut, and the fill before or after it.
 -- Assumes nothing.
 use Prim.Native.Nat.{ℕ, zero, suc, ◌+◌, ◌-◌, ◌≤◌, ◌<◌, ◌^◌, min}
-use mathlib.Core.Bool.{Bool, true, false}
+use mathlib.Core.Bool.{true, false}
 use mathlib.Core.List.{List, [], ◌∷◌, ◌++◌, append_assoc, append-nil}
-use mathlib.Core.Option.{none}
+use Rattle.std.specs.Prelude.{None}
 use mathlib.Core.Path.{◌≡◌, refl, ap, sym, ◌∙◌}
 use native.Mathlib.Omega.{arith}
 use lib.Dec.{leb, ltb}
 use lib.IntN.{ℤ, pos, negsuc, nat_abs}
-use lib.ListN.{length, get_or, take, drop, replicate, length-append, length-replicate, length-drop, length-set, drop_of_length-le}
+use lib.ListN.{length, get_or, take, drop, replicate, length-append, length-replicate, length-drop, drop_of_length-le}
 use lib.Seq.{take_all, length-take-le, get_or-drop}
 use lib.Signed.{mag, lt_z}
 use borrow.Author.Tests.{leb-true, leb-false, ltb-true, ltb-false}
@@ -146,17 +146,21 @@ part-back : {A : Type 0} (n m : ℕ) (xs : List A) → length xs ≤ m → part 
 part-back n m xs h = take_all (m - n) (drop n xs) (rw length-drop (omega arith))
 
 -- down: l is the first run that is left, and pe and pv are the ends and values from it on
-pub record DownCut (es vs : List ℤ) (by l : ℕ) (value : ℤ) (pe pv : List ℤ) : Type 0 where
-  pub first : l ≡ first_end_above (pos by) es
-  pub shown : value ≡ get_or vs l (pos 0)
-  pub ends : pe ≡ part l (length es) es
-  pub values : pv ≡ part l (length es) vs
+record DownCut (es vs : List ℤ) (by l : ℕ) (value : ℤ) (pe pv : List ℤ) : Type 0 where
+  first : l ≡ first_end_above (pos by) es
+  shown : value ≡ get_or vs l (pos 0)
+  ends : pe ≡ part l (length es) es
+  values : pv ≡ part l (length es) vs
 
 -- up: l is the run at which it is cut, and pe and pv are the ends and values before it
-pub record UpCut (es vs : List ℤ) (last l : ℕ) (pe pv : List ℤ) : Type 0 where
-  pub first : l ≡ first_end_above (pos last) es
-  pub ends : pe ≡ part 0 l es
-  pub values : pv ≡ part 0 l vs
+record UpCut (es vs : List ℤ) (last l : ℕ) (pe pv : List ℤ) : Type 0 where
+  first : l ≡ first_end_above (pos last) es
+  ends : pe ≡ part 0 l es
+  values : pv ≡ part 0 l vs
+
+-- as a local holds it
+abbrev held : ℤ → ℤ
+held z = to_z w64 (of_z w64 z)
 
 module _ {es vs : List ℤ} {by n : ℕ} {e₀ v₀ : List ℤ} (q : Shiftable es vs by n e₀ v₀) where
   rises : RisingEnds 0 es
@@ -174,26 +178,20 @@ module _ {es vs : List ℤ} {by n : ℕ} {e₀ v₀ : List ℤ} (q : Shiftable e
   unfolding length_of_ends
   last_is = ap to_nat (length_of-ends es vs q.valid q.paired) ∙ sym q.whole
 
-  pub found : {l : ℕ} {z : ℤ} (k : ℕ) → (ends_valid es ≡ none → l ≡ first_end_above z es) → z ≡ pos k → l ≡ first_end_above (pos k) es
-  found k h e = h q.valid ∙ ap (λ (z : ℤ). first_end_above z es) e
+  found : {l : ℕ} (k : ℕ) → k < n → (ends_valid es ≡ None → l ≡ first_end_above (to_z w64 k) es) → l ≡ first_end_above (pos k) es
+  found k h e = let f : k < 2 ^ 63 = omega (arith, q.fitting) in e q.valid ∙ ap (λ (z : ℤ). first_end_above z es) (to_z_pos w64 f)
 
   -- an end above a position before the length is inside
   inside : (k : ℕ) → k < n → first_end_above (pos k) es < length es
   inside k h = above-inside 0 k es rises (omega (arith, last_is)) (omega arith)
 
-  pub first_inside : {l : ℕ} → l ≡ first_end_above (pos by) es → l < length es
-  first_inside e = rw e (inside by q.short)
-
-  pub last_inside : {l : ℕ} → l ≡ first_end_above (pos (n - by - 1)) es → l < length es
-  last_inside e = rw e (inside (n - by - 1) (omega (arith, q.short)))
-
-  pub fill_place : (fill : ℤ) → let next = next_place (record { at = 0; last = fill }) fill in (0 + 1 < 2 ^ 64) × (next < length e₀) × (next < length v₀)
+  fill_place : (fill : ℤ) → let next = next_place (record { at = 0; last = fill }) fill in (0 + 1 < 2 ^ 64) × (next < length e₀) × (next < length v₀)
   fill_place fill =
       let a = merge_at (merge_start fill e₀ v₀) fill (λ z. refl) in
       (omega arith, omega (arith, q.room_ends), omega (arith, q.room_values))
 
   -- a run of the fill up to k
-  pub fill_run : (fill : ℤ) {z : ℤ} {e v : List ℤ} {w : Writer} (k : ℕ) → 0 < k
+  fill_run : (fill : ℤ) {z : ℤ} {e v : List ℤ} {w : Writer} (k : ℕ) → 0 < k
       → PushedMerged (record { at = 0; last = fill }) z fill e₀ e v₀ v w → z ≡ pos k → Merging (encode (replicate k fill)) fill e₀ v₀ e v w
   unfolding encode encode_from
   fill_run fill k h d ez =
@@ -216,34 +214,40 @@ module _ {es vs : List ℤ} {by n : ℕ} {e₀ v₀ : List ℤ} (q : Shiftable e
       let c = encode-pos ys h in
       merge_more m x (λ z. let f : ⊥ = omega arith in absurd f) n d ez (encode_up ys n x short) (omega (arith, q.room_ends)) (omega (arith, q.room_values))
 
-  -- the buffers stay as long, and the place is one of theirs
+  -- the place is one of the buffers'
   kept : {first x z : ℤ} {rs : Runs} {e v e' v' : List ℤ} {w next : Writer} → Merging rs first e₀ v₀ e v w
       → (w.at + 1 < 2 ^ 64) × (next_place w x < length e) × (next_place w x < length v) → PushedMerged w z x e e' v v' next → length e₀ < 2 ^ 63
-      → (next.at + 1 < 2 ^ 64) × (length e' ≡ length e₀) × (length v' ≡ length v₀)
-  kept m r d short = (
-    omega (arith, d.place, r.1, m.long_ends),
-    ap length d.ends ∙ rw length-set m.long_ends,
-    ap length d.values ∙ rw length-set m.long_values,
-  )
+      → next.at + 1 < 2 ^ 64
+  kept m r d short = omega (arith, d.place, r.1, m.long_ends)
 
-  pub filled : (ys : List ℤ) {first : ℤ} {e v : List ℤ} {w : Writer} → Merging (encode ys) first e₀ v₀ e v w → 0 < length ys
+  filled : (ys : List ℤ) {first : ℤ} {e v : List ℤ} {w : Writer} → Merging (encode ys) first e₀ v₀ e v w → 0 < length ys
       → Filled (encode ys) e₀ e v₀ v (w.at + 1)
   filled ys m h = merge_end m (encode-pos ys h)
 
   -- ---- down
 
-  module _ {l : ℕ} {value : ℤ} {pe pv : List ℤ} (cut : DownCut es vs by l value pe pv) where
+  pub first_inside : {l : ℕ} → (ends_valid es ≡ None → l ≡ first_end_above (to_z w64 by) es) → l < length es
+  first_inside el = rw (found by q.short el) (inside by q.short)
+
+  module _ {l : ℕ} {pe pv : List ℤ} (el : ends_valid es ≡ None → l ≡ first_end_above (to_z w64 by) es) (fv : SFits w64 (get_or vs l (pos 0)))
+      (ee : pe ≡ part l (length es) es) (ev' : pv ≡ part l (length es) vs) where
+    abbrev value : ℤ
+    value = held (get_or vs l (pos 0))
+
+    down_cut : DownCut es vs by l value pe pv
+    down_cut = record { first = found by q.short el; shown = to_z-of_z fv; ends = ee; values = ev' }
+
     ep : pe ≡ drop l es
-    ep = cut.ends ∙ part-back l (length es) es (omega arith)
+    ep = down_cut.ends ∙ part-back l (length es) es (omega arith)
 
     ev : pv ≡ drop l vs
-    ev = cut.values ∙ part-back l (length es) vs (omega (arith, q.paired))
+    ev = down_cut.values ∙ part-back l (length es) vs (omega (arith, q.paired))
 
     left : Left 0 by l es vs
-    left = rw cut.first (left-above 0 by es vs rises q.paired (omega arith))
+    left = rw down_cut.first (left-above 0 by es vs rises q.paired (omega arith))
 
     below : l < length es
-    below = first_inside cut.first
+    below = first_inside el
 
     count_left : length pe ≡ length es - l
     count_left = ap length ep ∙ length-drop l es
@@ -266,7 +270,7 @@ module _ {es vs : List ℤ} {by n : ℕ} {e₀ v₀ : List ℤ} (q : Shiftable e
     first-shown : value ≡ get_or pv 0 (pos 0)
     first-shown =
         let z : l + 0 ≡ l = omega arith in
-        cut.shown ∙ sym (ap (λ (l' : List ℤ). get_or l' 0 (pos 0)) ev ∙ get_or-drop l vs 0 (pos 0) ∙ rw z)
+        down_cut.shown ∙ sym (ap (λ (l' : List ℤ). get_or l' 0 (pos 0)) ev ∙ get_or-drop l vs 0 (pos 0) ∙ rw z)
 
     down-behind : Behind [] value e₀ v₀ e₀ v₀ (record { at = 0; last = value }) pe pv
     down-behind = record {
@@ -305,9 +309,6 @@ module _ {es vs : List ℤ} {by n : ℕ} {e₀ v₀ : List ℤ} (q : Shiftable e
         (omega (arith, push_few [] (moved by 0 (runs_of pe pv)), length_moved by 0 (runs_of pe pv), length_runs pe pv paired-left, count_left))
 
     module _ {e v : List ℤ} {w : Writer} (a : Appended by 0 pe pv e₀ e v₀ v (record { at = 0; last = value }) w) where
-      pub down-long : (length e ≡ length e₀) × (length v ≡ length v₀)
-      down-long = let m = down-merging a in (m.long_ends, m.long_values)
-
       pub down-at : w.at ≤ length es
       down-at = omega (arith, (down-merging a).at_last, few-left)
 
@@ -321,31 +322,40 @@ module _ {es vs : List ℤ} {by n : ℕ} {e₀ v₀ : List ℤ} (q : Shiftable e
       down-room fill short = last_place ys fill (down-merging a) (omega (arith, length_ys, q.short)) few-left short
 
       pub down-kept : {fill z : ℤ} {e' v' : List ℤ} {next : Writer} → PushedMerged w z fill e e' v v' next → length e₀ < 2 ^ 63
-          → (next.at + 1 < 2 ^ 64) × (length e' ≡ length e₀) × (length v' ≡ length v₀)
+          → next.at + 1 < 2 ^ 64
       down-kept {fill} d short = kept (down-merging a) (down-room fill short) d short
 
-      pub down-end : {fill z : ℤ} {e' v' : List ℤ} {next : Writer} → 0 < by → PushedMerged w z fill e e' v v' next → z ≡ pos n
+      pub down-end : {fill : ℤ} {e' v' : List ℤ} {next : Writer} → 0 < by → PushedMerged w (to_z w64 n) fill e e' v v' next
           → Filled (encode (shifted_down by fill (dense (runs_of es vs)))) e₀ e' v₀ v' (next.at + 1)
       unfolding xs ys
-      down-end {fill} some d ez =
+      down-end {fill} some d =
           let m : n - length (drop by (dense (runs_of es vs))) ≡ by = omega (arith, length_ys, q.short) in
-          let k = last_run ys (down-merging a) (omega (arith, length_ys, q.short)) few-left (omega (arith, length_ys, q.short)) d ez in
+          let k = last_run ys (down-merging a) (omega (arith, length_ys, q.short)) few-left (omega (arith, length_ys, q.short)) d (to_z_pos w64 q.fitting) in
           rw m at (filled (ys ++ replicate (n - length ys) fill) k (rw length-append (omega (arith, length_ys, q.short))))
 
   -- ---- up
 
-  module _ (some : 0 < by) {l : ℕ} {pe pv : List ℤ} (cut : UpCut es vs (n - by - 1) l pe pv) (fill : ℤ) where
+  pub last_inside : {l : ℕ} → (ends_valid es ≡ None → l ≡ first_end_above (to_z w64 (n - by - 1)) es) → l < length es
+  last_inside el =
+      let h : n - by - 1 < n = omega (arith, q.short) in
+      rw (found (n - by - 1) h el) (inside (n - by - 1) h)
+
+  module _ (some : 0 < by) {l : ℕ} {pe pv : List ℤ} (el : ends_valid es ≡ None → l ≡ first_end_above (to_z w64 (n - by - 1)) es)
+      (ee : pe ≡ part 0 l es) (ev : pv ≡ part 0 l vs) (fill : ℤ) where
+    up_cut : UpCut es vs (n - by - 1) l pe pv
+    up_cut = record { first = found (n - by - 1) (omega (arith, q.short)) el; ends = ee; values = ev }
+
     pe_is : pe ≡ take l es
-    pe_is = cut.ends ∙ part-front l es
+    pe_is = up_cut.ends ∙ part-front l es
 
     pv_is : pv ≡ take l vs
-    pv_is = cut.values ∙ part-front l vs
+    pv_is = up_cut.values ∙ part-front l vs
 
     up_below : l < length es
-    up_below = last_inside cut.first
+    up_below = last_inside el
 
     front : Front 0 (n - by - 1) l es vs
-    front = rw cut.first (front_above 0 (n - by - 1) es vs rises q.paired (omega arith) (rw cut.first at up_below))
+    front = rw up_cut.first (front_above 0 (n - by - 1) es vs rises q.paired (omega arith) (rw up_cut.first at up_below))
 
     count-front : length pe ≡ l
     count-front = ap length pe_is ∙ length-take-le l es (omega (arith, up_below))
@@ -432,23 +442,19 @@ module _ {es vs : List ℤ} {by n : ℕ} {e₀ v₀ : List ℤ} (q : Shiftable e
             (append_assoc (replicate by fill) (dense_from 0 (runs_of (take l es) (take l vs))) (replicate (suc (n - by - 1) - end-front) (get_or vs l (pos 0)))
             ∙ ap (λ (r : List ℤ). replicate by fill ++ r) (front.shown ∙ ap (λ (c : ℕ). take c (dense_from 0 (runs_of es vs))) i))
 
-        pub up-end : {x z : ℤ} {e'' v'' : List ℤ} {next : Writer} → x ≡ get_or vs l (pos 0) → PushedMerged w' z x e' e'' v' v'' next → z ≡ pos n
+        pub up-end : {e'' v'' : List ℤ} {next : Writer} → SFits w64 (get_or vs l (pos 0))
+            → PushedMerged w' (to_z w64 n) (held (get_or vs l (pos 0))) e' e'' v' v'' next
             → Filled (encode (shifted_up by fill (dense (runs_of es vs)))) e₀ e'' v₀ v'' (next.at + 1)
-        up-end {x} ex d ez =
-            let k = last_run zs up-merging (omega (arith, length_zs, some)) few-front (omega (arith, length_zs, front_low, q.short)) d ez in
-            rw (up-whole ex) at (filled (zs ++ replicate (n - length zs) x) k (rw length-append (omega (arith, length_zs, some))))
+        up-end fx d =
+            let x = held (get_or vs l (pos 0)) in
+            let k = last_run zs up-merging (omega (arith, length_zs, some)) few-front (omega (arith, length_zs, front_low, q.short)) d (to_z_pos w64 q.fitting) in
+            rw (up-whole (to_z-of_z fx)) at (filled (zs ++ replicate (n - length zs) x) k (rw length-append (omega (arith, length_zs, some))))
 
         pub up_kept : {x z : ℤ} {e'' v'' : List ℤ} {next : Writer} → PushedMerged w' z x e' e'' v' v'' next → length e₀ < 2 ^ 63
-            → (next.at + 1 < 2 ^ 64) × (length e'' ≡ length e₀) × (length v'' ≡ length v₀)
+            → next.at + 1 < 2 ^ 64
         up_kept {x} d short = kept up-merging (up_room x short) d short
 
 -- ---- by any distance
-
--- the fill alone, up to the length
-pub fill-kept : {es vs : List ℤ} {n : ℕ} {e₀ v₀ : List ℤ} (q : Shiftable es vs 0 n e₀ v₀) {fill z : ℤ} {e v : List ℤ} {w : Writer}
-    → PushedMerged (record { at = 0; last = fill }) z fill e₀ e v₀ v w → length e₀ < 2 ^ 63
-    → (w.at + 1 < 2 ^ 64) × (length e ≡ length e₀) × (length v ≡ length v₀)
-fill-kept {e₀ = e₀} {v₀ = v₀} q {fill} d short = kept q (merge_start fill e₀ v₀) (fill_place q fill) d short
 
 module _ (fill : ℤ) (ys : List ℤ) where
   values-none : (d : ℤ) → length ys ≡ 0 → shift_values d fill ys ≡ []
@@ -485,24 +491,24 @@ module _ (fill : ℤ) (ys : List ℤ) where
       rw (a, b, z) (append-nil ys ∙ sym (take_all (length ys) ys (omega arith)))
   values-down (negsuc k) t h = let a : min (suc k) (length ys) ≡ suc k = omega arith in rw a
 
-module _ (es vs : List ℤ) (valid : ends_valid es ≡ none) (distance fill : ℤ) where
+module _ (es vs : List ℤ) (valid : ends_valid es ≡ None) (distance fill : ℤ) where
   shown-length : length (dense (runs_of es vs)) ≡ length_of (runs_of es vs)
   shown-length = length-dense (runs_of es vs) (runs-rise 0 es vs (rising es valid))
 
   -- no positions
-  pub shift_none : (e₀ v₀ : List ℤ) → length_of (runs_of es vs) ≡ 0 → Filled (encode (shift_values distance fill (dense (runs_of es vs)))) e₀ e₀ v₀ v₀ 0
+  shift_none : (e₀ v₀ : List ℤ) → length_of (runs_of es vs) ≡ 0 → Filled (encode (shift_values distance fill (dense (runs_of es vs)))) e₀ e₀ v₀ v₀ 0
   unfolding encode encode_from
   shift_none e₀ v₀ h = rw (values-none fill (dense (runs_of es vs)) distance (shown-length ∙ h)) (fill_none e₀ v₀)
 
   -- none that stays
-  pub shift-all : length_of (runs_of es vs) ≤ nat_abs distance → replicate (length_of (runs_of es vs)) fill ≡ shift_values distance fill (dense (runs_of es vs))
+  shift-all : length_of (runs_of es vs) ≤ nat_abs distance → replicate (length_of (runs_of es vs)) fill ≡ shift_values distance fill (dense (runs_of es vs))
   shift-all h = rw shown-length at (values-all fill (dense (runs_of es vs)) distance (rw shown-length h))
 
-  pub shift_up : lt_z (pos 0) distance ≡ true → nat_abs distance < length_of (runs_of es vs)
+  shift_up : lt_z (pos 0) distance ≡ true → nat_abs distance < length_of (runs_of es vs)
       → shifted_up (nat_abs distance) fill (dense (runs_of es vs)) ≡ shift_values distance fill (dense (runs_of es vs))
   shift_up t h = values_up fill (dense (runs_of es vs)) distance t (rw shown-length h)
 
-  pub shift-down : lt_z (pos 0) distance ≡ false → nat_abs distance < length_of (runs_of es vs)
+  shift-down : lt_z (pos 0) distance ≡ false → nat_abs distance < length_of (runs_of es vs)
       → shifted_down (nat_abs distance) fill (dense (runs_of es vs)) ≡ shift_values distance fill (dense (runs_of es vs))
   shift-down t h = values-down fill (dense (runs_of es vs)) distance t (rw shown-length h)
 
@@ -551,43 +557,68 @@ shift-few (negsuc n) fill rs h =
     let m = min (suc n) (length (dense_from 0 rs)) in
     omega (arith, append-few ys (replicate m fill), constant_few m fill, drop-few (suc n) 0 rs h)
 
--- a distance above 0, by the test of the code
-pub above_zero : {d : ℤ} {b : Bool} → SFits w64 d → lt_z (pos 0) (to_z w64 (of_z w64 d)) ≡ b → lt_z (pos 0) d ≡ b
-above_zero f t = rw (to_z-of_z f) at t
+-- ---- the call, by what the locals hold
 
--- it is some
-pub up_some : {d : ℤ} {by : ℕ} → SFits w64 d → lt_z (pos 0) (to_z w64 (of_z w64 d)) ≡ true → by ≡ nat_abs d → 0 < by
-up_some {d} f t e = rw e (go d (above_zero f t))
-  where
-    go : (x : ℤ) → lt_z (pos 0) x ≡ true → 0 < nat_abs x
-    go (pos k) u = ltb-true 0 k u
-    go (negsuc k) u = omega arith
+distance-is : {distance : ℤ} {by : ℕ} → SFits w64 distance → by ≡ nat_abs (held distance) → by ≡ nat_abs distance
+distance-is fd eb = eb ∙ ap nat_abs (to_z-of_z fd)
 
--- ---- what the code knows of the length
+-- a distance above 0 moves by some
+some-moved : (d : ℤ) → lt_z (pos 0) d ≡ true → 0 < nat_abs d
+some-moved (pos k) u = ltb-true 0 k u
+some-moved (negsuc k) u = omega arith
 
-pub record LengthKnown (es vs : List ℤ) (n : ℕ) : Type 0 where
-  pub valid : ends_valid es ≡ none
-  pub paired : length es ≡ length vs
+pub shift-some : (distance : ℤ) {by : ℕ} → by ≡ nat_abs (held distance) → lt_z (pos 0) (held distance) ≡ true → 0 < by
+shift-some distance eb t = rw eb (some-moved (held distance) t)
+
+pub record ShiftKnown (es vs e₀ v₀ : List ℤ) (n : ℕ) : Type 0 where
+  pub valid : ends_valid es ≡ None
   pub whole : n ≡ length_of (runs_of es vs)
-  pub fitting : n < 2 ^ 63
+  pub moved : (by : ℕ) → by < n → Shiftable es vs by n e₀ v₀
 
-pub length-known : {es vs : List ℤ} {y : ℤ} {n : ℕ} → ends_valid es ≡ none → length es ≡ length vs → mag y < 2 ^ 63 → y ≡ length_of_ends es
-    → n ≡ to_nat (to_z w64 (of_z w64 y)) → LengthKnown es vs n
-length-known {es} {vs} {y} valid paired fits ey en = record {
-  valid = valid;
-  paired = paired;
-  whole = en ∙ ap to_nat (back y fits ∙ ey ∙ length_of-ends es vs valid paired);
-  fitting = rw (en, back y fits) (to_nat-below y (record { sfits = fits }));
-}
+pub shift_known : (es vs e₀ v₀ : List ℤ)
+    → (ends_valid es ≡ None) × (length es ≡ length vs) × (length es + 1 ≤ length e₀) × (length es + 1 ≤ length v₀)
+    → {y : ℤ} → mag y < 2 ^ 63 → y ≡ length_of_ends es → {n : ℕ} → n ≡ to_nat (held y) → ShiftKnown es vs e₀ v₀ n
+shift_known es vs e₀ v₀ p {y} fy ey en =
+    let w = en ∙ ap to_nat (back y fy ∙ ey ∙ length_of-ends es vs p.0 p.1) in
+    record {
+      valid = p.0;
+      whole = w;
+      moved = λ by h. record {
+        valid = p.0;
+        paired = p.1;
+        whole = w;
+        short = h;
+        fitting = rw (en, back y fy) (to_nat-below y (record { sfits = fy }));
+        room_ends = p.2;
+        room_values = p.3;
+      };
+    }
 
-pub shiftable : {es vs : List ℤ} {by n : ℕ} {e v : List ℤ} → LengthKnown es vs n → length es + 1 ≤ length e → length es + 1 ≤ length v → by < n
-    → Shiftable es vs by n e v
-shiftable k re rv h = record {
-  valid = k.valid;
-  paired = k.paired;
-  whole = k.whole;
-  short = h;
-  fitting = k.fitting;
-  room_ends = re;
-  room_values = rv;
-}
+module _ {es vs e₀ v₀ : List ℤ} {n : ℕ} (k : ShiftKnown es vs e₀ v₀ n) where
+  -- no positions
+  pub shift-nothing : (distance fill : ℤ) → n ≡ 0 → Filled (encode (shift_values distance fill (dense (runs_of es vs)))) e₀ e₀ v₀ v₀ 0
+  shift-nothing distance fill h = shift_none es vs k.valid distance fill e₀ v₀ (sym k.whole ∙ h)
+
+  module _ {distance fill : ℤ} (fd : SFits w64 distance) (ff : SFits w64 fill) {by : ℕ} (eb : by ≡ nat_abs (held distance)) where
+    -- the fill alone
+    pub shift-filled : (n ≡ 0 → ⊥) → n ≤ by → {e v : List ℤ} {w : Writer}
+        → PushedMerged (record { at = 0; last = held fill }) (to_z w64 n) (held fill) e₀ e v₀ v w
+        → Filled (encode (shift_values distance fill (dense (runs_of es vs)))) e₀ e v₀ v (w.at + 1)
+    shift-filled some h d =
+        let q = k.moved 0 (omega arith) in
+        let run = fill_run q (held fill) n q.short d (to_z_pos w64 q.fitting) in
+        let all = shift-all es vs k.valid distance fill (omega (arith, distance-is fd eb, k.whole)) in
+        rw (k.whole, to_z-of_z ff, all) at (filled q (replicate n (held fill)) run (rw length-replicate q.short))
+
+    module _ (h : by < n) {e v : List ℤ} {m : ℕ} where
+      pub shifted-up : lt_z (pos 0) (held distance) ≡ true → Filled (encode (shifted_up by (held fill) (dense (runs_of es vs)))) e₀ e v₀ v m
+          → Filled (encode (shift_values distance fill (dense (runs_of es vs)))) e₀ e v₀ v m
+      shifted-up t f =
+          let moved = shift_up es vs k.valid distance fill (rw (to_z-of_z fd) at t) (omega (arith, distance-is fd eb, k.whole)) in
+          rw (distance-is fd eb, to_z-of_z ff, moved) at f
+
+      pub shifted-down : lt_z (pos 0) (held distance) ≡ false → Filled (encode (shifted_down by (held fill) (dense (runs_of es vs)))) e₀ e v₀ v m
+          → Filled (encode (shift_values distance fill (dense (runs_of es vs)))) e₀ e v₀ v m
+      shifted-down t f =
+          let moved = shift-down es vs k.valid distance fill (rw (to_z-of_z fd) at t) (omega (arith, distance-is fd eb, k.whole)) in
+          rw (distance-is fd eb, to_z-of_z ff, moved) at f

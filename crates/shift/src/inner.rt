@@ -1,6 +1,5 @@
 // Workers that assume what the calls have asked.
-ghost use Rattle.std.specs.Prelude.{◌+◌, ◌≤◌, ◌<◌, ◌≡◌, length};
-ghost use Rattle.std.proofs.Math.Option.{none};
+ghost use Rattle.std.specs.Prelude.{◌+◌, ◌≤◌, ◌<◌, ◌≡◌, length, None};
 ghost use Rattle.column.specs.Questions.{ends_valid};
 ghost use Rattle.column.specs.Runs.{runs_of, dense, encode, Fills};
 ghost use Rattle.shift.specs.Calls.{shift_values};
@@ -81,7 +80,7 @@ pub fn shift(
     out_ends: &mut [i64],
     out_values: &mut [i64],
 ) -> usize
-    requires { (ends_valid ends.now ≡ none) × (length ends.now ≡ length values.now)
+    requires { (ends_valid ends.now ≡ None) × (length ends.now ≡ length values.now)
         × (length ends.now + 1 ≤ length out_ends.old) × (length ends.now + 1 ≤ length out_values.old) }
     ensures { Fills (encode (shift_values distance fill (dense (runs_of ends.now values.now)))) out_ends out_values result }
 {

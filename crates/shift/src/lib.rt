@@ -6,7 +6,7 @@ ghost use Rattle.column.specs.Paper.{WritesRuns};
 ghost use Rattle.column.specs.Runs.{sequence};
 ghost use Rattle.shift.specs.Calls as calls;
 
-use column::answer::{Asked, Counted};
+use column::error::Refusal;
 
 // A sequence moved by a distance, towards higher positions where it is positive, and merged; the fill stands where no value was moved to.
 pub fn shift(
@@ -16,21 +16,16 @@ pub fn shift(
     fill: i64,
     out_ends: &mut [i64],
     out_values: &mut [i64],
-) -> Counted
+) -> Result<usize, Refusal>
     ensures { WritesRuns (calls.shift (sequence ends.now values.now) distance fill) out_ends out_values result }
 {
-    let asked = questions::ask_sequence_into(
+    questions::ask_sequence_into(
         ends,
         values,
         ends.len() + 1,
         out_ends.len(),
         out_values.len(),
-    );
-    match asked {
-        Asked::Yes => {
-            let n = inner::shift(ends, values, distance, fill, out_ends, out_values);
-            Counted::Count(n)
-        }
-        Asked::No(r) => Counted::Refused(r),
-    }
+    )?;
+    let n = inner::shift(ends, values, distance, fill, out_ends, out_values);
+    Ok(n)
 }

@@ -1,6 +1,6 @@
 -- Worked examples of the calls of slice.rs, computed from their definitions. A is document 01's: ends 3, 5, 9, values 7, 2, 7.
 -- Assumes nothing.
-use mathlib.Core.Option.{Option, none, some}
+use Rattle.std.specs.Prelude.{Option, Some, None}
 use Rattle.std.proofs.Common.{ℕ, List, [], ◌∷◌, pos, negsuc, refl}
 use Rattle.column.specs.Paper.{Outcome, answers, counts}
 use Rattle.column.specs.Questions.{agree, paired, ends_from, ends_valid, room_at, room_from, room, sequence_asked}
@@ -17,8 +17,8 @@ abbrev as_index : Outcome (Option ℕ) → Outcome Lines
 as_index o = counts lines o
   where
     lines : Option ℕ → Lines
-    lines none = []
-    lines (some i) = (pos i ∷ []) ∷ []
+    lines None = []
+    lines (Some i) = (pos i ∷ []) ∷ []
 
 abbrev as_view : Outcome View → Outcome Lines
 as_view o = counts (λ v. (pos v.first ∷ v.start ∷ v.length ∷ []) ∷ []) o
@@ -31,7 +31,7 @@ rows =
     ∷ row (as_index (run_index a.ends (pos 9))) (answers [])
     ∷ row (as_index (run_index a.ends (negsuc 0))) (answers [])
     ∷ row (as_runs (slice a (pos 2) (pos 6) (3 ∷ 3 ∷ []))) (answers ((pos 1 ∷ pos 3 ∷ pos 4 ∷ []) ∷ (pos 7 ∷ pos 2 ∷ pos 7 ∷ []) ∷ []))
-    ∷ row (as_runs (slice a (pos 2) (pos 6) (3 ∷ 2 ∷ []))) (refused 12 (pos 1 ∷ pos 3 ∷ pos 2 ∷ []) none)
+    ∷ row (as_runs (slice a (pos 2) (pos 6) (3 ∷ 2 ∷ []))) (refused 12 (pos 1 ∷ pos 3 ∷ pos 2 ∷ []) None)
     ∷ row (as_runs (slice a (pos 9) (pos 12) (0 ∷ 0 ∷ []))) (answers ([] ∷ [] ∷ []))
     ∷ row (as_runs (slice a (negsuc 4) (pos 3) (1 ∷ 1 ∷ []))) (answers ((pos 3 ∷ []) ∷ (pos 7 ∷ []) ∷ []))
     ∷ row (as_view (slice_view a (pos 4) (pos 12))) (answers ((pos 1 ∷ pos 4 ∷ pos 5 ∷ []) ∷ []))

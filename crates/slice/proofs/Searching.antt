@@ -1,7 +1,9 @@
 -- The searches: which ends stand below the index that they find, and which at it.
 -- Assumes nothing.
-use Rattle.std.proofs.Common.{◌≡◌, ℕ, zero, suc, ◌+◌, ◌-◌, ◌*◌, ◌/◌, ◌%◌, ◌^◌, ◌<◌, ◌≤◌, Bool, true, false, cond, eqb, ltb, List, [], ◌∷◌, length, get_or, take, ℤ, pos, negsuc, ◌-ℤ◌, sym, refl, ap, ◌∙◌, arith, length-take-le, to_z-of_z, w64, SFits, to_z, of_z, ltb-false, ltb-true, le-ltb, le-leb, leb-false, leb-true}
-use mathlib.Core.Option.{none}
+use Rattle.std.proofs.Common.{◌≡◌, ℕ, zero, suc, ◌+◌, ◌-◌, ◌/◌, ◌<◌, ◌≤◌, Bool, true, false, cond, eqb, List, [], ◌∷◌, length, get_or, take, ℤ, pos}
+use Rattle.std.proofs.Common.{negsuc, ◌-ℤ◌, sym, refl, ap, ◌∙◌, arith, length-take-le, to_z-of_z, w64, SFits, to_z, of_z, ltb-true, le-ltb, le-leb}
+use Rattle.std.proofs.Common.{leb-false, leb-true}
+use Rattle.std.specs.Prelude.{None}
 use lib.Signed.{le_z, lt_z}
 use Rattle.num.proofs.Tests.{by-test, lt_le, le_lt}
 use Rattle.column.specs.Questions.{ends_valid}
@@ -9,7 +11,6 @@ use Rattle.column.specs.Runs.{to_nat}
 use Rattle.column.specs.Workers.{RisingEnds}
 use Rattle.column.proofs.Appending.{rising_at}
 use Rattle.column.proofs.Ends.{rising, rising-yes}
-use Rattle.num.specs.Numbers.{residue}
 use Rattle.num.proofs.Difference.{difference_of, difference-fits}
 use Rattle.slice.specs.Calls.{first_where, first_end_above}
 use Rattle.slice.specs.Workers.{first_end_at_least, Halving}
@@ -57,7 +58,7 @@ module _ (p : ℤ) (es : List ℤ) (i : ℕ) (h : i < length es) where
 
 -- ---- valid ends
 
-pub rising-valid : (es : List ℤ) → RisingEnds 0 es → ends_valid es ≡ none
+pub rising-valid : (es : List ℤ) → RisingEnds 0 es → ends_valid es ≡ None
 unfolding ends_valid
 rising-valid es r = rising-yes 0 0 es r
 
@@ -75,7 +76,7 @@ above-past-from p q (e ∷ es) (suc i) r h t =
     rw (le_lt e p low) (omega (arith, above-past-from p (to_nat e) es i r.2 (omega arith) t))
 
 -- the index found is past every end that is not above the position
-pub above-past : (p : ℤ) (es : List ℤ) (i : ℕ) → ends_valid es ≡ none → i < length es → le_z (get_or es i (pos 0)) p ≡ true → i < first_end_above p es
+pub above-past : (p : ℤ) (es : List ℤ) (i : ℕ) → ends_valid es ≡ None → i < length es → le_z (get_or es i (pos 0)) p ≡ true → i < first_end_above p es
 above-past p es i v h t = above-past-from p 0 es i (rising es v) h t
 
 -- valid ends are above every negative position
@@ -85,35 +86,8 @@ above-start p q [] t r = refl
 above-start (pos n) q (e ∷ es) t r = let z : ⊥ = omega (arith, ltb-true n 0 t) in absurd z
 above-start (negsuc n) q (e ∷ es) t r = rw r.0
 
-pub above_negative : (p : ℤ) (es : List ℤ) → lt_z p (pos 0) ≡ true → ends_valid es ≡ none → 0 ≡ first_end_above p es
+pub above_negative : (p : ℤ) (es : List ℤ) → lt_z p (pos 0) ≡ true → ends_valid es ≡ None → 0 ≡ first_end_above p es
 above_negative p es t v = above-start p 0 es t (rising es v)
-
--- ---- a step of the search, with no branch
-
--- the top bit of a difference: s + v is p, modulo 2^64
-top_bit : (s v p : ℕ) → s < 2 ^ 64 → (s + v) % 2 ^ 64 ≡ p → v < 2 ^ 63 → p < 2 ^ 63 → s / 2 ^ 63 ≡ cond (ltb p v) 1 0
-top_bit s v p h e k l =
-    by-test (ltb p v) (λ t. let m = ltb-true p v t in rw t (omega arith)) (λ t. let m = ltb-false p v t in rw t (omega arith))
-
-pub above_bit : (z : ℤ) (p : ℕ) {s v : ℕ} → SFits w64 z → v ≡ residue (to_z w64 (of_z w64 z)) → s < 2 ^ 64 → (s + v) % 2 ^ 64 ≡ p → lt_z z (pos 0) ≡ false
-    → p < 2 ^ 63
-    → s / 2 ^ 63 ≡ cond (lt_z (pos p) z) 1 0
-above_bit (pos n) p {s} {v} f ev h e t k =
-    let n63 : n < 2 ^ 63 = f.sfits in
-    let m : v ≡ n % 2 ^ 64 = rw (to_z-of_z f) at ev in
-    let vn : v ≡ n = omega arith in
-    rw vn at (top_bit s v p h e (omega arith) k)
-above_bit (negsuc n) p f ev h e t k = absurd (let w : ◌≡◌ {A = ℕ} 0 1 = cc in omega arith)
-
--- it goes on from low, or a step further
-module _ (low step : ℕ) (h : low + step < 2 ^ 63) where
-  pub stepped : (above : ℕ) → above ≤ 1 → low + step / 2 ^ (above * 63) ≡ cond (eqb above 0) (low + step) low
-  stepped zero k = omega arith
-  stepped (suc zero) k = omega arith
-  stepped (suc (suc n)) k = let z : ⊥ = omega arith in absurd z
-
-  pub step-within : (above : ℕ) → above ≤ 1 → low + step / 2 ^ (above * 63) ≤ low + step
-  step-within above k = rw (stepped above k) (by-test (eqb above 0) (λ t. rw t (omega arith)) (λ t. rw t (omega arith)))
 
 -- ---- the halving: the index is from `low` up to `low + size`
 
@@ -123,23 +97,28 @@ module _ (p : ℕ) (es : List ℤ) where
   halving_start = record { inside = omega arith; from_low = λ v. omega arith; to_high = λ v. omega (arith, where_within (λ e. lt_z (pos p) e) es) }
 
 module _ {p : ℕ} {es : List ℤ} {low size : ℕ} (s : Halving p es low size) where
-  pub halving_end : size ≤ 0 → (low ≤ length es) × (ends_valid es ≡ none → low ≡ first_end_above (pos p) es)
+  pub halving_end : size ≤ 0 → (low ≤ length es) × (ends_valid es ≡ None → low ≡ first_end_above (pos p) es)
   halving_end h = (omega (arith, s.inside), λ v. omega (arith, s.from_low v, s.to_high v))
 
   pub halving_inside : 0 < size → low + (size - size / 2) - 1 < length es
   halving_inside h = omega (arith, s.inside)
 
-  module _ (h : 0 < size) {x : ℤ} (ex : x ≡ get_or es (low + (size - size / 2) - 1) (pos 0)) where
+  module _ (h : 0 < size) (fx : SFits w64 (get_or es (low + (size - size / 2) - 1) (pos 0))) where
     abbrev at : ℕ
     at = low + (size - size / 2) - 1
 
+    -- as the local holds it
+    abbrev x : ℤ
+    x = to_z w64 (of_z w64 (get_or es at (pos 0)))
+
     -- where the ends are valid the step tells whether the end is above the position
-    told-above : {above : ℕ} → (lt_z x (pos 0) ≡ false → above ≡ cond (lt_z (pos p) x) 1 0) → ends_valid es ≡ none → eqb above 0 ≡ le_z x (pos p)
+    told-above : {above : ℕ} → (lt_z x (pos 0) ≡ false → above ≡ cond (lt_z (pos p) x) 1 0) → ends_valid es ≡ None
+        → eqb above 0 ≡ le_z (get_or es at (pos 0)) (pos p)
     told-above ea v =
-        let i = halving_inside h in
-        let m = rising_at 0 es at (rising es v) i in
-        let natural : lt_z x (pos 0) ≡ false = rw (ex, m.0) (le-ltb (to_nat (get_or es at (pos 0))) 0 (omega arith)) in
-        by-test (lt_z (pos p) x) (λ t. rw (ea natural, t, lt_le (pos p) x t)) (λ t. rw (ea natural, t, lt_le (pos p) x t))
+        let e = to_z-of_z fx in
+        let m = rising_at 0 es at (rising es v) (halving_inside h) in
+        let natural : lt_z x (pos 0) ≡ false = rw (e, m.0) (le-ltb (to_nat (get_or es at (pos 0))) 0 (omega arith)) in
+        sym (by-test (lt_z (pos p) x) (λ t. rw (ea natural, t) (rw e at (lt_le (pos p) x t))) (λ t. rw (ea natural, t) (rw e at (lt_le (pos p) x t))))
 
     pub halving_next : {above next : ℕ} → (lt_z x (pos 0) ≡ false → above ≡ cond (lt_z (pos p) x) 1 0) → next ≡ cond (eqb above 0) (low + (size - size / 2)) low
         → Halving p es next (size / 2)
@@ -148,13 +127,13 @@ module _ {p : ℕ} {es : List ℤ} {low size : ℕ} (s : Halving p es low size) 
         rw e (by-test (eqb above 0)
         (λ t. rw t (record {
           inside = omega (arith, s.inside);
-          from_low = λ v. omega (arith, above-past (pos p) es at v i (rw ex at (sym (told-above ea v) ∙ t)));
+          from_low = λ v. omega (arith, above-past (pos p) es at v i (sym (told-above ea v) ∙ t));
           to_high = λ v. omega (arith, s.to_high v);
         }))
         (λ t. rw t (record {
           inside = omega (arith, s.inside);
           from_low = s.from_low;
-          to_high = λ v. omega (arith, above-least (pos p) es at i (rw ex at (sym (told-above ea v) ∙ t)));
+          to_high = λ v. omega (arith, above-least (pos p) es at i (sym (told-above ea v) ∙ t));
         })))
 
 -- ---- an end at or above a position: one above the position before it
@@ -189,7 +168,7 @@ least_start p [] h r = refl
 least_start (pos n) (e ∷ es) h r = rw (r.0, le-leb n (to_nat e) (omega (arith, leb-true n 0 h)))
 least_start (negsuc n) (e ∷ es) h r = rw r.0
 
-pub least-low : (p : ℤ) (es : List ℤ) → le_z p (pos 0) ≡ true → ends_valid es ≡ none → 0 ≡ first_end_at_least p es
+pub least-low : (p : ℤ) (es : List ℤ) → le_z p (pos 0) ≡ true → ends_valid es ≡ None → 0 ≡ first_end_at_least p es
 least-low p es h v = least_start p es h (rising es v)
 
 -- ---- among the first ends, up to one at or above the position
@@ -205,12 +184,15 @@ rising-front q zero es r = tt
 rising-front q (suc n) [] r = tt
 rising-front q (suc n) (e ∷ es) r = (r.0, r.1, rising-front (to_nat e) n es r.2)
 
-pub least-front : (p : ℤ) (es : List ℤ) (n : ℕ) {r : ℕ} → 0 < n → n ≤ length es → le_z p (get_or es (n - 1) (pos 0)) ≡ true
-    → (r ≤ length (take n es)) × (ends_valid (take n es) ≡ none → r ≡ first_end_at_least p (take n es))
-    → (r ≤ length es) × (ends_valid es ≡ none → r ≡ first_end_at_least p es)
-least-front p es n h k t f =
-    let m : n ≡ suc (n - 1) = omega arith in (
-      omega (arith, f.0, length-take-le n es k),
-      λ v. f.1 (rising-valid (take n es) (rising-front 0 n es (rising es v))) ∙ ap (λ (i : ℕ). first_end_at_least p (take i es)) m
-          ∙ front-from p es (n - 1) (omega arith) t,
+pub least-front : {p : ℤ} (es : List ℤ) (n : ℕ) {r : ℕ} → SFits w64 p → SFits w64 (get_or es (n - 1) (pos 0)) → 0 < n → n ≤ length es
+    → le_z (to_z w64 (of_z w64 p)) (to_z w64 (of_z w64 (get_or es (n - 1) (pos 0)))) ≡ true
+    → (r ≤ length (take n es)) × (ends_valid (take n es) ≡ None → r ≡ first_end_at_least (to_z w64 (of_z w64 p)) (take n es))
+    → (r ≤ length es) × (ends_valid es ≡ None → r ≡ first_end_at_least p es)
+least-front {p} es n fp fe h k t f =
+    let m : n ≡ suc (n - 1) = omega arith in
+    let t' = rw (to_z-of_z fp, to_z-of_z fe) at t in
+    let q = rw (to_z-of_z fp) at f in (
+      omega (arith, q.0, length-take-le n es k),
+      λ v. q.1 (rising-valid (take n es) (rising-front 0 n es (rising es v))) ∙ ap (λ (i : ℕ). first_end_at_least p (take i es)) m
+          ∙ front-from p es (n - 1) (omega arith) t',
     )

@@ -1,6 +1,8 @@
 -- What a slice of a sequence shows: the values from its start up to its end. And it is valid, and as long as that.
 -- Assumes nothing.
-use Rattle.std.proofs.Common.{ap, ◌≡◌, ℕ, ◌+◌, ◌-◌, ◌<◌, ◌≤◌, min, cond, ltb, leb, [], ◌∷◌, length, get_or, take, drop, ℤ, pos, sym, refl, ◌∙◌, zero-add, arith, length-drop, length-take, get_or-drop, get_or-take, ext_get_or, ltb-false, ltb-true, le-ltb, lt-ltb, le-leb, leb-false, leb-true}
+use Rattle.std.proofs.Common.{ap, ◌≡◌, ℕ, ◌+◌, ◌-◌, ◌<◌, ◌≤◌, min, cond, ltb, leb, [], ◌∷◌, length, get_or, take, drop, ℤ, pos, sym, refl, ◌∙◌}
+use Rattle.std.proofs.Common.{zero-add, arith, length-drop, length-take, get_or-drop, get_or-take, ext_get_or, ltb-false, ltb-true, le-ltb, lt-ltb}
+use Rattle.std.proofs.Common.{le-leb, leb-false, leb-true}
 use borrow.Author.Tests.{lt-leb}
 use Rattle.num.proofs.Tests.{by-test}
 use Rattle.column.specs.Runs.{Runs, to_nat, last_end, length_of, dense}

@@ -1,6 +1,8 @@
 -- The touched runs written one after another, each cut to the slice.
 -- Assumes nothing.
-use Rattle.std.proofs.Common.{◌≡◌, ℕ, zero, suc, ◌+◌, ◌^◌, ◌<◌, ◌≤◌, min, List, [], ◌∷◌, ◌++◌, length, get_or, take, drop, set, ℤ, pos, ◌-ℤ◌, refl, ap, ◌∙◌, ap₂, add-one, arith, length-drop, length-take-le, get_or-drop, take_all, get_or-take, take-suc, w64, SFits}
+use Rattle.std.proofs.Common.{◌≡◌, ℕ, zero, suc, ◌+◌, ◌^◌, ◌<◌, ◌≤◌, min, List, [], ◌∷◌, ◌++◌, length, get_or, take, drop, set, ℤ, pos, ◌-ℤ◌, sym}
+use Rattle.std.proofs.Common.{refl, ap, ◌∙◌, ap₂, add-one, arith, length-drop, length-take-le, get_or-drop, take_all, get_or-take, take-suc, w64}
+use Rattle.std.proofs.Common.{SFits, to_z, of_z, to_z-of_z}
 use lib.ListN.{length-map, get_or-map}
 use lib.Signed.{mag}
 use Rattle.num.specs.Numbers.{smaller_of}
@@ -10,6 +12,7 @@ use Rattle.column.proofs.Ends.{length_runs}
 use Rattle.column.proofs.Naturals.{smaller_naturals}
 use Rattle.slice.specs.declared.inner.search.TouchedRuns.{TouchedRuns}
 use Rattle.slice.specs.Workers.{clipped, cut_runs, Touches}
+use Rattle.num.proofs.Bits.{back}
 use Rattle.num.proofs.Difference.{difference_of, difference-fits}
 
 -- the run at an index
@@ -70,30 +73,42 @@ module _ {t : TouchedRuns} {es vs e₀ v₀ : List ℤ} (h : Touches t es vs e�
         ∙ take-suc (cut_runs t (runs_of es vs)) n (clipped (to_nat t.start) (to_nat t.end) d) (rw length_cut k)
         ∙ ap (λ (r : Run). take n (cut_runs t (runs_of es vs)) ++ r ∷ []) (cut_at n d k)
 
-    module _ {x y : ℤ} (ex : x ≡ get_or es (t.first + n) (pos 0)) (ey : y ≡ smaller_of x t.end) where
-      smaller_natural : y ≡ pos (min (to_nat (get_or es (t.first + n) (pos 0))) (to_nat t.end))
-      smaller_natural = ey ∙ ap₂ smaller_of (ex ∙ next-end-natural) h.end_natural ∙ smaller_naturals (to_nat (get_or es (t.first + n) (pos 0))) (to_nat t.end)
+    -- what the locals hold
+    abbrev end_at : ℤ
+    end_at = get_or es (t.first + n) (pos 0)
 
-      start-below : to_nat t.start ≤ min (to_nat (get_or es (t.first + n) (pos 0))) (to_nat t.end)
+    abbrev held : ℤ → ℤ
+    held z = to_z w64 (of_z w64 z)
+
+    module _ {a b y : ℤ} (ey : y ≡ smaller_of (held end_at) b) (fy : mag y < 2 ^ 63) (fx : SFits w64 end_at) (ea : a ≡ t.start) (eb : b ≡ t.end) where
+      smaller_natural : held y ≡ pos (min (to_nat end_at) (to_nat t.end))
+      smaller_natural =
+          back y fy ∙ ey ∙ ap₂ smaller_of (to_z-of_z fx ∙ next-end-natural) (eb ∙ h.end_natural) ∙ smaller_naturals (to_nat end_at) (to_nat t.end)
+
+      start_natural : a ≡ pos (to_nat t.start)
+      start_natural = ea ∙ h.start_natural
+
+      start-below : to_nat t.start ≤ min (to_nat end_at) (to_nat t.end)
       start-below = omega (arith, h.above n k, h.ordered)
 
-      next-end : y -ℤ t.start ≡ pos next.end
-      next-end = difference_of smaller_natural h.start_natural start-below
+      pub next_fits : SFits w64 (held y -ℤ a)
+      next_fits = difference-fits smaller_natural start_natural start-below (rw (sym (back y fy) ∙ smaller_natural) at fy)
 
-      pub next_fits : mag y < 2 ^ 63 → SFits w64 (y -ℤ t.start)
-      next_fits f = difference-fits smaller_natural h.start_natural start-below (rw smaller_natural at f)
-
-      pub slicing-next : {e v : List ℤ} → Slicing t es vs e₀ e v₀ v n → {z w : ℤ} → z ≡ y -ℤ t.start → w ≡ get_or vs (t.first + n) (pos 0)
-          → Slicing t es vs e₀ (set e n z) v₀ (set v n w) (n + 1)
-      slicing-next s ez ew = record {
-        within = omega arith;
-        ends = rw take_next (write_next end_of s.ends (omega (arith, h.room_ends)) next (ez ∙ next-end));
-        values = rw take_next (write_next value_of s.values (omega (arith, h.room_values)) next ew);
-      }
+      pub slicing-next : {e v : List ℤ} → Slicing t es vs e₀ e v₀ v n → {w : ℤ} → w ≡ get_or vs (t.first + n) (pos 0)
+          → Slicing t es vs e₀ (set e n (to_z w64 (of_z w64 (held y -ℤ a)))) v₀ (set v n w) (n + 1)
+      slicing-next s ew =
+          let ez = to_z-of_z next_fits ∙ difference_of smaller_natural start_natural start-below in
+          record {
+            within = omega arith;
+            ends = rw take_next (write_next end_of s.ends (omega (arith, h.room_ends)) next ez);
+            values = rw take_next (write_next value_of s.values (omega (arith, h.room_values)) next ew);
+          }
 
   module _ {e v : List ℤ} {n : ℕ} (s : Slicing t es vs e₀ e v₀ v n) where
-    pub slicing-end : t.count ≤ n → Filled (cut_runs t (runs_of es vs)) e₀ e v₀ v n
+    pub slicing-end : t.count ≤ n → Filled (cut_runs t (runs_of es vs)) e₀ e v₀ v t.count
     unfolding ends_of values_of
     slicing-end k =
+        let w = s.within in
+        let e : n ≡ t.count = omega arith in
         let all : take n (cut_runs t (runs_of es vs)) ≡ cut_runs t (runs_of es vs) = take_all n (cut_runs t (runs_of es vs)) (rw length_cut k) in
-        record { count = rw all at s.ends.count; ends = rw all at s.ends.entries; values = rw all at s.values.entries }
+        record { count = sym length_cut; ends = rw all at s.ends.entries; values = rw all at s.values.entries }

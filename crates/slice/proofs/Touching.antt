@@ -1,7 +1,9 @@
 -- The runs that a slice touches: they stand inside the sequence, and cut to the slice they are its runs.
 -- Assumes nothing.
-use Rattle.std.proofs.Common.{◌≡◌, ℕ, zero, suc, ◌+◌, ◌-◌, ◌<◌, ◌≤◌, min, true, false, ltb, leb, List, [], ◌∷◌, map, length, get_or, take, drop, ℤ, pos, negsuc, sym, refl, ap, ◌∙◌, ap₂, arith, length-drop, get_or-drop, to_z-of_z, w64, SFits, to_z, of_z, ltb-false, ltb-true, le-ltb, lt-ltb, le-leb, leb-false, leb-true}
-use mathlib.Core.Option.{none}
+use Rattle.std.proofs.Common.{◌≡◌, ℕ, zero, suc, ◌+◌, ◌-◌, ◌<◌, ◌≤◌, min, true, false, ltb, leb, List, [], ◌∷◌, map, length, get_or, take, drop, ℤ}
+use Rattle.std.proofs.Common.{pos, negsuc, sym, refl, ap, ◌∙◌, ap₂, arith, length-drop, get_or-drop, to_z-of_z, w64, SFits, to_z, of_z, ltb-false}
+use Rattle.std.proofs.Common.{ltb-true, le-ltb, lt-ltb, le-leb, leb-false, leb-true}
+use Rattle.std.specs.Prelude.{None}
 use lib.Signed.{le_z, lt_z}
 use borrow.Author.Tests.{lt-leb}
 use Rattle.num.specs.Numbers.{smaller_of, larger_of}
@@ -30,7 +32,7 @@ rising-rest p zero es r = r
 rising-rest p (suc i) [] r = tt
 rising-rest p (suc i) (e ∷ es) r = rising-lower p (to_nat e) (drop i es) (omega (arith, r.1)) (rising-rest (to_nat e) i es r.2)
 
-pub rest-valid : (i : ℕ) (es : List ℤ) → ends_valid es ≡ none → ends_valid (drop i es) ≡ none
+pub rest-valid : (i : ℕ) (es : List ℤ) → ends_valid es ≡ None → ends_valid (drop i es) ≡ None
 rest-valid i es v = rising-valid (drop i es) (rising-rest 0 i es (rising es v))
 
 -- ---- the touched runs are those of the slice
@@ -62,7 +64,7 @@ cut-from x y p (e ∷ es) (v ∷ vs) r l =
     (λ t. rw (q, t) (cut_all x y (e ∷ es) (v ∷ vs) (r.0, ltb-true x (to_nat e) t, r.2) l))
     (λ t. rw (q, t, le-leb (to_nat e) x (ltb-false x (to_nat e) t)) (cut-from x y (to_nat e) es vs r.2 (omega arith)))
 
-pub cut_touched : (start end : ℤ) (es vs : List ℤ) → ends_valid es ≡ none → length es ≡ length vs
+pub cut_touched : (start end : ℤ) (es vs : List ℤ) → ends_valid es ≡ None → length es ≡ length vs
     → cut_runs (touched_by start end es) (runs_of es vs) ≡ slice_runs start end (runs_of es vs)
 unfolding cut_runs touched_by slice_runs
 cut_touched start end es vs v l =
@@ -74,7 +76,7 @@ cut_touched start end es vs v l =
 
 -- ---- they stand inside the sequence
 
-module _ (es : List ℤ) (v : ends_valid es ≡ none) (x y : ℕ) (h : x < y) (k : y ≤ to_nat (length_of_ends es)) where
+module _ (es : List ℤ) (v : ends_valid es ≡ None) (x y : ℕ) (h : x < y) (k : y ≤ to_nat (length_of_ends es)) where
   ends_some : 0 < length es
   ends_some = by-test (ltb 0 (length es)) (λ t. ltb-true 0 (length es) t)
       (λ t. let e : length_of_ends es ≡ pos 0 = length_none es (omega (arith, ltb-false 0 (length es) t)) in
@@ -106,14 +108,14 @@ module _ (es : List ℤ) (v : ends_valid es ≡ none) (x y : ℕ) (h : x < y) (k
       (λ t. let z : ⊥ = omega (arith, above-past (pos x) es i v l t) in absurd z)
       (λ t. leb-false (to_nat (get_or es i (pos 0))) x (rw (natural_end es i v l) at t))
 
-pub touched_inside : (start end : ℤ) (es : List ℤ) → ends_valid es ≡ none → (touched_by start end es).first + (touched_by start end es).count ≤ length es
+pub touched_inside : (start end : ℤ) (es : List ℤ) → ends_valid es ≡ None → (touched_by start end es).first + (touched_by start end es).count ≤ length es
 unfolding touched_by
 touched_inside start end es v =
     let x = to_nat start in
     let y = min (to_nat end) (to_nat (length_of_ends es)) in
     by-test (ltb x y) (λ t. rw t (count-inside es v x y (ltb-true x y t) (omega arith))) (λ t. rw t (omega arith))
 
-pub touches : (start end : ℤ) (es vs e v : List ℤ) → ends_valid es ≡ none → length es ≡ length vs
+pub touches : (start end : ℤ) (es vs e v : List ℤ) → ends_valid es ≡ None → length es ≡ length vs
     → (touched_by start end es).count ≤ length e → (touched_by start end es).count ≤ length v → Touches (touched_by start end es) es vs e v
 unfolding touched_by
 touches start end es vs e v valid l re rv =
@@ -147,7 +149,7 @@ touches start end es vs e v valid l re rv =
     }))
 
 -- as many as the slice has runs
-pub touched_count : (start end : ℤ) (es vs : List ℤ) → ends_valid es ≡ none → length es ≡ length vs
+pub touched_count : (start end : ℤ) (es vs : List ℤ) → ends_valid es ≡ None → length es ≡ length vs
     → (touched_by start end es).count ≡ length (slice_runs start end (runs_of es vs))
 touched_count start end es vs v l =
     let i = touched_inside start end es v in
@@ -180,7 +182,7 @@ clamped-told {es} e fs fe gs ge = record {
   to = to_z-of_z ge ∙ ap (λ (j : Interval). j.end) e ∙ ap (λ (z : ℤ). smaller_of z (length_of_ends es)) (to_z-of_z fe);
 }
 
-module _ {es : List ℤ} {start end f t : ℤ} (c : Clamped es start end f t) (v : ends_valid es ≡ none) where
+module _ {es : List ℤ} {start end f t : ℤ} (c : Clamped es start end f t) (v : ends_valid es ≡ None) where
   abbrev to : ℕ
   to = min (to_nat end) (to_nat (length_of_ends es))
 

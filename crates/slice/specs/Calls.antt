@@ -1,22 +1,20 @@
 -- slice.rs and the views: parts of a sequence.
-use Rattle.std.specs.Prelude.{◌≡◌, ℕ, suc, ◌+◌, ◌-◌, ◌*◌, ◌≤◌, min, Bool, cond, ◌&&◌, List, [], ◌∷◌, length, ℤ, pos, int_le, int_lt, nat_le, nat_lt}
-use Rattle.std.proofs.Math.Option.{Option, none, some}
+use Rattle.std.specs.Prelude.{◌≡◌, ℕ, suc, ◌+◌, ◌-◌, ◌*◌, ◌≤◌, min, Bool, cond, ◌&&◌, List, [], ◌∷◌, length, ℤ, pos, int_le, int_lt, nat_le, nat_lt, Option, Some, None}
 use Rattle.std.specs.Borrow.{Bor}
 use Rattle.column.specs.Asking.{first_no, ◌otherwise◌}
 use Rattle.column.specs.Lists.{part}
-use Rattle.column.specs.Paper.{Outcome, answers, refuses, paper}
+use Rattle.column.specs.Paper.{Outcome, answers, refuses}
 use Rattle.column.specs.Questions.{paired, ends_valid, sequence_asked}
 use Rattle.column.specs.Runs.{Sequence, Runs, to_nat, runs, length_of}
 use Rattle.slice.specs.declared.Part.{Part}
 use Rattle.slice.specs.declared.View.{View}
-use Rattle.slice.specs.declared.Viewed.{Viewed}
 
 -- ---- run_index
 
 -- "Run r covers positions from the end before it (0 for the first) up to its own end": the run that covers p, from run i on
 abbrev pub covering_from : ℕ → ℤ → List ℤ → ℤ → Option ℕ
-covering_from i before [] p = none
-covering_from i before (e ∷ es) p = cond (int_le before p && int_lt p e) (some i) (covering_from (suc i) e es p)
+covering_from i before [] p = None
+covering_from i before (e ∷ es) p = cond (int_le before p && int_lt p e) (Some i) (covering_from (suc i) e es p)
 
 unfoldable pub covering : List ℤ → ℤ → Option ℕ
 covering es p = covering_from 0 (pos 0) es p
@@ -67,10 +65,6 @@ view_of s start end =
 -- "One answers first run, start and length .. or the refusal"
 unfoldable pub slice_view : Sequence → ℤ → ℤ → Outcome View
 slice_view s start end = first_no (paired s ∷ ends_valid s.ends ∷ []) otherwise view_of s start end
-
-abbrev pub shown_viewed : Viewed → Outcome View
-shown_viewed (Viewed.View v) = answers v
-shown_viewed (Viewed.Refused r) = refuses (paper r)
 
 -- as many entries from the view's first run on
 abbrev pub viewed_part : Outcome View → ℕ → Part

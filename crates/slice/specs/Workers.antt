@@ -1,6 +1,5 @@
 -- What the workers leave and require.
-use Rattle.std.specs.Prelude.{◌≡◌, ℕ, ◌+◌, ◌-◌, ◌<◌, ◌≤◌, min, cond, List, map, length, take, drop, ℤ, pos, int_le, nat_lt, slice_index_or}
-use Rattle.std.proofs.Math.Option.{none}
+use Rattle.std.specs.Prelude.{◌≡◌, ℕ, ◌+◌, ◌-◌, ◌<◌, ◌≤◌, min, cond, List, map, length, take, drop, ℤ, pos, int_le, nat_lt, slice_index_or, None}
 use Rattle.column.specs.Questions.{ends_valid}
 use Rattle.column.specs.Runs.{Run, Runs, to_nat, length_of_ends}
 use Rattle.slice.specs.Calls.{first_where, first_end_above}
@@ -29,8 +28,8 @@ touched_by start end es =
 -- a search of the first end above a position: it is from `low` up to `low + size`
 pub record Halving (p : ℕ) (es : List ℤ) (low size : ℕ) : Type 0 where
   pub inside : low + size ≤ length es
-  pub from_low : ends_valid es ≡ none → low ≤ first_end_above (pos p) es
-  pub to_high : ends_valid es ≡ none → first_end_above (pos p) es ≤ low + size
+  pub from_low : ends_valid es ≡ None → low ≤ first_end_above (pos p) es
+  pub to_high : ends_valid es ≡ None → first_end_above (pos p) es ≤ low + size
 
 -- a run as it stands in a slice from x up to y
 abbrev pub clipped : ℕ → ℕ → Run → Run

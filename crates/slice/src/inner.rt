@@ -54,13 +54,11 @@ pub fn slice(
     let count = touched.count;
     let start = touched.start;
     let to = touched.end;
-    let mut n: usize = 0;
-    while n < count {
+    for n in 0..count {
         let end = ends[first + n];
         let value = values[first + n];
         out_ends[n] = num::smaller(end, to) - start;
         out_values[n] = value;
-        n += 1;
     }
-    n
+    count
 }

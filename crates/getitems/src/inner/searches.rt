@@ -1,6 +1,5 @@
 // Searches for the positions of a block of intervals, step by step beside each other, so that none waits for the memory of another.
-ghost use Rattle.std.specs.Prelude.{◌+◌, ◌≤◌, ◌<◌, ◌/◌, ◌^◌, ◌≡◌, pos, length, get_or};
-ghost use Rattle.std.proofs.Math.Option.{none};
+ghost use Rattle.std.specs.Prelude.{◌+◌, ◌≤◌, ◌<◌, ◌/◌, ◌^◌, ◌≡◌, pos, length, get_or, None};
 ghost use Rattle.column.specs.Questions.{ends_valid};
 ghost use Rattle.getitems.specs.Workers.{block_size, sought, found, Begun, Halvings, Searched, Kept};
 
@@ -14,8 +13,7 @@ fn place(ends: &[i64], position: i64, back: usize) -> usize
     ensures { (result ≡ sought ends.now back position) × (result < 2 ^ 63) }
 {
     let length = sequence::to_nat(sequence::length(ends));
-    let clamped = num::smaller_count(sequence::to_nat(position), length);
-    if clamped < back { 0 } else { clamped - back }
+    num::smaller_count(sequence::to_nat(position), length).saturating_sub(back)
 }
 
 // No end is passed yet.
@@ -30,12 +28,10 @@ fn start(
     requires { (length places.old ≡ block_size) × (length lows.old ≡ block_size) × (from < 2 ^ 63) }
     ensures { Begun ends.now positions.now from back places.new lows.new }
 {
-    let mut k: usize = 0;
-    while k < BLOCK {
+    for k in 0..BLOCK {
         let position = sequence::entry_or(positions, from + k, 0);
         places[k] = place(ends, position, back);
         lows[k] = 0;
-        k += 1;
     }
 }
 
@@ -44,12 +40,10 @@ fn halve(ends: &[i64], size: usize, places: &[usize], lows: &mut [usize])
     requires { Halvings ends.now places.now lows.old size × (0 < size) }
     ensures { Halvings ends.now places.now lows.new (size / 2) }
 {
-    let mut k: usize = 0;
-    while k < BLOCK {
+    for k in 0..BLOCK {
         let low = lows[k];
         let place = places[k];
         lows[k] = slice::inner::half(ends, low, size, place);
-        k += 1;
     }
 }
 
@@ -77,7 +71,7 @@ pub fn find_next(
 ) -> usize
     requires { (i < length positions.now) × Kept ends.now positions.now back block.old i }
     ensures { (result ≤ length ends.now) ×
-        (ends_valid ends.now ≡ none → result ≡ found ends.now back (get_or positions.now i (pos 0)))
+        (ends_valid ends.now ≡ None → result ≡ found ends.now back (get_or positions.now i (pos 0)))
         × Kept ends.now positions.now back block.new (i + 1) }
 {
     let slot = i % BLOCK;

@@ -1,33 +1,28 @@
-use mathlib.Core.Path.{◌≡◌, ◌∙◌}
-use lib.ListN.{length}
-use mir.Syntax.{w64}
-use mir.Val.{SFits}
+use mathlib.Core.Path.{refl, sym, ◌∙◌}
 use Rattle.column.specs.Questions.{paired}
-use Rattle.column.specs.Runs.{length_of_ends}
-use Rattle.column.proofs.Promised.{asked-yes, asked_no}
-use Rattle.column.proofs.Told.{agree-told}
-use Rattle.reduce.proofs.Answers.{sum-whole, sum-refused}
-use Rattle.reduce.proofs.Windows.{whole-window}
+use Rattle.column.proofs.FirstNo.{alone, goes_on}
+use Rattle.column.proofs.Promised.{value-answered, value-refused}
+use Rattle.reduce.specs.Calls.{sum}
+use Rattle.reduce.proofs.Answers.{first_refused, asked-whole, held-whole, summed-whole}
 use borrow.Author.Rules.{rules}
 use Rattle.reduce.proofs.sum.Goals as goal
 
+pub returns-in_err-ask_lengths : goal.returns-in_err-ask_lengths
+unfolding sum paired
+returns-in_err-ask_lengths c = value-refused _ _ _ c.from_residual.ensures.1 (first_refused _ c.in_err-ask_lengths.ensures)
+
 pub sum_window-sum-requires : goal.sum_window-sum-requires
-sum_window-sum-requires c =
-    let lengths : length c.args.ends.now ≡ length c.args.values.now = agree-told 3 _ _ (asked-yes c.ask_lengths-asked.ensures c.in-Yes.is) in
-    let end_fits : SFits w64 c.whole-window.result.end = search rules in
-    let fits : SFits w64 (length_of_ends c.args.ends.now) = rw c.whole-window.ensures at end_fits in
-    rw c.whole-window.ensures (whole-window c.args.ends.now c.args.values.now lengths fits)
+sum_window-sum-requires c = held-whole _ c.whole.ensures _ c.in_ok-ask_lengths.ensures (search rules)
 
-pub returns-in-Yes : goal.returns-in-Yes
-unfolding paired
-returns-in-Yes c =
-    let lengths : length c.args.ends.now ≡ length c.args.values.now = agree-told 3 _ _ (asked-yes c.ask_lengths-asked.ensures c.in-Yes.is) in
-    let end_fits : SFits w64 c.whole-window.result.end = search rules in
-    let fits : SFits w64 (length_of_ends c.args.ends.now) = rw c.whole-window.ensures at end_fits in
-    let sum = rw c.whole-window.ensures at c.sum_window-sum.ensures in
-    let y = asked-yes c.ask_lengths-asked.ensures c.in-Yes.is in
-    c.sum_answer.ensures ∙ sum-whole c.args.ends.now c.args.values.now lengths fits sum y
+pub returns-in_err-ask_rising : goal.returns-in_err-ask_rising
+unfolding sum paired
+returns-in_err-ask_rising c =
+    let no = c.in_err-ask_rising.ensures ∙ asked-whole _ c.whole.ensures _ c.sum_window-sum.ensures.asked in
+    value-refused _ _ _ c.from_residual-in_err-ask_rising.ensures.1 (goes_on _ c.in_ok-ask_lengths.ensures (no ∙ sym (alone _)))
 
-pub returns-in-No : goal.returns-in-No
-unfolding paired
-returns-in-No c = sum-refused _ _ (asked_no _ c.ask_lengths-asked.ensures c.in-No.is)
+pub returns : goal.returns
+unfolding sum paired
+returns c =
+    let yes = c.in_ok-ask_rising.ensures ∙ asked-whole _ c.whole.ensures _ c.sum_window-sum.ensures.asked in
+    let total = summed-whole _ c.whole.ensures _ c.in_ok-ask_lengths.ensures (search rules) c.sum_window-sum.ensures (sym yes) in
+    value-answered (sym (goes_on _ c.in_ok-ask_lengths.ensures (goes_on _ yes refl))) (search (rules, total))

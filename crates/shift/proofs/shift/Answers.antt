@@ -1,5 +1,6 @@
+use mathlib.Core.Path.{sym}
 use mir.Facts.{to_z-of_z}
-use Rattle.column.proofs.Promised.{asked-yes, asked_no, runs-written, runs-refused}
+use Rattle.column.proofs.Promised.{runs-written, runs-refused}
 use Rattle.column.proofs.Told.{sequence-told}
 use Rattle.shift.specs.Calls.{shift}
 use Rattle.shift.proofs.shift.Goals as goal
@@ -7,15 +8,15 @@ use Rattle.shift.proofs.shift.Goals as goal
 pub shift-n-requires : goal.shift-n-requires
 shift-n-requires c =
     let a = c.args in
-    sequence-told a.ends.now a.values.now _ _ _ (asked-yes c.ask_sequence_into-asked.ensures c.in-Yes.is)
+    sequence-told a.ends.now a.values.now _ _ _ (sym c.in_ok-ask_sequence_into.ensures)
 
-pub returns-in-Yes : goal.returns-in-Yes
+pub returns : goal.returns
 unfolding shift
-returns-in-Yes c =
+returns c =
     let f = c.ranges in
-    let y = asked-yes c.ask_sequence_into-asked.ensures c.in-Yes.is in
+    let y = sym c.in_ok-ask_sequence_into.ensures in
     rw (to_z-of_z f.distance, to_z-of_z f.fill) at (runs-written _ y c.shift-n.ensures)
 
-pub returns-in-No : goal.returns-in-No
+pub returns-in_err-ask_sequence_into : goal.returns-in_err-ask_sequence_into
 unfolding shift
-returns-in-No c = runs-refused _ (asked_no _ c.ask_sequence_into-asked.ensures c.in-No.is)
+returns-in_err-ask_sequence_into c = runs-refused _ _ _ c.from_residual.ensures.1 c.in_err-ask_sequence_into.ensures

@@ -1,6 +1,5 @@
 // Searches in ends. Where ends are not valid they end all the same, somewhere inside.
-ghost use Rattle.std.specs.Prelude.{◌≡◌, ◌≤◌, length};
-ghost use Rattle.std.proofs.Math.Option.{none};
+ghost use Rattle.std.specs.Prelude.{◌≡◌, ◌≤◌, length, None};
 ghost use Rattle.column.specs.Questions.{ends_valid};
 ghost use Rattle.slice.specs.Calls.{first_end_above};
 ghost use Rattle.slice.specs.Workers.{first_end_at_least, clamped_to, touched_by};
@@ -10,7 +9,7 @@ use column::sequence;
 
 // The lowest index of an end above a position, or how many ends there are. Valid ends are above every negative position.
 pub fn first_end_above(ends: &[i64], position: i64) -> usize
-    ensures { (result ≤ length ends.now) × (ends_valid ends.now ≡ none → result ≡ first_end_above position ends.now) }
+    ensures { (result ≤ length ends.now) × (ends_valid ends.now ≡ None → result ≡ first_end_above position ends.now) }
 {
     if position < 0 {
         return 0;
@@ -27,7 +26,7 @@ pub fn first_end_above(ends: &[i64], position: i64) -> usize
 
 // The lowest index of an end at or above a position, or how many ends there are; valid ends are above 0.
 pub fn first_end_at_least(ends: &[i64], position: i64) -> usize
-    ensures { (result ≤ length ends.now) × (ends_valid ends.now ≡ none → result ≡ first_end_at_least position ends.now) }
+    ensures { (result ≤ length ends.now) × (ends_valid ends.now ≡ None → result ≡ first_end_at_least position ends.now) }
 {
     if position <= 0 {
         return 0;
@@ -37,7 +36,7 @@ pub fn first_end_at_least(ends: &[i64], position: i64) -> usize
 
 // The same, by an exponential search: the end is looked for among twice as many until they have it, since a slice mostly touches few runs.
 fn exponential_search(ends: &[i64], position: i64) -> usize
-    ensures { (result ≤ length ends.now) × (ends_valid ends.now ≡ none → result ≡ first_end_at_least position ends.now) }
+    ensures { (result ≤ length ends.now) × (ends_valid ends.now ≡ None → result ≡ first_end_at_least position ends.now) }
 {
     let mut size: usize = 1;
     while size < ends.len() {
@@ -78,7 +77,7 @@ pub struct TouchedRuns {
 
 // The last of them is looked for after the first.
 pub fn touched(ends: &[i64], start: i64, end: i64) -> TouchedRuns
-    ensures { ends_valid ends.now ≡ none → result ≡ touched_by start end ends.now }
+    ensures { ends_valid ends.now ≡ None → result ≡ touched_by start end ends.now }
 {
     let interval = clamped(ends, start, end);
     let from = interval.start;

@@ -1,5 +1,3 @@
-use Prim.Native.Nat.{◌-◌}
-use lib.ListN.{length}
 use Rattle.column.specs.Runs.{runs_of}
 use Rattle.getitems.proofs.Reductions.{reductions}
 use Rattle.reduce.proofs.Intervals.{Filling}
@@ -7,6 +5,3 @@ use Rattle.getitems.proofs.inner.slice_reduce.Given as goal
 
 abbrev pub invariant-loop-i : goal.invariant-loop-i
 invariant-loop-i l = Filling (reductions l.code l.ddof l.starts l.stops (runs_of l.ends l.values)) l.initial.out_kinds l.out_kinds l.initial.out_bits l.out_bits l.i
-
-abbrev pub decreases-loop-i : goal.decreases-loop-i
-decreases-loop-i l = length l.starts - l.i

@@ -4,12 +4,6 @@ use Rattle.float.specs.Float.{converted}
 use Rattle.reduce.proofs.Terms.{square_is}
 use Rattle.reduce.proofs.inner.add_exact_square.Goals as goal
 
-pub exact-requires : goal.exact-requires
-exact-requires c = rw (to_z-of_z c.ranges.value) c.requires.2
-
-pub exact-requires-2 : goal.exact-requires-2
-exact-requires-2 c = rw (to_z-of_z c.ranges.run) c.requires.1
-
 pub returns : goal.returns
 returns c =
     let value = c.exact.ensures ∙ ap converted (to_z-of_z c.ranges.value) in

@@ -1,11 +1,6 @@
-use Prim.Native.Nat.{◌-◌}
-use lib.ListN.{length}
 use Rattle.column.specs.Runs.{to_nat}
 use Rattle.reduce.specs.Workers.{WalkedProducts}
 use Rattle.reduce.proofs.inner.products.Given as goal
 
 abbrev pub invariant-loop-i : goal.invariant-loop-i
 invariant-loop-i l = WalkedProducts (to_nat l.start) l.ends l.values l.i l.before l.total
-
-abbrev pub decreases-loop-i : goal.decreases-loop-i
-decreases-loop-i l = length l.ends - l.i

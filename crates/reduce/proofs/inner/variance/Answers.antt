@@ -2,14 +2,8 @@ use mathlib.Core.Path.{ap, ◌∙◌}
 use lib.Ieee.{binary64, div}
 use mir.Facts.{to_z-of_z}
 use Rattle.float.specs.Float.{converted}
-use Rattle.reduce.proofs.Reducing.{variance_none, variance_some}
+use Rattle.reduce.proofs.Reducing.{variance_some}
 use Rattle.reduce.proofs.inner.variance.Goals as goal
-
-pub returns-then-divisor-le0 : goal.returns-then-divisor-le0
-returns-then-divisor-le0 c = variance_none _ _ _ _ _ c.requires.1 (rw (to_z-of_z c.ranges.divisor) at c.if-divisor-le0.true)
-
-pub square_window-squares-requires : goal.square_window-squares-requires
-square_window-squares-requires c = c.requires.0
 
 pub returns : goal.returns
 returns c =

@@ -1,10 +1,5 @@
-use Prim.Native.Nat.{◌-◌}
-use Rattle.getitems.specs.Workers.{block_size}
 use Rattle.getitems.proofs.Searches.{Halved}
 use Rattle.getitems.proofs.inner.searches.halve.Given as goal
 
 abbrev pub invariant-loop-k : goal.invariant-loop-k
 invariant-loop-k l = Halved l.ends l.places l.lows l.size l.k
-
-abbrev pub decreases-loop-k : goal.decreases-loop-k
-decreases-loop-k l = block_size - l.k

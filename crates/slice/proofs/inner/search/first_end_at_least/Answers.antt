@@ -5,9 +5,6 @@ use Rattle.slice.proofs.inner.search.first_end_at_least.Goals as goal
 pub returns-then-position-le0 : goal.returns-then-position-le0
 returns-then-position-le0 c = let f = to_z-of_z c.ranges.position in (omega arith, λ v. least-low _ _ (rw f at c.if-position-le0.true) v)
 
-pub overflow_sub-position : goal.overflow_sub-position
-overflow_sub-position c = let f = to_z-of_z c.ranges.position in rw f (before-fits _ (rw f at c.if-position-le0.false) c.ranges.position)
-
 pub returns : goal.returns
 returns c =
     let f = to_z-of_z c.ranges.position in

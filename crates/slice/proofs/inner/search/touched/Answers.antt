@@ -1,16 +1,16 @@
-use Rattle.std.proofs.Common.{w64, to_z, of_z, rules}
+use Rattle.std.proofs.Common.{rules}
 use Rattle.column.proofs.Rest.{rest-lent}
-use Rattle.slice.proofs.Touching.{Clamped, clamped-told, rest-valid, touched_none, touched_some}
+use Rattle.slice.proofs.Touching.{clamped-told, rest-valid, touched_none, touched_some}
 use Rattle.slice.proofs.inner.search.touched.Goals as goal
 
 pub returns-then-to-from : goal.returns-then-to-from
 returns-then-to-from c v =
-    let interval : Clamped c.args.ends.now c.args.start c.args.end (to_z w64 (of_z w64 c.clamped-interval.result.start)) (to_z w64 (of_z w64 c.clamped-interval.result.end)) = clamped-told c.clamped-interval.ensures c.ranges.start c.ranges.end (search rules) (search rules) in
+    let interval = clamped-told c.clamped-interval.ensures c.ranges.start c.ranges.end (search rules) (search rules) in
     touched_none interval v c.if-to-from.true
 
 pub returns : goal.returns
 returns c v =
-    let interval : Clamped c.args.ends.now c.args.start c.args.end (to_z w64 (of_z w64 c.clamped-interval.result.start)) (to_z w64 (of_z w64 c.clamped-interval.result.end)) = clamped-told c.clamped-interval.ensures c.ranges.start c.ranges.end (search rules) (search rules) in
+    let interval = clamped-told c.clamped-interval.ensures c.ranges.start c.ranges.end (search rules) (search rules) in
     let es = c.args.ends.now in
     let r = rest-lent c.first_end_above-first.result es in
     let last = c.exponential_search-count.ensures.1 (rw r (rest-valid c.first_end_above-first.result es v)) in
