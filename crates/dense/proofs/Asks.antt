@@ -1,7 +1,7 @@
 -- The room that `to_dense` asks for, after a "yes" to the sequence.
 -- Assumes nothing.
 use Prim.Native.Nat.{ℕ}
-use mathlib.Core.Option.{none}
+use Rattle.std.specs.Prelude.{None}
 use mathlib.Core.List.{List, [], ◌∷◌}
 use mathlib.Core.Path.{◌≡◌, ap, sym, ◌∙◌}
 use lib.IntN.{ℤ}
@@ -14,7 +14,7 @@ use Rattle.column.proofs.FirstNo.{all_yes}
 use Rattle.column.proofs.Told.{agree-told}
 use Rattle.column.proofs.YesNo.{room-one}
 
-pub dense-room : (es vs : List ℤ) (g : ℕ) {q : Question} {n : ℕ} {x : ℤ} → first_no (paired (sequence es vs) ∷ ends_valid es ∷ []) ≡ none
+pub dense-room : (es vs : List ℤ) (g : ℕ) {q : Question} {n : ℕ} {x : ℤ} → first_no (paired (sequence es vs) ∷ ends_valid es ∷ []) ≡ None
     → q ≡ room_at 0 n g → n ≡ to_nat x → x ≡ length_of_ends es → q ≡ room (length_of (runs_of es vs) ∷ []) (g ∷ [])
 unfolding paired
 dense-room es vs g y h en ex =

@@ -1,7 +1,7 @@
 -- What the questions of `to_dense` tell where all are answered "yes": what its worker requires.
 -- Assumes nothing.
 use Prim.Native.Nat.{◌≤◌}
-use mathlib.Core.Option.{none}
+use Rattle.std.specs.Prelude.{None}
 use mathlib.Core.List.{List, [], ◌∷◌}
 use mathlib.Core.Path.{◌≡◌, sym, ◌∙◌}
 use lib.IntN.{ℤ}
@@ -15,8 +15,8 @@ use Rattle.column.proofs.Told.{agree-told, room-told}
 use Rattle.column.proofs.YesNo.{room-one}
 use Rattle.dense.specs.Calls.{to_dense_asked}
 
-pub to_dense-yes : (es vs out : List ℤ) → to_dense_asked (sequence es vs) (length out ∷ []) ≡ none
-    → (ends_valid es ≡ none) × (length es ≡ length vs) × (length (dense (runs_of es vs)) ≤ length out)
+pub to_dense-yes : (es vs out : List ℤ) → to_dense_asked (sequence es vs) (length out ∷ []) ≡ None
+    → (ends_valid es ≡ None) × (length es ≡ length vs) × (length (dense (runs_of es vs)) ≤ length out)
 unfolding to_dense_asked paired
 to_dense-yes es vs out h =
     let n = length_of (runs_of es vs) in

@@ -1,6 +1,5 @@
 // Workers that assume what the calls have asked.
-ghost use Rattle.std.specs.Prelude.{◌+◌, ◌-◌, ◌≤◌, ◌<◌, ◌^◌, true, cond, ◌++◌, ◌≡◌, length, take, drop, replicate};
-ghost use Rattle.std.proofs.Math.Option.{none};
+ghost use Rattle.std.specs.Prelude.{◌+◌, ◌-◌, ◌≤◌, ◌<◌, ◌^◌, true, cond, ◌++◌, ◌≡◌, length, take, drop, replicate, None};
 ghost use Rattle.num.specs.Numbers.{eq_z};
 ghost use Rattle.column.specs.Questions.{ends_valid};
 ghost use Rattle.column.specs.Runs.{runs_of, dense, encode, over, Fills};
@@ -25,11 +24,9 @@ fn all_equal(values: &[i64], from: usize, to: usize, value: i64) -> bool
     ensures { result ≡ true → Constant values.now from to value }
 {
     let mut count: usize = 0;
-    let mut i = from;
-    while i < to {
+    for i in from..to {
         let x = values[i];
         count = count_if_equal(count, x, value);
-        i += 1;
     }
     count == to - from
 }
@@ -47,11 +44,9 @@ fn push_values(
     ensures { Encoded values.now out_ends.old out_ends.new out_values.old out_values.new result to }
 {
     let mut next = writer;
-    let mut i = from;
-    while i < to {
+    for i in from..to {
         let value = values[i];
-        i += 1;
-        next = column::inner::push_merged(next, out_ends, out_values, i as i64, value);
+        next = column::inner::push_merged(next, out_ends, out_values, (i + 1) as i64, value);
     }
     next
 }
@@ -86,13 +81,19 @@ pub fn from_dense(values: &[i64], out_ends: &mut [i64], out_values: &mut [i64]) 
     }
     let first = values[0];
     let mut writer = Writer { at: 0, last: first };
-    let mut i: usize = 0;
-    while values.len() - i >= BLOCK {
-        let to = i + BLOCK;
-        writer = push_block(writer, values, i, to, out_ends, out_values);
-        i = to;
+    let blocks = values.len() / BLOCK;
+    for block in 0..blocks {
+        let from = block * BLOCK;
+        writer = push_block(writer, values, from, from + BLOCK, out_ends, out_values);
     }
-    let end = push_values(writer, values, i, values.len(), out_ends, out_values);
+    let end = push_values(
+        writer,
+        values,
+        blocks * BLOCK,
+        values.len(),
+        out_ends,
+        out_values,
+    );
     end.at + 1
 }
 
@@ -101,29 +102,25 @@ fn fill(out: &mut [i64], from: usize, to: usize, value: i64)
     requires { (from ≤ to) × (to ≤ length out.old) }
     ensures { out.new ≡ take from out.old ++ replicate (to - from) value ++ drop to out.old }
 {
-    let mut p = from;
-    while p < to {
+    for p in from..to {
         out[p] = value;
-        p += 1;
     }
 }
 
 // What a sequence shows, position by position.
 pub fn to_dense(ends: &[i64], values: &[i64], out: &mut [i64]) -> usize
-    requires { (ends_valid ends.now ≡ none) × (length ends.now ≡ length values.now)
+    requires { (ends_valid ends.now ≡ None) × (length ends.now ≡ length values.now)
         × (length (dense (runs_of ends.now values.now)) ≤ length out.old) }
     ensures { (result ≡ length (dense (runs_of ends.now values.now)))
         × (out.new ≡ over (dense (runs_of ends.now values.now)) out.old) }
 {
     let mut p: usize = 0;
-    let mut r: usize = 0;
-    while r < ends.len() {
+    for r in 0..ends.len() {
         let end = ends[r];
         let to = end as usize;
         let value = values[r];
         fill(out, p, to, value);
         p = to;
-        r += 1;
     }
     p
 }

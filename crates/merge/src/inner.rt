@@ -1,6 +1,5 @@
 // A worker that assumes what the calls have asked.
-ghost use Rattle.std.specs.Prelude.{◌≤◌, ◌≡◌, length};
-ghost use Rattle.std.proofs.Math.Option.{none};
+ghost use Rattle.std.specs.Prelude.{◌≤◌, ◌≡◌, length, None};
 ghost use Rattle.column.specs.Questions.{ends_valid};
 ghost use Rattle.column.specs.Runs.{runs_of, dense, encode, Fills};
 
@@ -9,7 +8,7 @@ use column::sequence;
 
 // The runs of a sequence, merged.
 pub fn merged(ends: &[i64], values: &[i64], out_ends: &mut [i64], out_values: &mut [i64]) -> usize
-    requires { (ends_valid ends.now ≡ none) × (length ends.now ≡ length values.now)
+    requires { (ends_valid ends.now ≡ None) × (length ends.now ≡ length values.now)
         × (length ends.now ≤ length out_ends.old) × (length ends.now ≤ length out_values.old) }
     ensures { Fills (encode (dense (runs_of ends.now values.now))) out_ends out_values result }
 {

@@ -1,6 +1,6 @@
 -- Worked examples of the calls of merge.rs, computed from their definitions. A is document 01's: ends 3, 5, 9, values 7, 2, 7.
 -- Assumes nothing.
-use mathlib.Core.Option.{none}
+use Rattle.std.specs.Prelude.{None}
 use mathlib.Core.List.{List, [], ◌∷◌}
 use mathlib.Core.Path.{refl}
 use lib.IntN.{ℤ, pos}
@@ -22,10 +22,10 @@ abbrev rows : List Row
 rows =
     row (as_runs (merge_mask a (1 ∷ 0 ∷ []) 0 (3 ∷ 3 ∷ []))) (answers ((pos 5 ∷ pos 9 ∷ []) ∷ (pos 7 ∷ pos 7 ∷ []) ∷ []))
     ∷ row (as_runs (merge_mask a (1 ∷ 0 ∷ []) 1 (3 ∷ 3 ∷ []))) (answers ((pos 5 ∷ pos 9 ∷ []) ∷ (pos 2 ∷ pos 7 ∷ []) ∷ []))
-    ∷ row (as_runs (merge_mask a (1 ∷ 0 ∷ 2 ∷ 3 ∷ []) 0 (0 ∷ 0 ∷ []))) (refused 1 (pos 2 ∷ []) none)
-    ∷ row (as_runs (merge_mask a (1 ∷ []) 0 (0 ∷ 0 ∷ []))) (refused 2 (pos 6 ∷ pos 1 ∷ pos 2 ∷ []) none)
+    ∷ row (as_runs (merge_mask a (1 ∷ 0 ∷ 2 ∷ 3 ∷ []) 0 (0 ∷ 0 ∷ []))) (refused 1 (pos 2 ∷ []) None)
+    ∷ row (as_runs (merge_mask a (1 ∷ []) 0 (0 ∷ 0 ∷ []))) (refused 2 (pos 6 ∷ pos 1 ∷ pos 2 ∷ []) None)
     ∷ row (as_runs (merge_by (sequence ends (pos 3 ∷ pos 5 ∷ pos 4 ∷ [])) 8 (3 ∷ 3 ∷ []))) (answers ((pos 5 ∷ pos 9 ∷ []) ∷ (pos 3 ∷ pos 4 ∷ []) ∷ []))
-    ∷ row (as_runs (merge_by a 0 (3 ∷ 3 ∷ []))) (refused 1 (pos 0 ∷ []) none)
+    ∷ row (as_runs (merge_by a 0 (3 ∷ 3 ∷ []))) (refused 1 (pos 0 ∷ []) None)
     ∷ []
 
 pub examples : Hold rows

@@ -15,6 +15,7 @@ use Rattle.column.specs.Runs.{over}
 use Rattle.column.proofs.Buffer.{over_store}
 use Rattle.merge_mask.specs.Calls.{Group, alone, in_front, groups_from, groups}
 use Rattle.column.specs.Workers.{place_after}
+use Rattle.merge_mask.specs.Workers.{joins_at}
 
 pub place_up : (joins : Bool) (at : ℕ) → place_after joins at ≤ at + 1
 place_up true at = omega arith
@@ -24,10 +25,6 @@ map-take : {A B : Type 0} (f : A → B) (n : ℕ) (xs : List A) → take n (map 
 map-take f zero xs = refl
 map-take f (suc n) [] = refl
 map-take f (suc n) (x ∷ xs) = ap (λ l. f x ∷ l) (map-take f n xs)
-
--- does the run after run i join it
-abbrev pub joins_at : List ℕ → ℕ → Bool
-joins_at mask i = eqb (get_or mask i 0) 1
 
 module _ {A : Type 0} where
   -- a run after the last of a group

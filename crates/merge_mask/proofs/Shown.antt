@@ -3,7 +3,7 @@
 -- Assumes nothing.
 use Prim.Native.Nat.{ℕ, ◌+◌, ◌-◌, ◌≤◌, ◌<◌}
 use mathlib.Core.Bool.{true, false, cond}
-use mathlib.Core.Option.{none}
+use Rattle.std.specs.Prelude.{None}
 use mathlib.Core.List.{List, [], ◌∷◌, ◌++◌, map, append_assoc}
 use mathlib.Core.Path.{◌≡◌, refl, sym, ap, ◌∙◌}
 use native.Mathlib.Omega.{arith}
@@ -260,14 +260,14 @@ kept_by code (x ∷ xs) = first_by code x.value x xs
 
 -- ---- of the sequences that the calls are handed
 
-module _ (es vs : List ℤ) (valid : ends_valid es ≡ none) where
+module _ (es vs : List ℤ) (valid : ends_valid es ≡ None) where
   runs-valid : Valid (runs_of es vs)
   runs-valid = runs-rise 0 es vs (rising es valid)
 
-  pub merge_mask-ends : (keep : ℕ) (mask : List ℕ) → ends_valid (ends_of (mask_runs keep mask (runs_of es vs))) ≡ none
+  pub merge_mask-ends : (keep : ℕ) (mask : List ℕ) → ends_valid (ends_of (mask_runs keep mask (runs_of es vs))) ≡ None
   merge_mask-ends keep mask = valid-ends (mask_runs keep mask (runs_of es vs)) (merge_mask-valid keep mask (runs_of es vs) runs-valid)
 
-  pub merge_by-ends : (code : ℕ) → ends_valid (ends_of (mask_runs 0 (neighbours code vs) (runs_of es vs))) ≡ none
+  pub merge_by-ends : (code : ℕ) → ends_valid (ends_of (mask_runs 0 (neighbours code vs) (runs_of es vs))) ≡ None
   merge_by-ends code = merge_mask-ends 0 (neighbours code vs)
 
   pub merge_by-shows : (code : ℕ) → length es ≡ length vs

@@ -1,15 +1,16 @@
 -- A loop that writes a run for each group: the first r runs are in the groups so far.
 -- Assumes nothing.
-use Prim.Native.Nat.{ℕ, zero, suc, ◌+◌, ◌-◌, ◌≤◌, ◌<◌, ◌^◌}
+use Prim.Native.Nat.{ℕ, zero, suc, ◌+◌, ◌-◌, ◌≤◌, ◌<◌}
 use mathlib.Core.Bool.{Bool, true, false, not, cond}
 use mathlib.Core.List.{List, [], ◌∷◌, map}
 use mathlib.Core.Path.{◌≡◌, refl, sym, ap, ◌∙◌}
 use native.Mathlib.Omega.{arith}
 use lib.Dec.{eqb}
 use lib.IntN.{ℤ, pos, negsuc}
-use lib.ListN.{length, get_or, take, set, length-set, length-map, get_or-map}
+use lib.ListN.{length, get_or, take, length-set, length-map, get_or-map}
 use lib.Seq.{take_all}
-use Rattle.num.specs.Numbers.{eq_z, operation}
+use Rattle.num.specs.Numbers.{eq_z, operation, comparison}
+use Rattle.num.proofs.Operation.{comparison-operation}
 use Rattle.num.proofs.Tests.{by-test}
 use Rattle.column.specs.Runs.{Run, Runs, to_nat, runs_of, ends_of, values_of, over, Filled}
 use Rattle.column.proofs.Ends.{rising, ends-runs, values-runs, length_runs}
@@ -17,9 +18,9 @@ use Rattle.column.proofs.Sequences.{length-ends, length-values}
 use Rattle.merge_mask.specs.declared.inner.GroupWriter.{GroupWriter}
 use Rattle.merge_mask.specs.Calls.{Group, alone, groups, mask_runs, neighbours}
 use Rattle.column.specs.Workers.{place_after}
-use Rattle.merge_mask.specs.Workers.{kept_after, Writable, WroteRun, Mergeable}
+use Rattle.merge_mask.specs.Workers.{joins_at, kept_after, WroteRun, Mergeable}
 use Rattle.merge_mask.proofs.First.{over-again, over_first}
-use Rattle.merge_mask.proofs.Groups.{joins_at, place_up, last_group, push_group, new_group, new_group_lem, new_last, last_push, group_place, place_is}
+use Rattle.merge_mask.proofs.Groups.{place_up, last_group, push_group, new_group, new_group_lem, new_last, last_push, group_place, place_is}
 use Rattle.merge_mask.proofs.Groups.{length_push, groups-take, groups-some, push_store}
 
 -- the end and the value of the run that stands for a group
@@ -62,12 +63,6 @@ new_value keep true last gs y vs kept r el h ev ey =
     sym (ap (group_value keep) (new_group_lem true (alone no_run) gs y h)
     ∙ by-test (eqb keep 0) (λ t. rw (el, t) (rw t at ev)) (λ t. rw (el, t) ey))
 
--- a run was written: what the code stores and where
-pub wrote_run : (w : GroupWriter) (joins last : Bool) (es vs : List ℤ) (r : ℕ) (e v : List ℤ) {p k : ℕ} {x y : ℤ}
-    → p ≡ place_after joins w.at → k ≡ kept_after joins last w.kept r
-    → x ≡ get_or es r (pos 0) → y ≡ get_or vs k (pos 0) → WroteRun w joins last es vs r e (set e p x) v (set v p y) (record { at = p; kept = k })
-wrote_run w joins last es vs r e v ep ek ex ey = record { place = ep; kept = ek; ends = rw (ep, ex); values = rw (ep, ey, ek) }
-
 pub wrote_long : {w next : GroupWriter} {joins last : Bool} {es vs : List ℤ} {r : ℕ} {e e' v v' : List ℤ} → WroteRun w joins last es vs r e e' v v' next
     → (length e' ≡ length e) × (length v' ≡ length v)
 wrote_long d = (ap length d.ends ∙ simp length-set refl, ap length d.values ∙ simp length-set refl)
@@ -85,7 +80,6 @@ pub record Merging (keep : ℕ) (gs : List (Group Run)) (vs e₀ v₀ e v : List
 
 -- those of the first r runs of a sequence
 pub record Merged (keep : ℕ) (mask : List ℕ) (es vs e₀ v₀ e v : List ℤ) (w : GroupWriter) (r : ℕ) : Type 0 where
-  pub within : r ≤ length es
   pub merging : Merging keep (groups (take r (runs_of es vs)) mask) vs e₀ v₀ e v w r
 
 -- which neighbours are joined
@@ -104,9 +98,12 @@ pub one_to_nat : (z : ℤ) → eq_z z (pos 1) ≡ eqb (to_nat z) 1
 one_to_nat (pos n) = refl
 one_to_nat (negsuc n) = refl
 
-pub neighbours-told : (code : ℕ) (vs : List ℤ) (r : ℕ) {x y : ℤ} {b : Bool} → 0 < r → r < length vs → b ≡ eq_z (operation code x y) (pos 1)
-    → x ≡ get_or vs (r - 1) (pos 0) → y ≡ get_or vs r (pos 0) → b ≡ joins_at (neighbours code vs) (r - 1)
-neighbours-told code vs r {x} {y} p h e ex ey = e ∙ one_to_nat (operation code x y) ∙ rw (ex, ey) (sym (neighbours_at code vs r p h))
+pub neighbours-told : (code : ℕ) → 7 ≤ code → code ≤ 8 → (vs : List ℤ) (r : ℕ) {b : Bool} → 0 < r → r < length vs
+    → b ≡ comparison code (get_or vs (r - 1) (pos 0)) (get_or vs r (pos 0)) → b ≡ joins_at (neighbours code vs) (r - 1)
+neighbours-told code low high vs r p h e =
+    let x = get_or vs (r - 1) (pos 0) in
+    let y = get_or vs r (pos 0) in
+    e ∙ comparison-operation code x y low high ∙ one_to_nat (operation code x y) ∙ sym (neighbours_at code vs r p h)
 
 -- no runs
 pub merging-none : (keep : ℕ) (mask : List ℕ) (es vs e₀ v₀ : List ℤ) → length es ≡ 0 → Filled (mask_runs keep mask (runs_of es vs)) e₀ e₀ v₀ v₀ 0
@@ -115,16 +112,6 @@ merging-none keep mask [] vs e₀ v₀ h = record { count = refl; ends = refl; v
 merging-none keep mask (x ∷ es) vs e₀ v₀ h = let z : ⊥ = omega arith in absurd z
 
 module _ {es vs e₀ v₀ : List ℤ} (m : Mergeable es vs e₀ v₀) where
-  pub first-room : 0 < length es → Writable (record { at = 0; kept = 0 }) true es vs 0 e₀ v₀
-  first-room h = record {
-    small = omega arith;
-    kept = omega arith;
-    run_ends = h;
-    run_values = omega (arith, m.paired);
-    room_ends = omega (arith, m.room_ends);
-    room_values = omega (arith, m.room_values);
-  }
-
   -- a loop goes on from what was written
   pub started : {w next : GroupWriter} {joins last : Bool} {r : ℕ} {e v : List ℤ} → WroteRun w joins last es vs r e₀ e v₀ v next → Mergeable es vs e v
   started d = record {
@@ -188,7 +175,6 @@ module _ {es vs e₀ v₀ : List ℤ} (m : Mergeable es vs e₀ v₀) (keep : �
     merged-start =
         let g = merging-first in
         record {
-          within = h;
           merging = rw first (record {
             ends = over-again _ e₀ g.ends;
             values = over-again _ v₀ g.values;
@@ -217,19 +203,6 @@ module _ {es vs e₀ v₀ : List ℤ} (m : Mergeable es vs e₀ v₀) (keep : �
   -- ---- one more run
 
   module _ {e v : List ℤ} {w : GroupWriter} {r : ℕ} (n : Merged keep mask es vs e₀ v₀ e v w r) (h : r < length es) where
-    pub merged-room : (joins : Bool) → length es < 2 ^ 63 → Writable w joins es vs r e v
-    merged-room joins b =
-        let p = place_up joins w.at in
-        let g = n.merging in
-        record {
-          small = omega (arith, g.few);
-          kept = omega (arith, g.kept);
-          run_ends = h;
-          run_values = omega (arith, m.paired);
-          room_ends = omega (arith, g.few, g.long_ends, m.room_ends);
-          room_values = omega (arith, g.few, g.long_values, m.room_values);
-        }
-
     module _ {joins last : Bool} {e' v' : List ℤ} {next : GroupWriter} (d : WroteRun w joins last es vs r e e' v v' next) where
       merging-more : last ≡ not (eqb keep 0) → Merging keep (push_group joins (groups (take r (runs_of es vs)) mask) (run r)) vs e₀ v₀ e' v' next (r + 1)
       merging-more el =
@@ -253,7 +226,7 @@ module _ {es vs e₀ v₀ : List ℤ} (m : Mergeable es vs e₀ v₀) (keep : �
 
       pub merged-more : joins ≡ joins_at mask (r - 1) → last ≡ not (eqb keep 0) → Merged keep mask es vs e₀ v₀ e' v' next (r + 1)
       unfolding rs
-      merged-more ej el = record { within = omega arith; merging = rw (more r h, ← ej) (merging-more el) }
+      merged-more ej el = record { merging = rw (more r h, ← ej) (merging-more el) }
 
   -- ---- all runs
 

@@ -1,7 +1,7 @@
 -- What a call's questions tell where all are answered "yes": what its worker requires.
 -- Assumes nothing.
 use Prim.Native.Nat.{ℕ, ◌-◌, ◌≤◌}
-use mathlib.Core.Option.{none}
+use Rattle.std.specs.Prelude.{None}
 use mathlib.Core.List.{List, [], ◌∷◌}
 use mathlib.Core.Path.{◌≡◌}
 use lib.IntN.{ℤ}
@@ -14,7 +14,7 @@ use Rattle.merge_mask.specs.Calls.{merge_mask_asked, merge_by_asked}
 use Rattle.merge_mask.specs.Workers.{Mergeable}
 
 module _ (es vs e v : List ℤ) where
-  pub merge_mask-yes : (mask : List ℕ) (keep : ℕ) → merge_mask_asked (sequence es vs) mask keep (length e ∷ length v ∷ []) ≡ none
+  pub merge_mask-yes : (mask : List ℕ) (keep : ℕ) → merge_mask_asked (sequence es vs) mask keep (length e ∷ length v ∷ []) ≡ None
       → Mergeable es vs e v × (length mask ≡ length es - 1)
   unfolding merge_mask_asked paired mask_agrees
   merge_mask-yes mask keep h =
@@ -25,7 +25,7 @@ module _ (es vs e v : List ℤ) where
         agree-told 6 (length mask) (length es - 1) y.1.1.1.0,
       )
 
-  pub merge_by-yes : (code : ℕ) → merge_by_asked (sequence es vs) code (length e ∷ length v ∷ []) ≡ none → Mergeable es vs e v × (7 ≤ code) × (code ≤ 8)
+  pub merge_by-yes : (code : ℕ) → merge_by_asked (sequence es vs) code (length e ∷ length v ∷ []) ≡ None → Mergeable es vs e v × (7 ≤ code) × (code ≤ 8)
   unfolding merge_by_asked
   merge_by-yes code h =
       let y = all_yes (listed 7 8 code ∷ sequence_asked (sequence es vs) (length es) (length e ∷ length v ∷ []) ∷ []) h in

@@ -1,6 +1,5 @@
 -- What the workers leave and require.
-use Rattle.std.specs.Prelude.{ℕ, ◌+◌, ◌≤◌, ◌<◌, ◌^◌, Bool, cond, List, ◌≡◌, ℤ, pos, length, get_or, set}
-use Rattle.std.proofs.Math.Option.{none}
+use Rattle.std.specs.Prelude.{ℕ, ◌+◌, ◌-◌, ◌≤◌, ◌<◌, ◌^◌, Bool, cond, List, ◌≡◌, ℤ, pos, length, get_or, set, eqb, None}
 use Rattle.column.specs.Questions.{ends_valid}
 use Rattle.column.specs.Workers.{place_after}
 use Rattle.merge_mask.specs.declared.inner.GroupWriter.{GroupWriter}
@@ -27,7 +26,15 @@ pub record WroteRun (w : GroupWriter) (joins last : Bool) (es vs : List ℤ) (r 
 
 -- a valid sequence, and room for as many runs
 pub record Mergeable (es vs e v : List ℤ) : Type 0 where
-  pub valid : ends_valid es ≡ none
+  pub valid : ends_valid es ≡ None
   pub paired : length es ≡ length vs
   pub room_ends : length es ≤ length e
   pub room_values : length es ≤ length v
+
+-- does the run after run i join it
+abbrev pub joins_at : List ℕ → ℕ → Bool
+joins_at mask i = eqb (get_or mask i 0) 1
+
+-- what is told of each run and the next is what the mask says
+abbrev pub Tells : (ℕ → ℕ → Bool → Type 0) → List ℕ → ℕ → Type 0
+Tells told mask n = (run : ℕ) (b : Bool) → 0 < run → run < n → told (run - 1) run b → b ≡ joins_at mask (run - 1)

@@ -1,9 +1,9 @@
 // Workers that assume what the calls have asked.
-ghost use Rattle.std.specs.Prelude.{◌+◌, ◌-◌, ◌≤◌, ◌<◌, ◌^◌, ◌≡◌, length};
+ghost use Rattle.std.specs.Prelude.{ℕ, ◌+◌, ◌-◌, ◌≤◌, ◌<◌, ◌^◌, List, ◌≡◌, length};
 ghost use Rattle.column.specs.Runs.{runs_of, Fills};
 ghost use Rattle.merge_mask.specs.Calls.{mask_runs, neighbours};
 ghost use Rattle.column.specs.Workers.{place_after};
-ghost use Rattle.merge_mask.specs.Workers.{kept_after, Writable, WroteRun, Mergeable};
+ghost use Rattle.merge_mask.specs.Workers.{kept_after, Writable, WroteRun, Mergeable, Tells};
 
 // The group that is being written: its place, and the run whose value it keeps.
 #[derive(Clone, Copy)]
@@ -55,7 +55,36 @@ fn write_run(
     GroupWriter { at, kept }
 }
 
-// A run for each group that a mask makes.
+// A run for each group, where `joins` tells of a run and the next whether they are in one group.
+fn merge_groups<F: Fn(usize, usize) -> bool>(
+    ends: &[i64],
+    values: &[i64],
+    keep: u8,
+    joins: F,
+    out_ends: &mut [i64],
+    out_values: &mut [i64],
+) -> usize
+    requires ready { Mergeable ends.now values.now out_ends.old out_values.old }
+    requires told { (run : ℕ) → 0 < run → run < length ends.now → F.pre joins (run - 1) run }
+    ensures { (mask : List ℕ) → Tells (F.post joins) mask (length ends.now)
+        → Fills (mask_runs keep mask (runs_of ends.now values.now)) out_ends out_values result }
+{
+    if ends.len() == 0 {
+        return 0;
+    }
+    let last = keep != 0;
+    let first = GroupWriter { at: 0, kept: 0 };
+    let mut writer = write_run(first, true, last, ends, values, 0, out_ends, out_values);
+    for run in 1..ends.len() {
+        let joined = joins(run - 1, run);
+        writer = write_run(
+            writer, joined, last, ends, values, run, out_ends, out_values,
+        );
+    }
+    writer.at + 1
+}
+
+// The groups that a mask makes.
 pub fn merge_mask(
     ends: &[i64],
     values: &[i64],
@@ -67,22 +96,11 @@ pub fn merge_mask(
     requires { Mergeable ends.now values.now out_ends.old out_values.old × (length mask.now ≡ length ends.now - 1) }
     ensures { Fills (mask_runs keep mask.now (runs_of ends.now values.now)) out_ends out_values result }
 {
-    if ends.len() == 0 {
-        return 0;
-    }
-    let last = keep != 0;
-    let first = GroupWriter { at: 0, kept: 0 };
-    let mut writer = write_run(first, true, last, ends, values, 0, out_ends, out_values);
-    let mut run: usize = 1;
-    while run < ends.len() {
-        let joins = mask[run - 1] == 1;
-        writer = write_run(writer, joins, last, ends, values, run, out_ends, out_values);
-        run += 1;
-    }
-    writer.at + 1
+    let joins = |run: usize, _next: usize| mask[run] == 1;
+    merge_groups(ends, values, keep, joins, out_ends, out_values)
 }
 
-// A run for each group of neighbours of which the operation holds.
+// The groups of neighbours of which the operation holds.
 pub fn merge_by(
     ends: &[i64],
     values: &[i64],
@@ -93,20 +111,6 @@ pub fn merge_by(
     requires { Mergeable ends.now values.now out_ends.old out_values.old × (7 ≤ code) × (code ≤ 8) }
     ensures { Fills (mask_runs 0 (neighbours code values.now) (runs_of ends.now values.now)) out_ends out_values result }
 {
-    if ends.len() == 0 {
-        return 0;
-    }
-    let first = GroupWriter { at: 0, kept: 0 };
-    let mut writer = write_run(first, true, false, ends, values, 0, out_ends, out_values);
-    let mut run: usize = 1;
-    while run < ends.len() {
-        let left = values[run - 1];
-        let right = values[run];
-        let joins = num::holds(code, left, right);
-        writer = write_run(
-            writer, joins, false, ends, values, run, out_ends, out_values,
-        );
-        run += 1;
-    }
-    writer.at + 1
+    let joins = |run: usize, next: usize| num::holds(code, values[run], values[next]);
+    merge_groups(ends, values, 0, joins, out_ends, out_values)
 }

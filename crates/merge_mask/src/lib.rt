@@ -8,7 +8,7 @@ ghost use Rattle.column.specs.Paper.{WritesRuns};
 ghost use Rattle.column.specs.Runs.{sequence};
 ghost use Rattle.merge_mask.specs.Calls as calls;
 
-use column::answer::{Asked, Counted};
+use column::error::Refusal;
 
 fn merge_mask_asks(
     ends: &[i64],
@@ -17,15 +17,15 @@ fn merge_mask_asks(
     keep: u8,
     out_ends: usize,
     out_values: usize,
-) -> Asked
+) -> Result<(), Refusal>
     ensures { shown_asked result ≡ calls.merge_mask_asked (sequence ends.now values.now) mask.now keep (out_ends ∷ out_values ∷ []) }
 {
-    questions::ask_code(0, 1, keep)
-        .and(questions::ask_mask(mask))
-        .and(questions::ask_lengths(3, ends.len(), values.len()))
-        .and(questions::ask_mask_length(mask, ends))
-        .and(questions::ask_ends(ends))
-        .and(questions::ask_both(ends.len(), out_ends, out_values))
+    questions::ask_code(0, 1, keep)?;
+    questions::ask_mask(mask)?;
+    questions::ask_lengths(3, ends.len(), values.len())?;
+    questions::ask_mask_length(mask, ends)?;
+    questions::ask_ends(ends)?;
+    questions::ask_both(ends.len(), out_ends, out_values)
 }
 
 // A run for each group that a mask makes, with the value of its first or of its last run.
@@ -36,17 +36,12 @@ pub fn merge_mask(
     keep: u8,
     out_ends: &mut [i64],
     out_values: &mut [i64],
-) -> Counted
+) -> Result<usize, Refusal>
     ensures { WritesRuns (calls.merge_mask (sequence ends.now values.now) mask.now keep) out_ends out_values result }
 {
-    let asked = merge_mask_asks(ends, values, mask, keep, out_ends.len(), out_values.len());
-    match asked {
-        Asked::Yes => {
-            let n = inner::merge_mask(ends, values, mask, keep, out_ends, out_values);
-            Counted::Count(n)
-        }
-        Asked::No(r) => Counted::Refused(r),
-    }
+    merge_mask_asks(ends, values, mask, keep, out_ends.len(), out_values.len())?;
+    let n = inner::merge_mask(ends, values, mask, keep, out_ends, out_values);
+    Ok(n)
 }
 
 fn merge_by_asks(
@@ -55,16 +50,11 @@ fn merge_by_asks(
     code: u8,
     out_ends: usize,
     out_values: usize,
-) -> Asked
+) -> Result<(), Refusal>
     ensures { shown_asked result ≡ calls.merge_by_asked (sequence ends.now values.now) code (out_ends ∷ out_values ∷ []) }
 {
-    questions::ask_code(7, 8, code).and(questions::ask_sequence_into(
-        ends,
-        values,
-        ends.len(),
-        out_ends,
-        out_values,
-    ))
+    questions::ask_code(7, 8, code)?;
+    questions::ask_sequence_into(ends, values, ends.len(), out_ends, out_values)
 }
 
 // A run for each group of neighbours of which the operation holds, with the value of its first run.
@@ -74,15 +64,10 @@ pub fn merge_by(
     code: u8,
     out_ends: &mut [i64],
     out_values: &mut [i64],
-) -> Counted
+) -> Result<usize, Refusal>
     ensures { WritesRuns (calls.merge_by (sequence ends.now values.now) code) out_ends out_values result }
 {
-    let asked = merge_by_asks(ends, values, code, out_ends.len(), out_values.len());
-    match asked {
-        Asked::Yes => {
-            let n = inner::merge_by(ends, values, code, out_ends, out_values);
-            Counted::Count(n)
-        }
-        Asked::No(r) => Counted::Refused(r),
-    }
+    merge_by_asks(ends, values, code, out_ends.len(), out_values.len())?;
+    let n = inner::merge_by(ends, values, code, out_ends, out_values);
+    Ok(n)
 }

@@ -1,7 +1,7 @@
 -- Worked examples of merge_plan and group_ids, computed from their definitions.
 -- Assumes nothing.
 use Prim.Native.Nat.{ℕ}
-use mathlib.Core.Option.{none}
+use Rattle.std.specs.Prelude.{None}
 use mathlib.Core.List.{List, [], ◌∷◌, map}
 use mathlib.Core.Path.{refl}
 use lib.IntN.{ℤ, pos}
@@ -26,9 +26,9 @@ abbrev rows : List Row
 rows =
     row (as_groups (merge_plan ends (1 ∷ 0 ∷ []) (3 ∷ 4 ∷ []))) (answers ((pos 5 ∷ pos 9 ∷ []) ∷ (pos 0 ∷ pos 2 ∷ pos 3 ∷ []) ∷ []))
     ∷ row (as_groups (merge_plan [] [] (0 ∷ 1 ∷ []))) (answers ([] ∷ (pos 0 ∷ []) ∷ []))
-    ∷ row (as_groups (merge_plan [] [] (0 ∷ 0 ∷ []))) (refused 12 (pos 1 ∷ pos 1 ∷ pos 0 ∷ []) none)
+    ∷ row (as_groups (merge_plan [] [] (0 ∷ 0 ∷ []))) (refused 12 (pos 1 ∷ pos 1 ∷ pos 0 ∷ []) None)
     ∷ row (as_ids (group_ids (0 ∷ 2 ∷ 2 ∷ 3 ∷ []) (3 ∷ []))) (answers ((pos 0 ∷ pos 0 ∷ pos 2 ∷ []) ∷ []))
-    ∷ row (as_ids (group_ids (1 ∷ 2 ∷ []) (2 ∷ []))) (refused 3 [] none)
+    ∷ row (as_ids (group_ids (1 ∷ 2 ∷ []) (2 ∷ []))) (refused 3 [] None)
     ∷ []
 
 pub examples : Hold rows

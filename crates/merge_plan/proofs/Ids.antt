@@ -6,16 +6,13 @@ use mathlib.Core.List.{List, [], ◌∷◌, ◌++◌, append_assoc, append-nil}
 use mathlib.Core.Path.{◌≡◌, refl, sym, ap, ap₂, ◌∙◌}
 use native.Mathlib.Numerals.{add-one}
 use native.Mathlib.Omega.{arith}
-use lib.Dec.{eqb}
 use lib.ListN.{length, get_or, take, drop, set, replicate, length-append, length-replicate, length-drop, replicate-append-replicate, take-append-drop}
 use lib.ListN.{drop_of_length-le}
 use lib.Seq.{take-append-le, take_at, length-take-le, drop-append-add, drop-drop, drop-cons}
-use borrow.Author.Tests.{eqb-true}
-use Rattle.num.proofs.Tests.{both_true}
-use Rattle.column.specs.Questions.{rise, start_and_rise, last_offset}
+use Rattle.column.specs.Questions.{start_and_rise, last_offset}
 use Rattle.column.specs.Runs.{over}
 use Rattle.column.proofs.Buffer.{stretched, stretched-none, stretched-more}
-use Rattle.column.proofs.Flattened.{offset-within}
+use Rattle.column.proofs.Flattened.{offsets-some, offset-within}
 use Rattle.column.proofs.Lists.{last_is}
 use Rattle.column.proofs.YesNo.{offsets-yes}
 use Rattle.merge_plan.specs.Calls.{ids_from, ids_at}
@@ -97,26 +94,20 @@ module _ {b₀ b : List ℕ} {from limit id i : ℕ} (n : Filling b₀ b from li
 -- ---- group by group: the groups before `group` are written, and `from` is where it starts
 
 pub record Numbering (os b₀ b : List ℕ) (limit from group : ℕ) : Type 0 where
-  pub within : group < length os
   pub starts : from ≡ get_or os group 0
   pub written : take from b ++ ids_from group from (drop (group + 1) os) ≡ ids_at os
   pub rest : drop limit b ≡ drop limit b₀
   pub long : length b ≡ length b₀
 
-pub numbering_start : (os b : List ℕ) (limit : ℕ) → start_and_rise os ≡ true → Numbering os b b limit 0 0
-numbering_start [] b limit t = let z : ◌≡◌ {A = ℕ} 0 1 = cc in absurd (omega arith)
-numbering_start (a ∷ os) b limit t =
-    let z = eqb-true a 0 (both_true (eqb a 0) (rise a os) t).0 in
-    record { within = omega arith; starts = sym z; written = ap (λ (k : ℕ). ids_from 0 k os) (sym z); rest = refl; long = refl }
-
 module _ {os b₀ b : List ℕ} {limit from group : ℕ} (n : Numbering os b₀ b limit from group)
     (t : start_and_rise os ≡ true) (el : limit ≡ last_offset 0 os) (room : last_offset 0 os ≤ length b₀) where
-  pub numbering_end : length os ≤ group + 1 → (from ≡ length (ids_at os)) × (b ≡ over (ids_at os) b₀)
+  pub numbering_end : group ≡ length os - 1 → (from ≡ length (ids_at os)) × (b ≡ over (ids_at os) b₀)
   unfolding ids_from over
   numbering_end h =
-      let none : drop (group + 1) os ≡ [] = drop_of_length-le os {i = group + 1} h in
-      let last : length os - 1 ≡ group = omega (arith, n.within) in
-      let all : from ≡ limit = n.starts ∙ ap (λ (k : ℕ). get_or os k 0) (sym last) ∙ sym (last_is os (λ z. omega (arith, n.within))) ∙ sym el in
+      let some : 0 < length os = offsets-some os limit (offsets-yes os limit t (sym el)) in
+      let none : drop (group + 1) os ≡ [] = drop_of_length-le os {i = group + 1} (omega arith) in
+      let last = last_is os (λ z. let f : ⊥ = omega arith in f) in
+      let all : from ≡ limit = n.starts ∙ ap (λ (k : ℕ). get_or os k 0) h ∙ sym last ∙ sym el in
       let ids : take from b ≡ ids_at os = sym (append-nil (take from b)) ∙ rw none at n.written in
       let many : from ≡ length (ids_at os) = sym (length-take-le from b (omega (arith, n.long))) ∙ ap length ids in (
         many,
@@ -139,7 +130,6 @@ module _ {os b₀ b : List ℕ} {limit from group : ℕ} (n : Numbering os b₀ 
         let next = drop (group + 1 + 1) os in
         let split : drop (group + 1) os ≡ to ∷ next = drop-cons os (group + 1) 0 h ∙ ap (λ (k : ℕ). to ∷ drop k os) (sym (add-one (group + 1))) in
         record {
-          within = h;
           starts = refl;
           written = ap₂ (λ (t : List ℕ) (g : ℕ). t ++ ids_from g to next) f.ids (add-one group)
               ∙ append_assoc (take from b) (replicate (to - from) group) (ids_from (suc group) to next)

@@ -17,9 +17,10 @@ use Rattle.column.proofs.Buffer.{over_store, over-next}
 use Rattle.merge_mask.specs.Calls.{Group, groups}
 use Rattle.merge_plan.specs.Calls.{group_ends, past_each, group_offsets}
 use Rattle.column.specs.Workers.{place_after}
+use Rattle.merge_mask.specs.Workers.{joins_at}
 use Rattle.merge_plan.specs.Workers.{Stored, Planned}
 use Rattle.merge_mask.proofs.First.{over-again, over_first}
-use Rattle.merge_mask.proofs.Groups.{joins_at, place_up, push_group, push_cons, place-next, group_place, place_is, place_le, le_place, length_push, new_last}
+use Rattle.merge_mask.proofs.Groups.{place_up, push_group, push_cons, place-next, group_place, place_is, place_le, le_place, length_push, new_last}
 use Rattle.merge_mask.proofs.Groups.{groups-take, groups-count, push_store}
 
 -- how many runs groups have
@@ -103,14 +104,12 @@ planning-more {gs} {joins} {e₀} {x₀ = x₀} {group = group} {run} n y d ep r
 
 -- of the first runs of all
 pub record Grouping (es : List ℤ) (mask : List ℕ) (e₀ e : List ℤ) (x₀ x : List ℕ) (group run : ℕ) : Type 0 where
-  pub within : run < length es
   pub planning : Planning (groups (take run es) mask) (joins_at mask (run - 1)) e₀ e x₀ x group run
 
 pub grouping_start : (es : List ℤ) (mask : List ℕ) (e₀ : List ℤ) (x₀ : List ℕ) {x : List ℕ}
-    → x ≡ set x₀ 0 0 → 0 < length es → 0 < length x₀ → Grouping es mask e₀ e₀ x x 0 0
+    → x ≡ set x₀ 0 0 → 0 < length x₀ → Grouping es mask e₀ e₀ x x 0 0
 unfolding groups group_ends past_each over
-grouping_start es mask e₀ x₀ e h k = record {
-  within = h;
+grouping_start es mask e₀ x₀ e k = record {
   planning = record {
     ends = refl;
     offsets = over-again (0 ∷ []) x₀ (e ∙ over-next [] x₀ 0 0 refl k);
@@ -129,23 +128,17 @@ grouping_none [] mask e₀ x₀ h k = record { count = refl; ends = refl; offset
 grouping_none (y ∷ es) mask e₀ x₀ h k = let z : ⊥ = omega arith in absurd z
 
 module _ {es : List ℤ} {mask : List ℕ} {e₀ e : List ℤ} {x₀ x : List ℕ} {group run : ℕ} (n : Grouping es mask e₀ e x₀ x group run)
-    (room_e : length es ≤ length e₀) (room_x : length es + 1 ≤ length x₀) where
-  pub grouping_room : (group < length e) × (group + 1 < length x)
-  grouping_room = let p = n.planning in (omega (arith, n.within, p.few, p.long_ends), omega (arith, n.within, p.few, p.long_offsets))
-
+    (within : run < length es) (room_e : length es ≤ length e₀) (room_x : length es + 1 ≤ length x₀) where
   module _ {e' : List ℤ} {x' : List ℕ} {y : ℤ} {past : ℕ} (d : Stored e e' x x' group y past) (ey : y ≡ get_or es run (pos 0)) (ep : past ≡ run + 1) where
     grouped : (next : Bool) → Planning (groups (take (run + 1) es) mask) next e₀ e' x₀ x' (place_after next group) (run + 1)
     grouped next =
-        rw (groups-take es run (pos 0) mask n.within, ← ey)
-        (planning-more n.planning y d ep (omega (arith, n.within)) (omega (arith, n.within)) next)
+        rw (groups-take es run (pos 0) mask within, ← ey)
+        (planning-more n.planning y d ep (omega arith) (omega arith) next)
 
-    pub grouping_more : {group' : ℕ} → run + 1 < length es → group' ≡ place_after (joins_at mask run) group → Grouping es mask e₀ e' x₀ x' group' (run + 1)
-    grouping_more h eg =
+    pub grouping_more : {group' : ℕ} → group' ≡ place_after (joins_at mask run) group → Grouping es mask e₀ e' x₀ x' group' (run + 1)
+    grouping_more eg =
         let r : run + 1 - 1 ≡ run = omega arith in
-        record { within = h; planning = rw (r, eg) (grouped (joins_at mask run)) }
-
-    pub grouping_long : (length e' ≡ length e₀) × (length x' ≡ length x₀)
-    grouping_long = let g = grouped true in (g.long_ends, g.long_offsets)
+        record { planning = rw (r, eg) (grouped (joins_at mask run)) }
 
     -- the last run closes its group; z₀ are the offsets as they were lent
     pub grouping_end : (z₀ : List ℕ) {k : ℕ} → x₀ ≡ set z₀ 0 0 → run + 1 ≡ length es → length mask ≡ length es - 1

@@ -1,11 +1,11 @@
 -- merge.rs: the groups that a mask makes, and the group of each run.
-use Rattle.std.specs.Prelude.{ℕ, suc, ◌+◌, ◌-◌, List, [], ◌∷◌, ◌++◌, map, ◌≡◌, ℤ, length, replicate}
+use Rattle.std.specs.Prelude.{ℕ, suc, ◌+◌, ◌-◌, List, [], ◌∷◌, ◌++◌, map, ◌≡◌, ℤ, length, replicate, Result}
 use Rattle.column.specs.Asking.{Question, first_no, ◌otherwise◌}
-use Rattle.column.specs.Paper.{Outcome, shown_counted, counts, written}
+use Rattle.column.specs.Paper.{Outcome, counts, written, outcome_of}
 use Rattle.column.specs.Questions.{mask_listed, offsets_rise, last_offset, ends_valid, room, mask_agrees}
-use Rattle.column.specs.declared.answer.Counted.{Counted}
 use Rattle.merge_mask.specs.Calls.{Group, groups}
 use Rattle.column.specs.Lent.{Lent, given, after}
+use Rattle.column.specs.declared.error.Refusal.{Refusal}
 
 -- "n entries; offsets n + 1"; it takes ends alone
 unfoldable pub merge_plan_asked : List ℤ → List ℕ → List ℕ → Question
@@ -26,13 +26,13 @@ abbrev pub group_offsets : List (Group ℤ) → List ℕ
 group_offsets gs = 0 ∷ past_each 0 gs
 
 -- the promise: how many groups, their ends and their offsets, each buffer before and after
-pub record WrittenGroups (o : Outcome (List (Group ℤ))) (r : Counted) (e e' : List ℤ) (x x' : List ℕ) : Type 0 where
-  pub answer : shown_counted r ≡ counts length o
+pub record WrittenGroups (o : Outcome (List (Group ℤ))) (r : Result ℕ Refusal) (e e' : List ℤ) (x x' : List ℕ) : Type 0 where
+  pub answer : outcome_of r ≡ counts length o
   pub ends : e' ≡ written group_ends o e
   pub offsets : x' ≡ written group_offsets o x
 
 -- of the buffers that a call is lent: question 12 is about their lengths
-abbrev pub WritesGroups : (List ℕ → Outcome (List (Group ℤ))) → Lent ℤ → Lent ℕ → Counted → Type 0
+abbrev pub WritesGroups : (List ℕ → Outcome (List (Group ℤ))) → Lent ℤ → Lent ℕ → Result ℕ Refusal → Type 0
 WritesGroups call e x r =
     WrittenGroups (call (length (given e) ∷ length (given x) ∷ [])) r (given e) (after e) (given x) (after x)
 

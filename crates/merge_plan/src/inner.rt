@@ -6,7 +6,7 @@ ghost use Rattle.merge_mask.specs.Calls.{groups};
 ghost use Rattle.merge_plan.specs.Calls.{ids_at};
 ghost use Rattle.merge_plan.specs.Workers.{Stored, Planned, PutIds, FilledIds};
 
-use column::mask;
+use column::{mask, sequence};
 
 // The end of a group, and one past its last run.
 fn write_group(out_ends: &mut [i64], out_offsets: &mut [usize], group: usize, end: i64, past: usize)
@@ -33,15 +33,13 @@ pub fn merge_plan(
         return 0;
     }
     let mut group: usize = 0;
-    let mut run: usize = 0;
-    while run < mask.len() {
+    for run in 0..mask.len() {
         let end = ends[run];
         write_group(out_ends, out_offsets, group, end, run + 1);
         group = merge_mask::inner::place_after(group, mask[run] == 1);
-        run += 1;
     }
-    let end = ends[run];
-    write_group(out_ends, out_offsets, group, end, run + 1);
+    let last = mask.len();
+    write_group(out_ends, out_offsets, group, ends[last], last + 1);
     ends.len() - mask::mask_ones(mask)
 }
 
@@ -81,10 +79,8 @@ fn fill_long(out: &mut [usize], from: usize, to: usize, limit: usize, id: usize)
     requires { (from ≤ to) × (to ≤ limit) × (limit ≤ length out.old) }
     ensures { FilledIds out.old out.new from to limit id }
 {
-    let mut i = from;
-    while i < to {
+    for i in from..to {
         out[i] = id;
-        i += 1;
     }
 }
 
@@ -106,12 +102,10 @@ pub fn group_ids(offsets: &[usize], out_ids: &mut [usize]) -> usize
 {
     let limit = questions::last_offset(offsets);
     let mut from: usize = 0;
-    let mut group: usize = 0;
-    while group + 1 < offsets.len() {
+    for group in 0..sequence::count(offsets) {
         let to = offsets[group + 1];
         fill_group(out_ids, from, to, limit, group);
         from = to;
-        group += 1;
     }
     from
 }

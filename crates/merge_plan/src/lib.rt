@@ -8,16 +8,21 @@ ghost use Rattle.column.specs.Paper.{WritesEntries};
 ghost use Rattle.merge_plan.specs.Calls.{WritesGroups};
 ghost use Rattle.merge_plan.specs.Calls as calls;
 
-use column::answer::{Asked, Counted};
+use column::error::Refusal;
 
-fn merge_plan_asks(ends: &[i64], mask: &[u8], out_ends: usize, out_offsets: usize) -> Asked
+fn merge_plan_asks(
+    ends: &[i64],
+    mask: &[u8],
+    out_ends: usize,
+    out_offsets: usize,
+) -> Result<(), Refusal>
     ensures { shown_asked result ≡ calls.merge_plan_asked ends.now mask.now (out_ends ∷ out_offsets ∷ []) }
 {
-    questions::ask_mask(mask)
-        .and(questions::ask_mask_length(mask, ends))
-        .and(questions::ask_ends(ends))
-        .and(questions::ask_room(0, ends.len(), out_ends))
-        .and(questions::ask_room(1, ends.len() + 1, out_offsets))
+    questions::ask_mask(mask)?;
+    questions::ask_mask_length(mask, ends)?;
+    questions::ask_ends(ends)?;
+    questions::ask_room(0, ends.len(), out_ends)?;
+    questions::ask_room(1, ends.len() + 1, out_offsets)
 }
 
 // The groups that a mask makes: the end of each, and which runs it has.
@@ -26,36 +31,27 @@ pub fn merge_plan(
     mask: &[u8],
     out_ends: &mut [i64],
     out_offsets: &mut [usize],
-) -> Counted
+) -> Result<usize, Refusal>
     ensures { WritesGroups (calls.merge_plan ends.now mask.now) out_ends out_offsets result }
 {
-    let asked = merge_plan_asks(ends, mask, out_ends.len(), out_offsets.len());
-    match asked {
-        Asked::Yes => {
-            let n = inner::merge_plan(ends, mask, out_ends, out_offsets);
-            Counted::Count(n)
-        }
-        Asked::No(r) => Counted::Refused(r),
-    }
+    merge_plan_asks(ends, mask, out_ends.len(), out_offsets.len())?;
+    let n = inner::merge_plan(ends, mask, out_ends, out_offsets);
+    Ok(n)
 }
 
-fn group_ids_asks(offsets: &[usize], out_ids: usize) -> Asked
+fn group_ids_asks(offsets: &[usize], out_ids: usize) -> Result<(), Refusal>
     ensures { shown_asked result ≡ calls.group_ids_asked offsets.now (out_ids ∷ []) }
 {
     let needed = questions::last_offset(offsets);
-    questions::ask_offsets_rise(offsets).and(questions::ask_room(0, needed, out_ids))
+    questions::ask_offsets_rise(offsets)?;
+    questions::ask_room(0, needed, out_ids)
 }
 
 // The group of each run.
-pub fn group_ids(offsets: &[usize], out_ids: &mut [usize]) -> Counted
+pub fn group_ids(offsets: &[usize], out_ids: &mut [usize]) -> Result<usize, Refusal>
     ensures { WritesEntries (calls.group_ids offsets.now) out_ids result }
 {
-    let asked = group_ids_asks(offsets, out_ids.len());
-    match asked {
-        Asked::Yes => {
-            let n = inner::group_ids(offsets, out_ids);
-            Counted::Count(n)
-        }
-        Asked::No(r) => Counted::Refused(r),
-    }
+    group_ids_asks(offsets, out_ids.len())?;
+    let n = inner::group_ids(offsets, out_ids);
+    Ok(n)
 }

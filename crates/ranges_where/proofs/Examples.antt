@@ -1,6 +1,6 @@
 -- Worked examples of ranges_where, computed from its definition. A is document 01's: ends 3, 5, 9, values 7, 2, 7.
 -- Assumes nothing.
-use mathlib.Core.Option.{none}
+use Rattle.std.specs.Prelude.{None}
 use mathlib.Core.List.{List, [], ◌∷◌}
 use mathlib.Core.Path.{refl}
 use lib.IntN.{pos}
@@ -21,7 +21,7 @@ abbrev ranges : List Row
 ranges =
     row (as_ranges (ranges_where a 7 (pos 7) (3 ∷ 3 ∷ []))) (answers ((pos 0 ∷ pos 5 ∷ []) ∷ (pos 3 ∷ pos 9 ∷ []) ∷ []))
     ∷ row (as_ranges (ranges_where a 8 (pos 8) (3 ∷ 3 ∷ []))) (answers ((pos 0 ∷ []) ∷ (pos 9 ∷ []) ∷ []))
-    ∷ row (as_ranges (ranges_where a 9 (pos 8) (3 ∷ 3 ∷ []))) (refused 1 (pos 9 ∷ []) none)
+    ∷ row (as_ranges (ranges_where a 9 (pos 8) (3 ∷ 3 ∷ []))) (refused 1 (pos 9 ∷ []) None)
     ∷ []
 
 pub ranges_hold : Hold ranges

@@ -3,20 +3,20 @@
 use Prim.Native.Nat.{ℕ, zero, suc, ◌+◌, ◌-◌, ◌≤◌, ◌<◌}
 use mathlib.Core.Bool.{Bool, true, false, not, ◌&&◌, cond}
 use mathlib.Core.List.{List, [], ◌∷◌, ◌++◌, map, map-append, append-nil}
-use mathlib.Core.Option.{none, some}
+use Rattle.std.specs.Prelude.{Some, None, Result, Ok, IsErrAnd}
 use mathlib.Core.Path.{◌≡◌, refl, ap, sym, ◌∙◌}
 use native.Mathlib.Numerals.{add-one}
 use native.Mathlib.Omega.{arith}
 use lib.IntN.{ℤ, pos}
 use lib.ListN.{length, get_or, take, set, replicate, length-append, length-map, length-set}
 use lib.Seq.{take_all, take_at, take-suc}
-use Rattle.num.specs.Numbers.{eq_z}
+use Rattle.num.specs.Numbers.{eq_z, comparison}
+use Rattle.num.proofs.Operation.{comparison-operation}
 use Rattle.num.proofs.Tests.{eq_z-true, by-test}
 use Rattle.column.specs.Asking.{Question, ◌otherwise◌}
 use Rattle.column.specs.Lists.{any}
 use Rattle.column.specs.Paper.{answers, paper}
 use Rattle.column.specs.Questions.{listed, ends_valid, sequence_asked}
-use Rattle.column.specs.declared.answer.Counted.{Counted}
 use Rattle.column.specs.declared.error.Refusal.{Refusal}
 use Rattle.column.specs.Runs.{sequence, Runs, to_nat, end_before, runs_of, last_end, length_of, dense, dense_from, encode, encode_from, push_merged, over}
 use Rattle.column.specs.Workers.{RisingEnds, last_of}
@@ -27,9 +27,10 @@ use Rattle.column.proofs.Encode.{encode_up, last_push}
 use Rattle.column.proofs.Ends.{runs-rise}
 use Rattle.column.proofs.FirstNo.{all_yes}
 use Rattle.column.proofs.Lists.{any_append}
+use Rattle.column.proofs.Promised.{passed_on}
 use Rattle.column.proofs.Told.{listed-told, sequence-told}
 use Rattle.ranges_where.specs.Calls.{Range, ranges_from, ranges_of, range_starts, range_ends, ranges_where_asked, WrittenRanges}
-use Rattle.ranges_where.specs.Workers.{FirstPassing, open_after, FilledRanges}
+use Rattle.ranges_where.specs.Workers.{passing, FirstPassing, open_after, FilledRanges}
 use Rattle.ranges_where.specs.declared.inner.Open.{Open}
 use Rattle.column.proofs.Cover.{last-end}
 
@@ -107,7 +108,7 @@ push_on p (r ∷ q ∷ rs) e v m y =
 -- ---- the first entries, one more of them
 
 module _ {A : Type 0} (passes : A → Bool) where
-  pub none_more : (xs : List A) (r : ℕ) (d : A) → passes (get_or xs r d) ≡ false → any passes (take r xs) ≡ false → r < length xs
+  none_more : (xs : List A) (r : ℕ) (d : A) → passes (get_or xs r d) ≡ false → any passes (take r xs) ≡ false → r < length xs
       → any passes (take (r + 1) xs) ≡ false
   none_more xs r d e n h = rw (add-one, take-suc xs r d h, any_append, n, e)
 
@@ -120,6 +121,21 @@ module _ {A : Type 0} (passes : A → Bool) where
       by-test (passes x)
       (λ t. absurd (let z : ◌≡◌ {A = Bool} true false = rw t at n in let w : ◌≡◌ {A = ℕ} 0 1 = cc in omega arith))
       (λ t. let k = none_fewer xs r d (rw t at n) (omega arith) in (rw t k.0, k.1))
+
+-- ---- a value that is read and tested against a number that a local holds
+
+module _ {code : ℕ} (low : 7 ≤ code) (high : code ≤ 8) {n m : ℤ} (en : n ≡ m) where
+  pub tested : {x v : ℤ} {b : Bool} → b ≡ comparison code x n → x ≡ v → b ≡ passing code n v
+  tested {x} eb ex = rw (← ex) (eb ∙ comparison-operation code x n low high)
+
+  -- the values before the i-th do not pass
+  module _ (vs : List ℤ) (i : ℕ) (none : any (passing code n) (take i vs) ≡ false)
+      {x : ℤ} {b : Bool} (eb : b ≡ comparison code x n) (ex : x ≡ get_or vs i (pos 0)) (h : i < length vs) where
+    pub first-passing : b ≡ true → FirstPassing (passing code m) vs i
+    first-passing et = rw (← en) (record { within = omega arith; before = none; here = λ k. sym (tested eb ex) ∙ et })
+
+    pub not-passing : b ≡ false → any (passing code n) (take (i + 1) vs) ≡ false
+    not-passing et = none_more (passing code n) vs i (pos 0) (sym (tested eb ex) ∙ et) none h
 
 -- ---- the first runs of a sequence
 
@@ -262,7 +278,6 @@ module _ (f : ℤ → ℤ) (es vs : List ℤ) where
 
   -- `last` is the last range, and gs are those before it; all are written into s₁ and e₁, and `before` is where the r-th run begins
   pub record Ranging (s₁ e₁ s e : List ℤ) (last : Open) (before : ℤ) (r : ℕ) : Type 0 where
-    pub within : r ≤ length es
     pub few : last.at < r
     pub gs : List Range
     pub ranges : ranges_from 0 (marks r) ≡ gs ++ range_of last ∷ []
@@ -288,7 +303,6 @@ module _ (f : ℤ → ℤ) (es vs : List ℤ) where
         let ny : y ≡ pos (to_nat y) = rw ey (rising_at 0 es r valid h).0 in
         let g : Range = record { start = to_nat x; end = to_nat y } in
         record {
-          within = omega arith;
           few = omega arith;
           gs = [];
           ranges = rw (more, push_new 0 (marks r) e v none.1 yes, none.0, marks-length valid paired r (omega arith), ex, ey);
@@ -331,7 +345,6 @@ module _ (f : ℤ → ℤ) (es vs : List ℤ) where
             let g = range_of next in
             let few = i.few in
             record {
-              within = omega arith;
               few = rw at (omega arith);
               gs = i.gs;
               ranges = rs;
@@ -374,7 +387,6 @@ module _ (f : ℤ → ℤ) (es vs : List ℤ) where
             let new = push_new 0 (marks r) end value (rw ti at i.inside) (sym eb ∙ tb) in
             let few = i.few in
             record {
-              within = omega arith;
               few = rw at (omega arith);
               gs = i.gs ++ range_of last ∷ [];
               ranges = rw (more, new, i.ranges, marks-length valid paired r (omega arith), st, i.end_before_lem, te, ez);
@@ -397,13 +409,6 @@ module _ (f : ℤ → ℤ) (es vs : List ℤ) where
             (λ tb. range-new ti tb (rw (ti, tb) at at_is) (rw (ti, tb) at start_is))
             (λ tb. range-kept tb (rw (ti, tb) at at_is) (rw (ti, tb) at start_is)))
 
-  -- the next range is at most one place further
-  pub range_at : {s₁ e₁ s e : List ℤ} {last : Open} {before : ℤ} {r : ℕ} {next : Open} (b : Bool) (x z : ℤ)
-      → Ranging s₁ e₁ s e last before r → next ≡ open_after last b x z → r < length es → next.at < length es
-  range_at {last = last} b x z i en h =
-      let few = i.few in
-      rw en (by-test (not last.inside && b) (λ t. rw t (omega arith)) (λ t. rw t (omega arith)))
-
   -- after the first store into each buffer
   pub range_end : (s₀ e₀ : List ℤ) (x y : ℤ) {s e : List ℤ} {last : Open} {before : ℤ} {r : ℕ}
       → Ranging (set s₀ 0 x) (set e₀ 0 y) s e last before r → length es ≡ length vs → length es ≤ r → 0 < length s₀ → 0 < length e₀
@@ -425,8 +430,8 @@ with_number code rs en f = rw en at f
 -- ---- the call
 
 -- what its questions tell where all are answered "yes"
-pub ranges-yes : (es vs : List ℤ) (code : ℕ) (s e : List ℤ) → ranges_where_asked (sequence es vs) code (length s ∷ length e ∷ []) ≡ none
-    → (7 ≤ code) × (code ≤ 8) × (ends_valid es ≡ none) × (length es ≡ length vs) × (length es ≤ length s) × (length es ≤ length e)
+pub ranges-yes : (es vs : List ℤ) (code : ℕ) (s e : List ℤ) → ranges_where_asked (sequence es vs) code (length s ∷ length e ∷ []) ≡ None
+    → (7 ≤ code) × (code ≤ 8) × (ends_valid es ≡ None) × (length es ≡ length vs) × (length es ≤ length s) × (length es ≤ length e)
 unfolding ranges_where_asked
 ranges-yes es vs code s e h =
     let buffers = length s ∷ length e ∷ [] in
@@ -435,10 +440,10 @@ ranges-yes es vs code s e h =
     let k = sequence-told es vs (length es) (length s) (length e) y.1.0 in
     (c.0, c.1, k.0, k.1, k.2, k.3)
 
-pub ranges-written : {q : Question} (rs : List Range) {s s' e e' : List ℤ} {n : ℕ} → q ≡ none → FilledRanges rs s s' e e' n
-    → WrittenRanges (q otherwise rs) (Counted.Count n) s s' e e'
+pub ranges-written : {q : Question} (rs : List Range) {s s' e e' : List ℤ} {n : ℕ} → q ≡ None → FilledRanges rs s s' e e' n
+    → WrittenRanges (q otherwise rs) (Ok n) s s' e e'
 ranges-written rs h f = rw h (record { answer = ap answers f.count; starts = f.starts; ends = f.ends })
 
-pub ranges-refused : {q : Question} (rs : List Range) {r : Refusal} {s e : List ℤ} → q ≡ some (paper r)
-    → WrittenRanges (q otherwise rs) (Counted.Refused r) s s e e
-ranges-refused rs h = rw h (record { answer = refl; starts = refl; ends = refl })
+pub ranges-refused : {q : Question} (rs : List Range) (r : Result ℕ Refusal) (y : Refusal) {s e : List ℤ} → IsErrAnd r (λ (z : Refusal). z ≡ y)
+    → Some (paper y) ≡ q → WrittenRanges (q otherwise rs) r s s e e
+ranges-refused rs r y h f = rw (sym f, passed_on r y h) (record { answer = refl; starts = refl; ends = refl })

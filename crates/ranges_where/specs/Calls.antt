@@ -1,12 +1,12 @@
 -- transform.rs: the ranges of positions whose values pass.
-use Rattle.std.specs.Prelude.{ℕ, cond, List, [], ◌∷◌, map, ◌≡◌, ℤ, pos, length}
+use Rattle.std.specs.Prelude.{ℕ, cond, List, [], ◌∷◌, map, ◌≡◌, ℤ, pos, length, Result}
 use Rattle.num.specs.Numbers.{eq_z, operation}
 use Rattle.column.specs.Asking.{Question, first_no, ◌otherwise◌}
-use Rattle.column.specs.Paper.{Outcome, shown_counted, counts, written}
+use Rattle.column.specs.Paper.{Outcome, counts, written, outcome_of}
 use Rattle.column.specs.Questions.{listed, sequence_asked}
 use Rattle.column.specs.Runs.{Sequence, Runs, runs, dense, encode}
-use Rattle.column.specs.declared.answer.Counted.{Counted}
 use Rattle.column.specs.Lent.{Lent, given, after}
+use Rattle.column.specs.declared.error.Refusal.{Refusal}
 
 -- the positions from start up to end
 pub record Range : Type 0 where
@@ -37,12 +37,12 @@ unfoldable pub range_ends : List Range → List ℤ
 range_ends rs = map (λ (r : Range). pos r.end) rs
 
 -- the promise: starts and ends, each buffer before and after
-pub record WrittenRanges (o : Outcome (List Range)) (r : Counted) (s s' e e' : List ℤ) : Type 0 where
-  pub answer : shown_counted r ≡ counts length o
+pub record WrittenRanges (o : Outcome (List Range)) (r : Result ℕ Refusal) (s s' e e' : List ℤ) : Type 0 where
+  pub answer : outcome_of r ≡ counts length o
   pub starts : s' ≡ written range_starts o s
   pub ends : e' ≡ written range_ends o e
 
 -- of the buffers that a call is lent: question 12 is about their lengths
-abbrev pub WritesRanges : (List ℕ → Outcome (List Range)) → Lent ℤ → Lent ℤ → Counted → Type 0
+abbrev pub WritesRanges : (List ℕ → Outcome (List Range)) → Lent ℤ → Lent ℤ → Result ℕ Refusal → Type 0
 WritesRanges call s e r =
     WrittenRanges (call (length (given s) ∷ length (given e) ∷ [])) r (given s) (after s) (given e) (after e)

@@ -1,6 +1,5 @@
 // Workers that assume what the calls have asked.
-ghost use Rattle.std.specs.Prelude.{◌+◌, ◌≤◌, ◌<◌, ◌^◌, ◌&&◌, not, cond, ◌≡◌, length};
-ghost use Rattle.std.proofs.Math.Option.{none};
+ghost use Rattle.std.specs.Prelude.{◌+◌, ◌≤◌, ◌<◌, ◌^◌, ◌&&◌, not, cond, ◌≡◌, length, None};
 ghost use Rattle.column.specs.Questions.{ends_valid};
 ghost use Rattle.column.specs.Runs.{runs_of};
 ghost use Rattle.ranges_where.specs.Calls.{ranges_of};
@@ -13,14 +12,12 @@ fn first_passing(values: &[i64], code: u8, number: i64) -> usize
     requires { (7 ≤ code) × (code ≤ 8) }
     ensures { FirstPassing (passing code number) values.now result }
 {
-    let mut i: usize = 0;
-    while i < values.len() {
-        if num::holds(code, values[i], number) {
+    for (i, value) in values.iter().enumerate() {
+        if num::holds(code, *value, number) {
             return i;
         }
-        i += 1;
     }
-    i
+    values.len()
 }
 
 // The last range so far, at its place, and whether the last run is in it.
@@ -35,10 +32,7 @@ struct Open {
 fn begins(passes: bool, inside: bool) -> bool
     ensures { result ≡ not inside && passes }
 {
-    if inside {
-        return false;
-    }
-    passes
+    !inside && passes
 }
 
 fn place(begins: bool, at: usize) -> usize
@@ -77,7 +71,7 @@ pub fn ranges_where(
     out_starts: &mut [i64],
     out_ends: &mut [i64],
 ) -> usize
-    requires { (7 ≤ code) × (code ≤ 8) × (ends_valid ends.now ≡ none) × (length ends.now ≡ length values.now)
+    requires { (7 ≤ code) × (code ≤ 8) × (ends_valid ends.now ≡ None) × (length ends.now ≡ length values.now)
         × (length ends.now ≤ length out_starts.old) × (length ends.now ≤ length out_ends.old) }
     ensures { FilledRanges (ranges_of code number (runs_of ends.now values.now))
         out_starts.old out_starts.new out_ends.old out_ends.new result }
@@ -96,8 +90,7 @@ pub fn ranges_where(
         end: before,
         inside: true,
     };
-    let mut r = first + 1;
-    while r < ends.len() {
+    for r in first + 1..ends.len() {
         let end = ends[r];
         let value = values[r];
         let passes = num::holds(code, value, number);
@@ -108,7 +101,6 @@ pub fn ranges_where(
         out_starts[at] = last_start;
         out_ends[at] = last_end;
         before = end;
-        r += 1;
     }
     last.at + 1
 }

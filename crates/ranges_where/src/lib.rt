@@ -8,7 +8,7 @@ ghost use Rattle.column.specs.Runs.{sequence};
 ghost use Rattle.ranges_where.specs.Calls.{WritesRanges};
 ghost use Rattle.ranges_where.specs.Calls as calls;
 
-use column::answer::{Asked, Counted};
+use column::error::Refusal;
 use column::sequence;
 
 fn ranges_where_asks(
@@ -17,16 +17,11 @@ fn ranges_where_asks(
     code: u8,
     out_starts: usize,
     out_ends: usize,
-) -> Asked
+) -> Result<(), Refusal>
     ensures { shown_asked result ≡ calls.ranges_where_asked (sequence ends.now values.now) code (out_starts ∷ out_ends ∷ []) }
 {
-    questions::ask_code(7, 8, code).and(questions::ask_sequence_into(
-        ends,
-        values,
-        ends.len(),
-        out_starts,
-        out_ends,
-    ))
+    questions::ask_code(7, 8, code)?;
+    questions::ask_sequence_into(ends, values, ends.len(), out_starts, out_ends)
 }
 
 // The ranges of positions at which the value is equal to, or less than, a number; touching ranges are one.
@@ -37,15 +32,10 @@ pub fn ranges_where(
     number: i64,
     out_starts: &mut [i64],
     out_ends: &mut [i64],
-) -> Counted
+) -> Result<usize, Refusal>
     ensures { WritesRanges (calls.ranges_where (sequence ends.now values.now) code number) out_starts out_ends result }
 {
-    let asked = ranges_where_asks(ends, values, code, out_starts.len(), out_ends.len());
-    match asked {
-        Asked::Yes => {
-            let n = inner::ranges_where(ends, values, code, number, out_starts, out_ends);
-            Counted::Count(n)
-        }
-        Asked::No(r) => Counted::Refused(r),
-    }
+    ranges_where_asks(ends, values, code, out_starts.len(), out_ends.len())?;
+    let n = inner::ranges_where(ends, values, code, number, out_starts, out_ends);
+    Ok(n)
 }

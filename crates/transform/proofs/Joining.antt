@@ -2,7 +2,7 @@
 -- Assumes nothing.
 use Prim.Native.Nat.{ℕ, suc, ◌+◌, ◌-◌, ◌≤◌, ◌<◌, ◌^◌}
 use mathlib.Core.Bool.{true}
-use mathlib.Core.Option.{none}
+use Rattle.std.specs.Prelude.{None}
 use mathlib.Core.List.{List, [], ◌∷◌, ◌++◌, map, append_assoc, append-nil}
 use mathlib.Core.Path.{◌≡◌, refl, ap, sym, ◌∙◌}
 use native.Mathlib.Omega.{arith}
@@ -84,7 +84,6 @@ module _ (os : List ℕ) (es vs e₀ v₀ : List ℤ) where
     -- the entries before them are no more than the values, and the runs no more than the entries
     pub entries : get_or os k 0 ≤ length xs
     pub few : length (encode xs) ≤ get_or os k 0
-    pub within : k < length os
 
   -- no ends: nothing is written
   none-shown : (a : ℕ) (ps : List ℕ) → length es ≡ 0 → shown (map runs (sequences_of (parts_from a ps es) (parts_from a ps vs))) ≡ []
@@ -112,14 +111,13 @@ module _ (os : List ℕ) (es vs e₀ v₀ : List ℤ) where
           merging = rw ef m;
           entries = omega arith;
           few = omega arith;
-          within = offsets-some os (length es) j.offsets;
         }
 
     module _ {e v : List ℤ} {w : Writer} {offset k : ℕ} (i : Joining e v w offset k) where
       -- the next column
       module _ (h : k + 1 < length os) {pe pv : List ℤ}
           (ee : pe ≡ part (get_or os k 0) (get_or os (k + 1) 0) es) (ev : pv ≡ part (get_or os k 0) (get_or os (k + 1) 0) vs) where
-        next-valid : ends_valid pe ≡ none
+        next-valid : ends_valid pe ≡ None
         next-valid = rw ee (rw (parts-cons k os es h) at i.valid).0
 
         next-paired : length pe ≡ length pv
@@ -163,9 +161,6 @@ module _ (os : List ℕ) (es vs e₀ v₀ : List ℤ) where
         pub join-appendable : Appendable 0 offset pe pv e v w
         join-appendable = record { movable = join-movable; done = encode i.xs; first = get_or vs 0 (pos 0); e₀ = e₀; v₀ = v₀; behind = join-behind }
 
-        pub join-fits : {x : ℤ} {n : ℕ} → n ≡ to_nat x → x ≡ length_of_ends pe → offset + n < 2 ^ 64
-        join-fits en ex = omega (arith, en, next-size ex, next_fits, i.so_far)
-
         pub join-next : {e' v' : List ℤ} {next : Writer} {x : ℤ} {n : ℕ} → Appended 0 offset pe pv e e' v v' w next
             → n ≡ to_nat x → x ≡ length_of_ends pe → Joining e' v' next (offset + n) (k + 1)
         unfolding shown dense
@@ -188,17 +183,15 @@ module _ (os : List ℕ) (es vs e₀ v₀ : List ℤ) where
               merging = rw p at m;
               entries = omega (arith, l, i.entries, o, next-length, many, runs-short rs next-rises);
               few = omega (arith, ap length p, few, length_moved 0 offset rs, many, next-length, o, i.few);
-              within = omega arith;
             }
 
-      pub join-end : length os ≤ k + 1 → (length es ≡ 0 → ⊥) → Filled (encode (shown (columns (flat os es vs)))) e₀ e v₀ v (w.at + 1)
+      pub join-end : k ≡ length os - 1 → (length es ≡ 0 → ⊥) → Filled (encode (shown (columns (flat os es vs)))) e₀ e v₀ v (w.at + 1)
       unfolding shown
       join-end h some =
-          let q : k ≡ length os - 1 = omega (arith, i.within) in
-          let t = (offsets-told os (length es) j.offsets).1 in
-          let last = last_is os (λ z. let y : ⊥ = omega (arith, i.within) in y) in
-          let all : get_or os k 0 ≡ length es = ap (λ (n : ℕ). get_or os n 0) q ∙ sym last ∙ t in
-          let s : shown (columns (flat os es vs)) ≡ i.xs = i.whole ∙ rw (columns-end k os es vs h) (append-nil i.xs) in
+          let l = offsets-some os (length es) j.offsets in
+          let last = last_is os (λ z. let y : ⊥ = omega (arith, l) in y) in
+          let all : get_or os k 0 ≡ length es = ap (λ (n : ℕ). get_or os n 0) h ∙ sym last ∙ (offsets-told os (length es) j.offsets).1 in
+          let s : shown (columns (flat os es vs)) ≡ i.xs = i.whole ∙ rw (columns-end k os es vs (omega (arith, l))) (append-nil i.xs) in
           rw s (merge_end i.merging (encode-pos i.xs (omega (arith, all, i.entries, some))))
 
 -- ---- the sum of the lengths, by the ends
@@ -240,11 +233,11 @@ fits-saturated n =
 module _ (os : List ℕ) (es vs : List ℤ) where
   total-columns : length es ≡ length vs → AllValid (parts os es) → total (lengths (parts os es)) ≡ total (map length_of (columns (flat os es vs)))
   total-columns l v =
-      let by-ends : (x y : List ℤ) → ends_valid x ≡ none → length x ≡ length y → length_of (runs_of x y) ≡ to_nat (length_of_ends x) =
+      let by-ends : (x y : List ℤ) → ends_valid x ≡ None → length x ≡ length y → length_of (runs_of x y) ≡ to_nat (length_of_ends x) =
       λ x y u p. sym (ap to_nat (length_of-ends x y u p)) in
       ap total (sym (columns_by_ends length_of (λ (x : List ℤ). to_nat (length_of_ends x)) by-ends os es vs l v))
 
-  pub fits-total : first_no (flat_asked (flat os es vs)) ≡ none
+  pub fits-total : first_no (flat_asked (flat os es vs)) ≡ None
       → fits (saturated (total (lengths (parts os es)))) ≡ fits (total (map length_of (columns (flat os es vs))))
   unfolding paired
   fits-total y =
@@ -252,7 +245,7 @@ module _ (os : List ℕ) (es vs : List ℤ) where
       let t = total-columns (agree-told 3 (length es) (length vs) z.0) (sequences-told os es z.1.1.0) in
       fits-saturated (total (lengths (parts os es))) ∙ ap fits t
 
-  pub concat-yes : (e v : List ℤ) → concat_asked (flat os es vs) (length e ∷ length v ∷ []) ≡ none → Joinable (flat os es vs) e v
+  pub concat-yes : (e v : List ℤ) → concat_asked (flat os es vs) (length e ∷ length v ∷ []) ≡ None → Joinable (flat os es vs) e v
   unfolding concat_asked paired
   concat-yes e v h =
       let f = flat os es vs in

@@ -53,12 +53,9 @@ module _ (a b : Runs) where
 abbrev first_of : List ℤ → List ℤ → ℤ
 first_of va vb = get_or (va ++ vb) 0 (pos 0)
 
-pub first-second : (va vb : List ℤ) → length va ≡ 0 → get_or vb 0 (pos 0) ≡ get_or (va ++ vb) 0 (pos 0)
+first-second : (va vb : List ℤ) → length va ≡ 0 → get_or vb 0 (pos 0) ≡ get_or (va ++ vb) 0 (pos 0)
 first-second [] vb h = refl
 first-second (v ∷ va) vb h = let z : ⊥ = omega arith in absurd z
-
-pub first-first : (va vb : List ℤ) → (length va ≡ 0 → ⊥) → get_or va 0 (pos 0) ≡ get_or (va ++ vb) 0 (pos 0)
-first-first va vb h = sym (get_or-append va vb (pos 0) 0 (omega (arith, h)))
 
 module _ {ea va eb vb e₀ v₀ : List ℤ} (j : JoinableTwo ea va eb vb e₀ v₀) where
   valid_a : Valid (runs_of ea va)

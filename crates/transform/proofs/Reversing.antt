@@ -1,15 +1,19 @@
 -- A sequence from its last run to its first: the loop, what it shows, and that it is valid.
 -- Assumes nothing.
-use Prim.Native.Nat.{ℕ, zero, suc, ◌+◌, ◌-◌, ◌≤◌, ◌<◌}
-use mathlib.Core.List.{List, [], ◌∷◌, ◌++◌, append_assoc, append-nil, reverse, reverse-cons, reverse-append}
-use mathlib.Core.Option.{none}
+use Prim.Native.Nat.{ℕ, zero, suc, ◌+◌, ◌-◌, ◌≤◌, ◌<◌, ◌^◌}
+use mathlib.Core.List.{List, [], ◌∷◌, ◌++◌, map, append_assoc, append-nil, reverse, reverse-cons, reverse-append}
+use Rattle.std.specs.Prelude.{None}
 use mathlib.Core.Path.{◌≡◌, refl, ap, sym, ◌∙◌}
 use native.Mathlib.Omega.{arith}
-use lib.IntN.{ℤ, pos}
-use lib.ListN.{length, get_or, drop, set, replicate, length-append, length-set, length-drop, length-reverse, drop_of_length-le}
-use lib.Seq.{drop-cons}
+use lib.IntN.{ℤ, pos, ◌-ℤ◌}
+use lib.ListN.{length, get_or, take, drop, set, replicate, length-append, length-take, length-drop, length-map, length-reverse, drop_of_length-le}
+use lib.Seq.{drop-cons, get_or-take}
+use lib.Signed.{mag}
+use mir.Syntax.{w64}
+use mir.Val.{SFits, to_z, of_z}
+use Rattle.num.proofs.Difference.{difference_of, difference-fits, natural-below, natural-back}
 use Rattle.column.specs.Questions.{ends_valid}
-use Rattle.column.specs.Runs.{Run, Runs, to_nat, end_before, runs_of, length_of_ends, ends_of, values_of, last_end, length_of, dense_from, dense, over, Filled}
+use Rattle.column.specs.Runs.{Run, Runs, to_nat, runs_of, length_of_ends, ends_of, values_of, last_end, length_of, dense_from, dense, over, Filled}
 use Rattle.column.proofs.Appending.{rising_at}
 use Rattle.column.proofs.Buffer.{over-next}
 use Rattle.column.proofs.Cover.{last-end, last-above}
@@ -61,7 +65,7 @@ unfolding reverse_runs reverse_from runs_of
 reversed-none [] vs e₀ v₀ h = fill_none e₀ v₀
 reversed-none (e ∷ es) vs e₀ v₀ h = let z : ⊥ = omega arith in absurd z
 
-pub reversed-filled : (es vs : List ℤ) {e₀ e v₀ v : List ℤ} → ends_valid es ≡ none → length es ≡ length vs
+pub reversed-filled : (es vs : List ℤ) {e₀ e v₀ v : List ℤ} → ends_valid es ≡ None → length es ≡ length vs
     → e ≡ over (turned_ends es) e₀ → v ≡ over (reverse vs) v₀
     → Filled (reverse_runs (runs_of es vs)) e₀ e v₀ v (length es)
 unfolding reverse_runs
@@ -75,91 +79,102 @@ reversed-filled es vs {e₀ = e₀} {v₀ = v₀} valid l he hv =
       values = hv ∙ ap (λ (xs : List ℤ). over xs v₀) (sym (values_turned n 0 es vs l));
     }
 
--- ---- the loop over ends: those of the last t runs are written, in a sequence of the length n
+-- ---- a loop that writes entries from the last to the first: the last t of them are written
 
-module _ (es e₀ : List ℤ) where
-  abbrev turned_at : ℕ → ℕ → List ℤ
-  turned_at n i = turned_from n (to_nat (end_before es i)) (drop i es)
+module _ (xs before : List ℤ) where
+  pub record Turning (now : List ℤ) (t : ℕ) : Type 0 where
+    pub written : now ≡ over (reverse (drop (length xs - t) xs)) before
 
-  pub record TurningEnds (n : ℕ) (e : List ℤ) (t : ℕ) : Type 0 where
-    pub within : t < length es
-    pub ends : e ≡ over (turned_at n (length es - t)) e₀
-    pub long : length e ≡ length e₀
-
-  pub ends-start : (n : ℕ) → 0 < length es → TurningEnds n e₀ 0
-  unfolding turned_from over
-  ends-start n h = record { within = h; ends = rw (drop_of_length-le es {i = length es - 0} (omega arith)); long = refl }
-
-  turned_next : (n i : ℕ) → i < length es → turned_at n i ≡ turned_at n (suc i) ++ pos (n - to_nat (end_before es i)) ∷ []
-  unfolding turned_from
-  turned_next n i h = rw (drop-cons es i (pos 0) h)
-
-  module _ {n : ℕ} {e : List ℤ} {t : ℕ} (r : TurningEnds n e t) where
-    -- at the run i
-    written_at : {x : ℤ} (i : ℕ) → i + t + 1 ≡ length es → length es ≤ length e₀ → x ≡ pos (n - to_nat (end_before es i))
-        → set e t x ≡ over (turned_at n i) e₀
-    written_at i h room ex =
-        let now : length es - t ≡ suc i = omega arith in
-        let z : length es - suc i ≡ t = omega arith in
-        let c : length (turned_at n (suc i)) ≡ t = length_turned n (to_nat (get_or es i (pos 0))) (drop (suc i) es) ∙ length-drop (suc i) es ∙ z in
-        rw (turned_next n i (omega arith), ex, r.ends, now) (over-next (turned_at n (suc i)) e₀ t (pos (n - to_nat (end_before es i))) (sym c) (omega arith))
-
-    -- before the run at j + 1
-    pub ends_more : {x : ℤ} (j : ℕ) → x ≡ pos (n - to_nat (get_or es j (pos 0))) → length es ≤ length e₀ → j + t + 2 ≡ length es
-        → TurningEnds n (set e t x) (t + 1)
-    ends_more j ex room h =
-        let later : length es - (t + 1) ≡ suc j = omega arith in
-        record { within = omega arith; ends = rw later (written_at (suc j) (omega arith) room ex); long = rw length-set r.long }
-
-    -- and at the first run
-    pub ends-end : {x : ℤ} {k : ℕ} → x ≡ pos n → length es ≤ length e₀ → k ≡ t → t + 1 ≡ length es → n ≡ to_nat (length_of_ends es)
-        → set e k x ≡ over (turned_ends es) e₀
-    ends-end ex room hk h l =
-        let z : n - 0 ≡ n = omega arith in
-        rw (hk, ← l) (written_at 0 (omega arith) room (rw z ex))
-
--- ---- the loop over values: the last t of them are written
-
-module _ (vs v₀ : List ℤ) where
-  pub record TurningValues (v : List ℤ) (t : ℕ) : Type 0 where
-    pub within : t ≤ length vs
-    pub values : v ≡ over (reverse (drop (length vs - t) vs)) v₀
-    pub long : length v ≡ length v₀
-
-  pub values-start : TurningValues v₀ 0
+  pub turning-start : Turning before 0
   unfolding over
-  values-start = record { within = omega arith; values = rw (drop_of_length-le vs {i = length vs - 0} (omega arith)); long = refl }
+  turning-start = record { written = rw (drop_of_length-le xs {i = length xs - 0} (omega arith)) }
 
-  module _ {v : List ℤ} {t : ℕ} (r : TurningValues v t) where
-    pub values-next : {x : ℤ} (i : ℕ) → x ≡ get_or vs i (pos 0) → length vs ≤ length v₀ → i + t + 1 ≡ length vs → TurningValues (set v t x) (t + 1)
-    values-next i ex room h =
-        let now : length vs - t ≡ suc i = omega arith in
-        let later : length vs - (t + 1) ≡ i = omega arith in
-        let done : List ℤ = reverse (drop (suc i) vs) in
-        let z : length vs - suc i ≡ t = omega arith in
-        let c : length done ≡ t = length-reverse (drop (suc i) vs) ∙ length-drop (suc i) vs ∙ z in
+  module _ {now : List ℤ} {t : ℕ} (r : Turning now t) where
+    pub turning-next : {x : ℤ} (d : ℤ) (i : ℕ) → x ≡ get_or xs i d → length xs ≤ length before → i + t + 1 ≡ length xs → Turning (set now t x) (t + 1)
+    turning-next d i ex room h =
+        let now : length xs - t ≡ suc i = omega arith in
+        let later : length xs - (t + 1) ≡ i = omega arith in
+        let done : List ℤ = reverse (drop (suc i) xs) in
+        let z : length xs - suc i ≡ t = omega arith in
+        let c : length done ≡ t = length-reverse (drop (suc i) xs) ∙ length-drop (suc i) xs ∙ z in
         record {
-          within = omega arith;
-          values = rw (later, drop-cons vs i (pos 0) (omega arith), reverse-cons (get_or vs i (pos 0)) (drop (suc i) vs), ex, r.values, now)
-              (over-next done v₀ t (get_or vs i (pos 0)) (sym c) (omega arith));
-          long = rw length-set r.long;
+          written = rw (later, drop-cons xs i d (omega arith), reverse-cons (get_or xs i d) (drop (suc i) xs), ex, r.written, now)
+              (over-next done before t (get_or xs i d) (sym c) (omega arith));
         }
 
-    pub values-end : length vs ≤ t → v ≡ over (reverse vs) v₀
-    values-end h = let z : length vs - t ≡ 0 = omega arith in rw z at r.values
+-- ---- the ends, turned: from the start of each run but the first, which is the end before it, and from 0
 
--- ---- the ends that the loop reads
+abbrev distance : ℕ → ℤ → ℤ
+distance n e = pos (n - to_nat e)
 
-module _ (es : List ℤ) (valid : ends_valid es ≡ none) where
+turned_is : (n p : ℕ) (e : ℤ) (es : List ℤ) → turned_from n p (e ∷ es) ≡ reverse (map (distance n) (take (length es) (e ∷ es))) ++ pos (n - p) ∷ []
+unfolding turned_from
+turned_is n p e [] = refl
+turned_is n p e (d ∷ es) =
+    ap (λ (xs : List ℤ). xs ++ pos (n - p) ∷ [])
+    (turned_is n (to_nat e) d es ∙ sym (reverse-cons (distance n e) (map (distance n) (take (length es) (d ∷ es)))))
+
+turned-all : (n : ℕ) (es : List ℤ) → 0 < length es → turned_from n 0 es ≡ reverse (map (distance n) (take (length es - 1) es)) ++ pos n ∷ []
+turned-all n [] h = let z : ⊥ = omega arith in absurd z
+turned-all n (e ∷ es) h =
+    let m : length (e ∷ es) - 1 ≡ length es = omega arith in
+    let z : n - 0 ≡ n = omega arith in
+    turned_is n 0 e es ∙ rw (m, z)
+
+-- ---- the ends that are read, held in signed locals
+
+abbrev pub held : ℤ → ℤ
+held z = to_z w64 (of_z w64 z)
+
+module _ (es : List ℤ) (valid : ends_valid es ≡ None) (some : 0 < length es) where
+  abbrev length_is : ℕ
+  length_is = to_nat (length_of_ends es)
+
+  abbrev last : ℤ
+  last = get_or es (length es - 1) (pos 0)
+
   -- the last is the length
-  pub length_read : 0 < length es → get_or es (length es - 1) (pos 0) ≡ pos (to_nat (length_of_ends es))
-  length_read h = sym (length_last es (λ z. let f : ⊥ = omega arith in f)) ∙ (let k = length_of-ends es es valid refl in k ∙ ap pos (sym (ap to_nat k)))
+  length_read : last ≡ pos length_is
+  length_read = sym (length_last es (λ z. let f : ⊥ = omega arith in f)) ∙ (let k = length_of-ends es es valid refl in k ∙ ap pos (sym (ap to_nat k)))
 
-  -- and each is a natural number up to that
-  pub end_read : {i : ℕ} {x : ℤ} → x ≡ get_or es i (pos 0) → i < length es
-      → (x ≡ pos (to_nat (get_or es i (pos 0)))) × (to_nat (get_or es i (pos 0)) ≤ to_nat (length_of_ends es))
-  unfolding length_of_ends
-  end_read {i} ex h = let k = rising_at 0 es i (rising es valid) h in (ex ∙ k.0, k.2)
+  module _ (small : mag last < 2 ^ 63) where
+    length-below : length_is < 2 ^ 63
+    length-below = natural-below length_read small
+
+    pub length_held : held last ≡ pos length_is
+    length_held = natural-back length_read length-below
+
+    -- how far it is from one of those before the last to the length
+    module _ (i : ℕ) (h : i < length (take (length es - 1) es)) where
+      abbrev end : ℤ
+      end = get_or (take (length es - 1) es) i (pos 0)
+
+      end_read : (end ≡ pos (to_nat end)) × (to_nat end ≤ length_is)
+      unfolding length_of_ends
+      end_read =
+          let b : i < length es - 1 = omega (arith, simp length-take at h) in
+          rw (get_or-take (length es - 1) es i (pos 0) (omega arith)) (let k = rising_at 0 es i (rising es valid) (omega arith) in (k.0, k.2))
+
+      read_held : held end ≡ pos (to_nat end)
+      read_held = natural-back end_read.0 (omega (arith, end_read.1, length-below))
+
+      twice_held : held (held last) ≡ pos length_is
+      twice_held = natural-back length_held length-below
+
+      pub distance-fits : SFits w64 (held (held last) -ℤ held end)
+      distance-fits = difference-fits twice_held read_held end_read.1 length-below
+
+      pub distance_held : {y : ℤ} → y ≡ held (held (held last) -ℤ held end) → y ≡ distance length_is end
+      distance_held ey = ey ∙ natural-back (difference_of twice_held read_held end_read.1) (omega (arith, length-below))
+
+  -- and the length after them
+  pub ends-turned : (before : List ℤ) {now : List ℤ} {k : ℕ} {x : ℤ} → length es ≤ length before
+      → now ≡ over (reverse (map (distance length_is) (take (length es - 1) es))) before → k ≡ length es - 1 → x ≡ pos length_is
+      → set now k x ≡ over (turned_ends es) before
+  ends-turned before room e ek ex =
+      let xs = reverse (map (distance length_is) (take (length es - 1) es)) in
+      let n : length xs ≡ length es - 1 = simp (length-reverse, length-map, length-take) (omega arith) in
+      rw (e, ek, ex) (over-next xs before (length es - 1) (pos length_is) (sym n) (omega arith)) ∙ ap (λ (l : List ℤ). over l before) (sym (turned-all length_is es some))
 
 -- ---- what it shows
 

@@ -1,11 +1,10 @@
 // Workers that assume what the calls have asked.
-ghost use Rattle.std.specs.Prelude.{◌+◌, ◌≤◌, ◌<◌, [], ◌∷◌, ◌++◌, reverse, ◌≡◌, pos, length, get_or};
-ghost use Rattle.std.proofs.Math.Option.{none};
+ghost use Rattle.std.specs.Prelude.{ℕ, ◌+◌, ◌≤◌, ◌<◌, [], ◌∷◌, ◌++◌, map, reverse, ◌≡◌, ℤ, pos, length, get_or, None};
 ghost use Rattle.column.specs.Flat.{flat, columns};
 ghost use Rattle.column.specs.Questions.{ends_valid};
 ghost use Rattle.column.specs.Runs.{runs_of, encode, over, Fills};
 ghost use Rattle.transform.specs.Calls.{shown, reverse_runs};
-ghost use Rattle.transform.specs.Workers.{Joinable, turned_ends, JoinableTwo};
+ghost use Rattle.transform.specs.Workers.{Joinable, Makes, turned_ends, JoinableTwo};
 
 use column::inner::Writer;
 use column::sequence;
@@ -27,51 +26,43 @@ pub fn concat(
     let first = values[0];
     let mut writer = Writer { at: 0, last: first };
     let mut offset: usize = 0;
-    let mut k: usize = 0;
-    while k + 1 < offsets.len() {
+    for k in 0..sequence::count(offsets) {
         let from = offsets[k];
         let to = offsets[k + 1];
         let part = sequence::part(ends, from, to);
         let shown = sequence::part(values, from, to);
         writer = column::inner::append_merged(writer, part, shown, 0, offset, out_ends, out_values);
         offset += sequence::to_nat(sequence::length(part));
-        k += 1;
     }
     writer.at + 1
 }
 
-// The ends of the runs from last to first: how far it is from each run's start to the length.
-fn reverse_ends(ends: &[i64], out_ends: &mut [i64])
-    requires { (ends_valid ends.now ≡ none) × (0 < length ends.now) × (length ends.now ≤ length out_ends.old) }
-    ensures { out_ends.new ≡ over (turned_ends ends.now) out_ends.old }
+// What `f` makes of the entries, from the last to the first.
+fn turn<F: Fn(i64) -> i64>(entries: &[i64], out: &mut [i64], f: F)
+    requires room { length entries.now ≤ length out.old }
+    requires made { (i : ℕ) → i < length entries.now → F.pre f (get_or entries.now i (pos 0)) }
+    ensures { (g : ℤ → ℤ) → Makes (F.post f) g entries.now → out.new ≡ over (reverse (map g entries.now)) out.old }
 {
-    let n = ends.len();
-    let length = ends[n - 1];
-    let mut t: usize = 0;
-    while t + 1 < n {
-        let start = ends[n - 2 - t];
-        out_ends[t] = length - start;
-        t += 1;
+    let n = entries.len();
+    for t in 0..n {
+        out[t] = f(entries[n - 1 - t]);
     }
-    out_ends[n - 1] = length;
 }
 
-fn reverse_values(values: &[i64], out_values: &mut [i64])
-    requires { length values.now ≤ length out_values.old }
-    ensures { out_values.new ≡ over (reverse values.now) out_values.old }
+// The ends of the runs from last to first: how far it is from each run's start to the length.
+fn reverse_ends(ends: &[i64], out_ends: &mut [i64])
+    requires { (ends_valid ends.now ≡ None) × (0 < length ends.now) × (length ends.now ≤ length out_ends.old) }
+    ensures { out_ends.new ≡ over (turned_ends ends.now) out_ends.old }
 {
-    let n = values.len();
-    let mut t: usize = 0;
-    while t < n {
-        let value = values[n - 1 - t];
-        out_values[t] = value;
-        t += 1;
-    }
+    let last = ends.len() - 1;
+    let length = ends[last];
+    turn(&ends[..last], out_ends, |start| length - start);
+    out_ends[last] = length;
 }
 
 // The runs from last to first. Two loops of two lists each take less time than one of four: memory is what binds them.
 pub fn reversed(ends: &[i64], values: &[i64], out_ends: &mut [i64], out_values: &mut [i64]) -> usize
-    requires { (ends_valid ends.now ≡ none) × (length ends.now ≡ length values.now)
+    requires { (ends_valid ends.now ≡ None) × (length ends.now ≡ length values.now)
         × (length ends.now ≤ length out_ends.old) × (length ends.now ≤ length out_values.old) }
     ensures { Fills (reverse_runs (runs_of ends.now values.now)) out_ends out_values result }
 {
@@ -79,7 +70,7 @@ pub fn reversed(ends: &[i64], values: &[i64], out_ends: &mut [i64], out_values: 
         return 0;
     }
     reverse_ends(ends, out_ends);
-    reverse_values(values, out_values);
+    turn(values, out_values, |value| value);
     ends.len()
 }
 

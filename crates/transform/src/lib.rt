@@ -11,7 +11,7 @@ ghost use Rattle.column.specs.Paper.{WritesRuns};
 ghost use Rattle.column.specs.Runs.{to_nat, length_of_ends, sequence};
 ghost use Rattle.transform.specs.Calls as calls;
 
-use column::answer::{Asked, Counted};
+use column::error::Refusal;
 use column::sequence;
 
 // The lengths of all sequences together, saturating at usize::MAX.
@@ -19,13 +19,11 @@ fn total_length(offsets: &[usize], ends: &[i64]) -> usize
     ensures { result ≡ saturated (total (map (λ es. to_nat (length_of_ends es)) (parts offsets.now ends.now))) }
 {
     let mut total: usize = 0;
-    let mut k = 0;
-    while k + 1 < offsets.len() {
+    for k in 0..sequence::count(offsets) {
         let from = offsets[k];
         let to = offsets[k + 1];
         let length = sequence::length(sequence::part(ends, from, to));
         total = num::saturating_add(total, sequence::to_nat(length));
-        k += 1;
     }
     total
 }
@@ -36,12 +34,12 @@ fn concat_asks(
     values: &[i64],
     out_ends: usize,
     out_values: usize,
-) -> Asked
+) -> Result<(), Refusal>
     ensures { shown_asked result ≡ calls.concat_asked (flat offsets.now ends.now values.now) (out_ends ∷ out_values ∷ []) }
 {
-    questions::ask_flat(offsets, ends, values)
-        .and(questions::ask_fits(total_length(offsets, ends)))
-        .and(questions::ask_both(ends.len(), out_ends, out_values))
+    questions::ask_flat(offsets, ends, values)?;
+    questions::ask_fits(total_length(offsets, ends))?;
+    questions::ask_both(ends.len(), out_ends, out_values)
 }
 
 // Sequences joined end to end, merged.
@@ -51,17 +49,12 @@ pub fn concat(
     values: &[i64],
     out_ends: &mut [i64],
     out_values: &mut [i64],
-) -> Counted
+) -> Result<usize, Refusal>
     ensures { WritesRuns (calls.concat (flat offsets.now ends.now values.now)) out_ends out_values result }
 {
-    let asked = concat_asks(offsets, ends, values, out_ends.len(), out_values.len());
-    match asked {
-        Asked::Yes => {
-            let n = inner::concat(offsets, ends, values, out_ends, out_values);
-            Counted::Count(n)
-        }
-        Asked::No(r) => Counted::Refused(r),
-    }
+    concat_asks(offsets, ends, values, out_ends.len(), out_values.len())?;
+    let n = inner::concat(offsets, ends, values, out_ends, out_values);
+    Ok(n)
 }
 
 // A sequence from its last position to its first, not merged.
@@ -70,21 +63,10 @@ pub fn reversed(
     values: &[i64],
     out_ends: &mut [i64],
     out_values: &mut [i64],
-) -> Counted
+) -> Result<usize, Refusal>
     ensures { WritesRuns (calls.reversed (sequence ends.now values.now)) out_ends out_values result }
 {
-    let asked = questions::ask_sequence_into(
-        ends,
-        values,
-        ends.len(),
-        out_ends.len(),
-        out_values.len(),
-    );
-    match asked {
-        Asked::Yes => {
-            let n = inner::reversed(ends, values, out_ends, out_values);
-            Counted::Count(n)
-        }
-        Asked::No(r) => Counted::Refused(r),
-    }
+    questions::ask_sequence_into(ends, values, ends.len(), out_ends.len(), out_values.len())?;
+    let n = inner::reversed(ends, values, out_ends, out_values);
+    Ok(n)
 }

@@ -1,15 +1,16 @@
-use Rattle.column.proofs.Promised.{asked-yes, asked_no, runs-written, runs-refused}
+use mathlib.Core.Path.{sym}
+use Rattle.column.proofs.Promised.{runs-written, runs-refused}
 use Rattle.column.proofs.Told.{both_told}
 use Rattle.dense.specs.Calls.{from_dense}
 use Rattle.dense.proofs.from_dense.Goals as goal
 
 pub from_dense-n-requires : goal.from_dense-n-requires
-from_dense-n-requires c = both_told _ _ _ (asked-yes c.ask_both-asked.ensures c.in-Yes.is)
+from_dense-n-requires c = both_told _ _ _ (sym c.in_ok-ask_both.ensures)
 
-pub returns-in-Yes : goal.returns-in-Yes
+pub returns : goal.returns
 unfolding from_dense
-returns-in-Yes c = runs-written _ (asked-yes c.ask_both-asked.ensures c.in-Yes.is) c.from_dense-n.ensures
+returns c = runs-written _ (sym c.in_ok-ask_both.ensures) c.from_dense-n.ensures
 
-pub returns-in-No : goal.returns-in-No
+pub returns-in_err-ask_both : goal.returns-in_err-ask_both
 unfolding from_dense
-returns-in-No c = runs-refused _ (asked_no _ c.ask_both-asked.ensures c.in-No.is)
+returns-in_err-ask_both c = runs-refused _ _ _ c.from_residual.ensures.1 c.in_err-ask_both.ensures

@@ -1,4 +1,5 @@
-use Rattle.column.proofs.Promised.{asked-yes, asked_no, runs-written, runs-refused}
+use mathlib.Core.Path.{sym}
+use Rattle.column.proofs.Promised.{runs-written, runs-refused}
 use Rattle.column.proofs.Told.{sequence-told}
 use Rattle.merge.specs.Calls.{merged}
 use Rattle.merge.proofs.merged.Goals as goal
@@ -6,12 +7,12 @@ use Rattle.merge.proofs.merged.Goals as goal
 pub merged-n-requires : goal.merged-n-requires
 merged-n-requires c =
     let a = c.args in
-    sequence-told a.ends.now a.values.now _ _ _ (asked-yes c.ask_sequence_into-asked.ensures c.in-Yes.is)
+    sequence-told a.ends.now a.values.now _ _ _ (sym c.in_ok-ask_sequence_into.ensures)
 
-pub returns-in-Yes : goal.returns-in-Yes
+pub returns : goal.returns
 unfolding merged
-returns-in-Yes c = runs-written _ (asked-yes c.ask_sequence_into-asked.ensures c.in-Yes.is) c.merged-n.ensures
+returns c = runs-written _ (sym c.in_ok-ask_sequence_into.ensures) c.merged-n.ensures
 
-pub returns-in-No : goal.returns-in-No
+pub returns-in_err-ask_sequence_into : goal.returns-in_err-ask_sequence_into
 unfolding merged
-returns-in-No c = runs-refused _ (asked_no _ c.ask_sequence_into-asked.ensures c.in-No.is)
+returns-in_err-ask_sequence_into c = runs-refused _ _ _ c.from_residual.ensures.1 c.in_err-ask_sequence_into.ensures

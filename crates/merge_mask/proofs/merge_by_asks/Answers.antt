@@ -1,9 +1,12 @@
-use Rattle.column.proofs.FirstNo.{asks-first, asks_then}
+use mathlib.Core.Path.{sym, ◌∙◌}
+use Rattle.column.proofs.FirstNo.{ends_at, goes_on, alone}
 use Rattle.merge_mask.specs.Calls.{merge_by_asked}
 use Rattle.merge_mask.proofs.merge_by_asks.Goals as goal
 
+pub returns-in_err-ask_code : goal.returns-in_err-ask_code
+unfolding merge_by_asked
+returns-in_err-ask_code c = ends_at _ _ _ c.from_residual.ensures.1 c.in_err-ask_code.ensures
+
 pub returns : goal.returns
 unfolding merge_by_asked
-returns c =
-    let code = asks-first c.ask_code.ensures in
-    (asks_then code c.and.ensures (λ y. c.ask_sequence_into.ensures)).told
+returns c = goes_on _ c.in_ok-ask_code.ensures (c.ask_sequence_into.ensures ∙ sym (alone _))

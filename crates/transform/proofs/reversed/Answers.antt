@@ -1,4 +1,5 @@
-use Rattle.column.proofs.Promised.{asked-yes, asked_no, runs-written, runs-refused}
+use mathlib.Core.Path.{sym}
+use Rattle.column.proofs.Promised.{runs-written, runs-refused}
 use Rattle.column.proofs.Told.{sequence-told}
 use Rattle.transform.specs.Calls.{reversed}
 use Rattle.transform.proofs.reversed.Goals as goal
@@ -6,12 +7,12 @@ use Rattle.transform.proofs.reversed.Goals as goal
 pub reversed-n-requires : goal.reversed-n-requires
 reversed-n-requires c =
     let a = c.args in
-    sequence-told a.ends.now a.values.now _ _ _ (asked-yes c.ask_sequence_into-asked.ensures c.in-Yes.is)
+    sequence-told a.ends.now a.values.now _ _ _ (sym c.in_ok-ask_sequence_into.ensures)
 
-pub returns-in-Yes : goal.returns-in-Yes
+pub returns : goal.returns
 unfolding reversed
-returns-in-Yes c = runs-written _ (asked-yes c.ask_sequence_into-asked.ensures c.in-Yes.is) c.reversed-n.ensures
+returns c = runs-written _ (sym c.in_ok-ask_sequence_into.ensures) c.reversed-n.ensures
 
-pub returns-in-No : goal.returns-in-No
+pub returns-in_err-ask_sequence_into : goal.returns-in_err-ask_sequence_into
 unfolding reversed
-returns-in-No c = runs-refused _ (asked_no _ c.ask_sequence_into-asked.ensures c.in-No.is)
+returns-in_err-ask_sequence_into c = runs-refused _ _ _ c.from_residual.ensures.1 c.in_err-ask_sequence_into.ensures

@@ -1,9 +1,5 @@
-use Prim.Native.Nat.{◌-◌, ◌≤◌}
 use Rattle.dense.specs.Workers.{Encoded}
 use Rattle.dense.proofs.inner.push_values.Given as goal
 
 abbrev pub invariant-loop-i : goal.invariant-loop-i
-invariant-loop-i l = (l.from ≤ l.i) × (l.i ≤ l.to) × Encoded l.values l.initial.out_ends l.out_ends l.initial.out_values l.out_values l.next l.i
-
-abbrev pub decreases-loop-i : goal.decreases-loop-i
-decreases-loop-i l = l.to - l.i
+invariant-loop-i l = Encoded l.values l.initial.out_ends l.out_ends l.initial.out_values l.out_values l.next l.i

@@ -18,16 +18,14 @@ module _ (es vs out₀ : List ℤ) where
   whole = dense (runs_of es vs)
 
   pub record Inv (out : List ℤ) (p r : ℕ) : Type 0 where
-    pub within : r ≤ length es
     pub rises : RisingEnds p (drop r es)
     pub inside : p ≤ length whole
     pub left : drop p whole ≡ dense_from p (runs_of (drop r es) (drop r vs))
     pub written : out ≡ over (take p whole) out₀
-    pub long : length out ≡ length out₀
 
   pub inv-start : RisingEnds 0 es → Inv out₀ 0 0
   unfolding whole dense over
-  inv-start r = record { within = omega arith; rises = r; inside = omega arith; left = refl; written = refl; long = refl }
+  inv-start r = record { rises = r; inside = omega arith; left = refl; written = refl }
 
 module _ {es vs out₀ out : List ℤ} {p r : ℕ} (n : Inv es vs out₀ out p r) where
   pub inv-end : length es ≤ r → (p ≡ length (dense (runs_of es vs))) × (out ≡ over (dense (runs_of es vs)) out₀)
@@ -55,13 +53,12 @@ module _ {es vs out₀ out : List ℤ} {p r : ℕ} (n : Inv es vs out₀ out p r
     unfolding whole
     inv-inside = omega (arith, run-stretch.inside, at-run.1)
 
-    pub inv-more : {x : ℤ} {e : ℕ} {out' : List ℤ} → e ≡ to_nat (get_or es r (pos 0)) → x ≡ get_or vs r (pos 0) → length out' ≡ length out → out' ≡ stretched out p e x
+    pub inv-more : {x : ℤ} {e : ℕ} {out' : List ℤ} → e ≡ to_nat (get_or es r (pos 0)) → x ≡ get_or vs r (pos 0) → out' ≡ stretched out p e x
         → Inv es vs out₀ out' e (r + 1)
-    inv-more {e} ee ex el eo =
+    inv-more {e} ee ex eo =
         let st = run-stretch in
         let q : p + (to_nat (get_or es r (pos 0)) - p) ≡ to_nat (get_or es r (pos 0)) = omega (arith, at-run.1) in
         rw ee (record {
-          within = omega arith;
           rises = at-run.2;
           inside = omega (arith, st.inside);
           left = ap (λ (k : ℕ). drop k (whole es vs out₀)) (sym q) ∙ st.back;
@@ -69,11 +66,7 @@ module _ {es vs out₀ out : List ℤ} {p r : ℕ} (n : Inv es vs out₀ out p r
               (over-stretch (take p (whole es vs out₀)) out₀ p (to_nat (get_or es r (pos 0))) (get_or vs r (pos 0))
               (sym (length-take-le p (whole es vs out₀) n.inside)) (omega (arith, at-run.1))
               ∙ ap (λ (l : List ℤ). over l out₀) (sym st.front ∙ ap (λ (k : ℕ). take k (whole es vs out₀)) q));
-          long = el ∙ n.long;
         })
 
 abbrev pub invariant-loop-r : goal.invariant-loop-r
 invariant-loop-r l = Inv l.ends l.values l.initial.out l.out l.p l.r
-
-abbrev pub decreases-loop-r : goal.decreases-loop-r
-decreases-loop-r l = length l.ends - l.r

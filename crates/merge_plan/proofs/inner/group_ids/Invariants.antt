@@ -1,10 +1,5 @@
-use Prim.Native.Nat.{◌-◌}
-use lib.ListN.{length}
 use Rattle.merge_plan.proofs.Ids.{Numbering}
 use Rattle.merge_plan.proofs.inner.group_ids.Given as goal
 
 abbrev pub invariant-loop-group : goal.invariant-loop-group
 invariant-loop-group l = Numbering l.offsets l.initial.out_ids l.out_ids l.limit l.from l.group
-
-abbrev pub decreases-loop-group : goal.decreases-loop-group
-decreases-loop-group l = length l.offsets - l.group

@@ -1,7 +1,7 @@
 use mathlib.Core.Path.{◌∙◌}
 use native.Mathlib.Omega.{arith}
 use Rattle.num.proofs.Bits.{back}
-use Rattle.transform.proofs.JoiningTwo.{two_none, two-first, after_first, two-second, after-second, two-within, two-end}
+use Rattle.transform.proofs.JoiningTwo.{two_none, two-first, after_first, two-second, two-within, two-end}
 use Rattle.transform.proofs.inner.concat_two.Goals as goal
 
 pub returns-then-a_ends-b_ends-eq0 : goal.returns-then-a_ends-b_ends-eq0
@@ -23,18 +23,6 @@ overflow_add-result c =
     let within = two-within p first c.to_nat-length.ensures (back _ c.length.type_inv ∙ c.length.ensures) c.append_merged-last.ensures
     c.if-a_ends-b_ends-eq0.false in
     omega (arith, within, c.well_formed)
-
-pub shape_of-out_ends : goal.shape_of-out_ends
-shape_of-out_ends c =
-    let p = c.requires in
-    (after-second p (after_first p (back _ c.first_value-first.type_inv ∙ c.first_value-first.ensures) c.append_merged-after_first.ensures)
-    c.to_nat-length.ensures (back _ c.length.type_inv ∙ c.length.ensures) c.append_merged-last.ensures).long_ends
-
-pub shape_of-out_values : goal.shape_of-out_values
-shape_of-out_values c =
-    let p = c.requires in
-    (after-second p (after_first p (back _ c.first_value-first.type_inv ∙ c.first_value-first.ensures) c.append_merged-after_first.ensures)
-    c.to_nat-length.ensures (back _ c.length.type_inv ∙ c.length.ensures) c.append_merged-last.ensures).long_values
 
 pub returns : goal.returns
 returns c =

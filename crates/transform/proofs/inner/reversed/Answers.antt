@@ -1,15 +1,13 @@
-use native.Mathlib.Omega.{arith}
+use borrow.Author.Rules.{rules}
+use Rattle.std.proofs.lemmas.List.{map-id}
 use Rattle.transform.proofs.Reversing.{reversed-none, reversed-filled}
 use Rattle.transform.proofs.inner.reversed.Goals as goal
 
 pub returns-then-ends-eq0 : goal.returns-then-ends-eq0
 returns-then-ends-eq0 c = reversed-none _ _ _ _ c.if-ends-eq0.true
 
-pub reverse_ends-requires : goal.reverse_ends-requires
-reverse_ends-requires c = (c.requires.0, omega (arith, c.if-ends-eq0.false), c.requires.2)
-
-pub reverse_values-requires : goal.reverse_values-requires
-reverse_values-requires c = omega (arith, c.requires.1, c.requires.3)
-
 pub returns : goal.returns
-returns c = reversed-filled c.args.ends.now c.args.values.now c.requires.0 c.requires.1 c.reverse_ends.ensures c.reverse_values.ensures
+returns c =
+    let vs = c.args.values.now in
+    let turned = c.turn.ensures (λ v. v) (λ i y h made. search rules) in
+    reversed-filled c.args.ends.now vs c.requires.0 c.requires.1 c.reverse_ends.ensures (rw map-id at turned)

@@ -1,7 +1,0 @@
-use Rattle.ranges_where.proofs.inner.begins.Goals as goal
-
-pub returns-then-inside : goal.returns-then-inside
-returns-then-inside c = rw c.if-inside.true
-
-pub returns : goal.returns
-returns c = rw c.if-inside.false
