@@ -1,6 +1,6 @@
--- The questions of `equals`, as the code joins them, and what they tell where all are answered "yes": what its worker requires.
+-- What the questions of `equals` tell where all are answered "yes": what its worker requires.
 -- Assumes nothing.
-use mathlib.Core.Option.{none}
+use Rattle.std.specs.Prelude.{None}
 use mathlib.Core.List.{List, [], ◌∷◌}
 use mathlib.Core.Path.{◌≡◌}
 use lib.IntN.{ℤ}
@@ -12,7 +12,7 @@ use Rattle.column.proofs.Told.{agree-told}
 use Rattle.equals.specs.Calls.{equals_asked}
 use Rattle.equals.specs.Workers.{Comparable}
 
-pub equals-yes : (ae av be bv : List ℤ) → equals_asked (sequence ae av) (sequence be bv) ≡ none → Comparable (sequence ae av) (sequence be bv)
+pub equals-yes : (ae av be bv : List ℤ) → equals_asked (sequence ae av) (sequence be bv) ≡ None → Comparable (sequence ae av) (sequence be bv)
 unfolding equals_asked paired
 equals-yes ae av be bv h =
     let y = all_yes (paired (sequence ae av) ∷ paired (sequence be bv) ∷ ends_valid ae ∷ ends_valid be ∷ []) h in

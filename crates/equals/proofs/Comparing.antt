@@ -1,13 +1,17 @@
 -- The loop of `equals`: the walk of two columns, as long as their values agree.
 -- Assumes nothing.
-use Prim.Native.Nat.{◌+◌, ◌≤◌}
+use Rattle.std.specs.Prelude.{None}
+use Prim.Native.Nat.{◌+◌, ◌≤◌, ◌<◌, ◌^◌}
 use mathlib.Core.Bool.{Bool, true, false, not, ◌||◌}
 use mathlib.Core.List.{List, [], ◌∷◌, ◌++◌, map, map-append}
 use mathlib.Core.Path.{◌≡◌, refl, ap, sym, ◌∙◌}
 use lib.IntN.{ℤ, pos}
 use lib.ListN.{length, get_or}
+use lib.Signed.{mag}
+use mir.Syntax.{w64}
+use mir.Val.{to_z, of_z}
+use Rattle.num.proofs.Bits.{back}
 use Rattle.num.specs.Numbers.{eq_z, flag, operation}
-use Rattle.column.specs.declared.answer.Fill.TheVariants.{Missing}
 use Rattle.column.specs.Combine.{Column, two}
 use Rattle.column.specs.Lists.{any}
 use Rattle.column.specs.Runs.{Run, to_nat, sequence, runs_of, length_of, length_of_ends, dense}
@@ -32,9 +36,13 @@ flag-differs : (b : Bool) → eq_z (flag b) (pos 0) || false ≡ not b
 flag-differs true = refl
 flag-differs false = refl
 
+-- two numbers that the code finds equal
+pub same_numbers : {x y m n : ℤ} → x ≡ m → y ≡ n → mag x < 2 ^ 63 → mag y < 2 ^ 63 → of_z w64 x ≡ of_z w64 y → m ≡ n
+same_numbers {x} {y} ex ey hx hy e = sym (back x hx ∙ ex) ∙ ap (to_z w64) e ∙ back y hy ∙ ey
+
 module _ (ae av be bv : List ℤ) where
   abbrev cs : List Column
-  cs = two Missing Missing (runs_of ae av) (runs_of be bv)
+  cs = two None None (runs_of ae av) (runs_of be bv)
 
   abbrev pub same_shown : Bool
   same_shown = same (dense (runs_of ae av)) (dense (runs_of be bv))
@@ -74,7 +82,7 @@ module _ (ae av be bv : List ℤ) where
       unfolding differing segment_runs
       by-segments =
           let e : length_of (runs_of ae av) ≡ length_of (runs_of be bv) = ap to_nat (sym length_a ∙ h ∙ length_b) in
-          same-segments Missing Missing (runs_of ae av) (runs_of be bv) valid_a valid_b e
+          same-segments None None (runs_of ae av) (runs_of be bv) valid_a valid_b e
           ∙ rw (ends_in_lem ae av q.paired_a, ends_in_lem be bv q.paired_b)
 
       pub compared-end : {c : Segments} (d : Compared c) → length ae + length be ≤ c.a.index + c.b.index → true ≡ same_shown
@@ -89,7 +97,7 @@ module _ (ae av be bv : List ℤ) where
             let run = segment_run (operation 7) cs in
             ap (any differs) (map-append run d.done (here ∷ []))
             ∙ any_append differs (map run d.done) (run here ∷ [])
-            ∙ rw (d.alike, both-shown (operation 7) Missing Missing ae av be bv q.paired_a q.paired_b c.a.index c.b.index, ← ex, ← ey, t)
+            ∙ rw (d.alike, both-shown (operation 7) None None ae av be bv q.paired_a q.paired_b c.a.index c.b.index, ← ex, ← ey, t)
             (flag-differs b)
 
         pub compared-next : b ≡ true → Compared c'

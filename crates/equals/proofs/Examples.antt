@@ -1,7 +1,7 @@
 -- Worked examples of `equals`, computed from its definition. A is document 01's: ends 3, 5, 9, values 7, 2, 7.
 -- Assumes nothing.
 use mathlib.Core.Bool.{Bool, true, false, cond}
-use mathlib.Core.Option.{none}
+use Rattle.std.specs.Prelude.{None}
 use mathlib.Core.List.{List, [], ◌∷◌}
 use mathlib.Core.Path.{refl}
 use lib.IntN.{pos}
@@ -48,8 +48,8 @@ rows =
     ∷ row (as_test (equals a nothing)) no
     ∷ row (as_test (equals nothing nothing)) yes
     -- what 3 of both before the ends of either
-    ∷ row (as_test (equals (sequence (pos 0 ∷ []) (pos 1 ∷ [])) (sequence (pos 1 ∷ []) []))) (refused 2 (pos 3 ∷ pos 1 ∷ pos 0 ∷ []) none)
-    ∷ row (as_test (equals a (sequence (pos 2 ∷ pos 2 ∷ []) (pos 1 ∷ pos 1 ∷ [])))) (refused 4 (pos 1 ∷ []) none)
+    ∷ row (as_test (equals (sequence (pos 0 ∷ []) (pos 1 ∷ [])) (sequence (pos 1 ∷ []) []))) (refused 2 (pos 3 ∷ pos 1 ∷ pos 0 ∷ []) None)
+    ∷ row (as_test (equals a (sequence (pos 2 ∷ pos 2 ∷ []) (pos 1 ∷ pos 1 ∷ [])))) (refused 4 (pos 1 ∷ []) None)
     ∷ []
 
 pub examples : Hold rows

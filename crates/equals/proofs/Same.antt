@@ -1,5 +1,6 @@
 -- Two columns show the same values where no segment of both has values that differ.
 -- Assumes nothing.
+use Rattle.std.specs.Prelude.{Option}
 use mathlib.Core.Bool.{false, not}
 use mathlib.Core.List.{List, [], ◌∷◌}
 use mathlib.Core.Path.{◌≡◌, refl, ap, sym, ◌∙◌}
@@ -8,7 +9,6 @@ use lib.IntN.{ℤ, pos}
 use lib.ListN.{length}
 use Rattle.num.specs.Numbers.{eq_z, operation}
 use Rattle.num.proofs.Tests.{by-test}
-use Rattle.column.specs.declared.answer.Fill.{Fill}
 use Rattle.column.specs.Combine.{two, value_of}
 use Rattle.column.specs.Lists.{any}
 use Rattle.column.specs.Runs.{Run, Runs, length_of, dense}
@@ -34,7 +34,7 @@ same-short (x ∷ xs) [] h = refl
 same-short (x ∷ xs) (y ∷ ys) h = by-test (eq_z x y) (λ t. rw t (same-short xs ys (λ e. h (omega arith)))) (λ t. rw t)
 
 -- columns of equal lengths, by their segments
-pub same-segments : (fa fb : Fill) (a b : Runs) → Valid a → Valid b → length_of a ≡ length_of b
+pub same-segments : (fa fb : Option ℤ) (a b : Runs) → Valid a → Valid b → length_of a ≡ length_of b
     → same (dense a) (dense b) ≡ not (any (λ (r : Run). eq_z r.value (pos 0)) (segment_runs (operation 7) (two fa fb a b)))
 same-segments fa fb a b va vb h =
     let op = operation 7 in

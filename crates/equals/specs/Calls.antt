@@ -2,9 +2,8 @@
 use Rattle.std.specs.Prelude.{Bool, true, false, ◌&&◌, List, [], ◌∷◌, ℤ}
 use Rattle.num.specs.Numbers.{eq_z}
 use Rattle.column.specs.Asking.{Question, first_no, ◌otherwise◌}
-use Rattle.column.specs.Paper.{Outcome, answers, refuses, paper}
+use Rattle.column.specs.Paper.{Outcome}
 use Rattle.column.specs.Questions.{paired, ends_valid}
-use Rattle.equals.specs.declared.Equality.{Equality}
 use Rattle.column.specs.Runs.{Sequence, runs, dense}
 
 -- are two lists of values equal, position by position
@@ -20,8 +19,3 @@ equals_asked a b = first_no (paired a ∷ paired b ∷ ends_valid a.ends ∷ end
 -- the same values at every position, however the runs are split
 unfoldable pub equals : Sequence → Sequence → Outcome Bool
 equals a b = equals_asked a b otherwise same (dense (runs a)) (dense (runs b))
-
-abbrev pub shown_equality : Equality → Outcome Bool
-shown_equality Equality.Equal = answers true
-shown_equality Equality.Different = answers false
-shown_equality (Equality.Refused r) = refuses (paper r)

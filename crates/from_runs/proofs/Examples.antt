@@ -1,7 +1,7 @@
 -- Worked examples of `from_runs` and `repeat`, computed from their definitions.
 -- Assumes nothing.
 use Prim.Native.Nat.{◌-◌, ◌^◌}
-use mathlib.Core.Option.{none}
+use Rattle.std.specs.Prelude.{None}
 use mathlib.Core.List.{List, [], ◌∷◌}
 use mathlib.Core.Path.{refl}
 use lib.IntN.{ℤ, pos, negsuc}
@@ -18,9 +18,9 @@ greatest = pos (2 ^ 63 - 1)
 abbrev rows : List Row
 rows =
     row (as_runs (from_runs (pos 3 ∷ pos 0 ∷ pos 2 ∷ []) (pos 7 ∷ pos 8 ∷ pos 2 ∷ []) (3 ∷ 3 ∷ []))) (answers ((pos 3 ∷ pos 5 ∷ []) ∷ (pos 7 ∷ pos 2 ∷ []) ∷ []))
-    ∷ row (as_runs (from_runs (greatest ∷ pos 1 ∷ negsuc 0 ∷ []) (pos 7 ∷ pos 8 ∷ pos 2 ∷ []) (3 ∷ 3 ∷ []))) (refused 7 [] none)
-    ∷ row (as_runs (from_runs (greatest ∷ negsuc 0 ∷ pos 1 ∷ []) (pos 7 ∷ pos 8 ∷ pos 2 ∷ []) (3 ∷ 3 ∷ []))) (refused 6 (pos 1 ∷ negsuc 0 ∷ []) none)
-    ∷ row (as_runs (repeat (pos 7) (pos 0) (0 ∷ 1 ∷ []))) (refused 12 (pos 0 ∷ pos 1 ∷ pos 0 ∷ []) none)
+    ∷ row (as_runs (from_runs (greatest ∷ pos 1 ∷ negsuc 0 ∷ []) (pos 7 ∷ pos 8 ∷ pos 2 ∷ []) (3 ∷ 3 ∷ []))) (refused 7 [] None)
+    ∷ row (as_runs (from_runs (greatest ∷ negsuc 0 ∷ pos 1 ∷ []) (pos 7 ∷ pos 8 ∷ pos 2 ∷ []) (3 ∷ 3 ∷ []))) (refused 6 (pos 1 ∷ negsuc 0 ∷ []) None)
+    ∷ row (as_runs (repeat (pos 7) (pos 0) (0 ∷ 1 ∷ []))) (refused 12 (pos 0 ∷ pos 1 ∷ pos 0 ∷ []) None)
     ∷ []
 
 pub examples : Hold rows

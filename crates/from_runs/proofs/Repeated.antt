@@ -1,7 +1,7 @@
 -- `repeat` is `from_runs` of one run.
 -- Assumes nothing.
 use Prim.Native.Nat.{ℕ}
-use mathlib.Core.Option.{none, some}
+use Rattle.std.specs.Prelude.{Some, None}
 use mathlib.Core.List.{List, [], ◌∷◌}
 use mathlib.Core.Path.{◌≡◌, refl, ap}
 use native.Mathlib.Nat.{zero-add}
@@ -20,9 +20,9 @@ runs-one : (run : ℤ) → SFits w64 run → run_by_run 0 0 (run ∷ []) ≡ not
 unfolding run_by_run
 runs-one run f = rw (zero-add (to_nat run), fits-yes (to_nat run) (to_nat-below run f)) (only (not_negative 0 run))
   where
-    only : (q : Question) → first_no (q ∷ none ∷ none ∷ []) ≡ q
-    only none = refl
-    only (some r) = refl
+    only : (q : Question) → first_no (q ∷ None ∷ None ∷ []) ≡ q
+    only None = refl
+    only (Some r) = refl
 
 pub repeat-one : (value run : ℤ) (buffers : List ℕ) → SFits w64 run → from_runs (run ∷ []) (value ∷ []) buffers ≡ repeat value run buffers
 unfolding from_runs from_runs_asked repeat agree

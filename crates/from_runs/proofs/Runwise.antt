@@ -1,7 +1,6 @@
 -- Runs written one after another, without those of length 0.
 -- Assumes nothing.
 use Prim.Native.Nat.{ℕ, zero, suc, ◌+◌, ◌≤◌, ◌<◌}
-use mathlib.Core.Bool.{true, false}
 use mathlib.Core.List.{List, [], ◌∷◌, ◌++◌, append-nil}
 use mathlib.Core.Path.{◌≡◌, refl, ap, sym, ◌∙◌}
 use native.Mathlib.Nat.{add-zero}
@@ -81,13 +80,6 @@ module _ {rs : Runs} {e₀ e v₀ v e' v' : List ℤ} {n m : ℕ} (f : Filled rs
       })
 
 module _ {e v : List ℤ} {n : ℕ} {run end value : ℤ} where
-  -- what the code does with a run of 0, and with another
-  pub put_none : eq_z run (pos 0) ≡ true → PutRun e e v v n run end value n
-  put_none t = record { count = rw t; ends = rw t; values = rw t }
-
-  pub put_some : {end' value' : ℤ} → eq_z run (pos 0) ≡ false → end' ≡ end → value' ≡ value → PutRun e (set e n end') v (set v n value') n run end value (n + 1)
-  put_some t p q = record { count = rw t; ends = rw (t, p); values = rw (t, q) }
-
   -- at most one entry more
   pub put_few : {e' v' : List ℤ} {m : ℕ} → PutRun e e' v v' n run end value m → m ≤ n + 1
   put_few d = by-test (eq_z run (pos 0)) (λ t. let c = rw t at d.count in omega arith) (λ t. let c = rw t at d.count in omega arith)

@@ -1,6 +1,5 @@
 // Workers that assume what the calls have asked.
-ghost use Rattle.std.specs.Prelude.{◌≤◌, ◌<◌, ◌≡◌, length};
-ghost use Rattle.std.proofs.Math.Option.{none};
+ghost use Rattle.std.specs.Prelude.{◌≤◌, ◌<◌, ◌≡◌, length, None};
 ghost use Rattle.column.specs.Questions.{run_by_run};
 ghost use Rattle.column.specs.Runs.{Fills};
 ghost use Rattle.from_runs.specs.Calls.{runs_from};
@@ -33,19 +32,17 @@ pub fn from_runs(
     out_ends: &mut [i64],
     out_values: &mut [i64],
 ) -> usize
-    requires { (length runs.now ≡ length values.now) × (run_by_run 0 0 runs.now ≡ none)
+    requires { (length runs.now ≡ length values.now) × (run_by_run 0 0 runs.now ≡ None)
         × (length runs.now ≤ length out_ends.old) × (length runs.now ≤ length out_values.old) }
     ensures { Fills (runs_from 0 runs.now values.now) out_ends out_values result }
 {
     let mut end: i64 = 0;
     let mut n: usize = 0;
-    let mut i: usize = 0;
-    while i < runs.len() {
+    for i in 0..runs.len() {
         let run = runs[i];
         let value = values[i];
         end += run;
         n = put_run(out_ends, out_values, n, run, end, value);
-        i += 1;
     }
     n
 }

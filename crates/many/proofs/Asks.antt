@@ -1,7 +1,7 @@
 -- The questions of plan_many, what a "yes" to all of them tells, and what is promised then.
 -- Assumes nothing.
 use Prim.Native.Nat.{ℕ, ◌*◌, ◌-◌, ◌≤◌, ◌<◌, ◌^◌}
-use mathlib.Core.Option.{none, some}
+use Rattle.std.specs.Prelude.{Some, None, Result, Ok, IsErrAnd}
 use mathlib.Core.List.{List, [], ◌∷◌, ◌++◌, map}
 use mathlib.Core.Path.{◌≡◌, refl, ap, ap₂, sym, ◌∙◌}
 use lib.IntN.{ℤ}
@@ -12,12 +12,12 @@ use Rattle.column.specs.Asking.{Question, first_no, ◌otherwise◌}
 use Rattle.column.specs.Flat.{Flat, flat, count, columns, flat_asked}
 use Rattle.column.specs.Paper.{answers, paper}
 use Rattle.column.specs.Questions.{paired, offsets_valid, sequences_valid, at_most, room_at, room}
-use Rattle.column.proofs.FirstNo.{AllYes, all_yes, Asks}
+use Rattle.column.proofs.FirstNo.{AllYes, all_yes}
+use Rattle.column.proofs.Promised.{passed_on}
 use Rattle.column.proofs.Told.{agree-told, most-told, room-told}
 use Rattle.column.proofs.YesNo.{room-each, room-saturated}
 use Rattle.plan.specs.Calls.{Segment, ends_in, segments}
-use Rattle.many.specs.declared.PlannedMany.{PlannedMany}
-use Rattle.many.specs.declared.inner.Counts.{Counts}
+use Rattle.many.specs.declared.Planned.{Planned}
 use Rattle.many.specs.Calls.{most_columns, plan_many_asked, WrittenPlanMany}
 use Rattle.many.specs.Workers.{Plannable, PlanManyFilled}
 use Rattle.many.proofs.Flats.{ends-columns}
@@ -37,19 +37,15 @@ module _ (os : List ℕ) (es vs : List ℤ) where
   abbrev needs : List ℕ
   needs = length es ∷ length es * count f ∷ []
 
-  -- the first three questions, which the code puts as one
-  pub flat-asked : {a : Question} → a ≡ first_no (flat_asked f) → Asks a (flat_asked f)
-  flat-asked e = record { told = e }
-
   -- what a "yes" to the questions of a many_way call tells
-  pub flat-yes : (qs : List Question) → first_no (flat_asked f ++ most ∷ qs) ≡ none
-      → (length es ≡ length vs) × (offsets_valid os (length es) ≡ none) × (sequences_valid os es ≡ none) × (length os - 1 ≤ most_columns) × AllYes qs
+  pub flat-yes : (qs : List Question) → first_no (flat_asked f ++ most ∷ qs) ≡ None
+      → (length es ≡ length vs) × (offsets_valid os (length es) ≡ None) × (sequences_valid os es ≡ None) × (length os - 1 ≤ most_columns) × AllYes qs
   unfolding paired
   flat-yes qs h =
       let y = all_yes (flat_asked f ++ most ∷ qs) h in
       (agree-told 3 (length es) (length vs) y.0, y.1.0, y.1.1.0, most-told most_columns (count f) y.1.1.1.0, y.1.1.1.1)
 
-  pub plan-many-yes : (e : List ℤ) (x : List ℕ) → plan_many_asked f (length e ∷ length x ∷ []) ≡ none → Plannable os es vs e x
+  pub plan-many-yes : (e : List ℤ) (x : List ℕ) → plan_many_asked f (length e ∷ length x ∷ []) ≡ None → Plannable os es vs e x
   unfolding plan_many_asked
   plan-many-yes e x h =
       let y = flat-yes (room needs (length e ∷ length x ∷ []) ∷ []) h in
@@ -65,21 +61,21 @@ module _ (os : List ℕ) (es vs : List ℤ) where
       }
 
   -- the segments, by the ends as they are handed in
-  pub plan-many-segments : (buffers : List ℕ) → plan_many_asked f buffers ≡ none → segments (map ends_in (columns f)) ≡ segments (ends_of_parts os es)
+  pub plan-many-segments : (buffers : List ℕ) → plan_many_asked f buffers ≡ None → segments (map ends_in (columns f)) ≡ segments (ends_of_parts os es)
   unfolding plan_many_asked
   plan-many-segments buffers h = let y = flat-yes (room needs buffers ∷ []) h in ap segments (ends-columns os es vs y.0 y.2)
 
 -- ---- what is promised
 
-pub plan-many-written : {q : Question} {ss ss' : List Segment} {r : Counts} {e e' : List ℤ} {x x' : List ℕ} → q ≡ none → ss ≡ ss'
+pub plan-many-written : {q : Question} {ss ss' : List Segment} {r : Planned} {e e' : List ℤ} {x x' : List ℕ} → q ≡ None → ss ≡ ss'
     → PlanManyFilled ss' e e' x x' r
-    → WrittenPlanMany (q otherwise ss) (PlannedMany.Counts r.segments r.indexes) e e' x x'
+    → WrittenPlanMany (q otherwise ss) (Ok r) e e' x x'
 plan-many-written h s p = rw (h, s) (record {
   answer = ap₂ (λ (n m : ℕ). answers (record { segments = n; indexes = m })) p.segments p.indexes;
   ends = p.ends_written;
   indexes = p.indexes_written;
 })
 
-pub plan-many-refused : {q : Question} (ss : List Segment) {r : Refusal} {e : List ℤ} {x : List ℕ} → q ≡ some (paper r)
-    → WrittenPlanMany (q otherwise ss) (PlannedMany.Refused r) e e x x
-plan-many-refused ss h = rw h (record { answer = refl; ends = refl; indexes = refl })
+pub plan-many-refused : {q : Question} (ss : List Segment) (r : Result Planned Refusal) (e : Refusal) {b : List ℤ} {x : List ℕ}
+    → IsErrAnd r (λ (y : Refusal). y ≡ e) → Some (paper e) ≡ q → WrittenPlanMany (q otherwise ss) r b b x x
+plan-many-refused ss r e h f = rw (sym f, passed_on r e h) (record { answer = refl; ends = refl; indexes = refl })

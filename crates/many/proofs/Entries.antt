@@ -2,7 +2,7 @@
 -- Assumes nothing.
 use Prim.Native.Nat.{ℕ, suc, ◌+◌, ◌≤◌, ◌<◌, ◌^◌, min}
 use mathlib.Core.Bool.{false, cond}
-use mathlib.Core.Option.{Option, none, some}
+use Rattle.std.specs.Prelude.{Option, Some, None}
 use mathlib.Core.List.{List, [], ◌∷◌}
 use mathlib.Core.Path.{◌≡◌, refl, ap, sym, ◌∙◌}
 use native.Mathlib.Nat.{add-zero}
@@ -10,50 +10,14 @@ use native.Mathlib.Numerals.{add-one}
 use native.Mathlib.Omega.{arith}
 use lib.Dec.{eqb, ltb}
 use lib.IntN.{ℤ, pos}
-use lib.ListN.{length, get_or, get_or-eq_default}
+use lib.ListN.{length, get_or}
 use borrow.Author.Tests.{ltb-true, ltb-false, lt-ltb, ne_eqb}
-use mir.Syntax.{w64}
-use mir.Val.{SFits}
 use Rattle.num.proofs.Tests.{by-test}
-use Rattle.num.proofs.Bits.{get_d_any}
-use Rattle.column.specs.Lists.{part}
-use Rattle.column.specs.Questions.{ends_valid}
 use Rattle.column.specs.Runs.{to_nat}
-use Rattle.column.proofs.Ends.{natural_end}
-use Rattle.column.proofs.Naturals.{to_nat-below}
-use Rattle.column.proofs.Parts.{length_part, part_at}
 use Rattle.plan.specs.Calls.{Place, stepped_on, least}
 use Rattle.plan.specs.Workers.{place_at, spent, EndAt}
 use Rattle.plan.proofs.Segments.{with_others}
-use Rattle.plan.proofs.Step.{ahead, ahead-some, ahead_none, place-stays, end-some, end_none}
-use Rattle.many.specs.Workers.{InColumn}
-
--- ---- an entry of a column
-
-module _ (xs : List ℤ) (a b i : ℕ) (q : InColumn xs a b i) where
-  inside : a + i < b → i < length (part a b xs)
-  inside h = rw (length_part a b xs q.inside) (omega arith)
-
-  past : b ≤ a + i → length (part a b xs) ≤ i
-  past h = rw (length_part a b xs q.inside) (omega arith)
-
-  pub value-some : (fill : ℤ) → a + i < b → get_or xs (a + i) (pos 0) ≡ get_or (part a b xs) i fill
-  value-some fill h = sym (part_at a b xs i (pos 0) h) ∙ get_d_any (part a b xs) i (pos 0) fill (inside h)
-
-  pub value_none : (fill : ℤ) → b ≤ a + i → fill ≡ get_or (part a b xs) i fill
-  value_none fill h = sym (get_or-eq_default (part a b xs) fill {n = i} (past h))
-
-  module _ (v : ends_valid (part a b xs) ≡ none) where
-    pub end_natural : a + i < b → get_or xs (a + i) (pos 0) ≡ pos (to_nat (get_or xs (a + i) (pos 0)))
-    end_natural h = rw (part_at a b xs i (pos 0) h) at (natural_end (part a b xs) i v (inside h))
-
-    pub end-inside : {r : ℕ} → a + i < b → r ≡ to_nat (get_or xs (a + i) (pos 0)) → SFits w64 (get_or xs (a + i) (pos 0)) → EndAt (ahead (part a b xs) i) r
-    end-inside h e f =
-        let n = ap to_nat (part_at a b xs i (pos 0) h) in
-        end-some _ (ahead-some (part a b xs) i (inside h)) (e ∙ sym n) (rw n (to_nat-below (get_or xs (a + i) (pos 0)) f))
-
-    pub end-past : b ≤ a + i → EndAt (ahead (part a b xs) i) spent
-    end-past h = end_none (ahead_none (part a b xs) i (past h))
+use Rattle.plan.proofs.Step.{ahead, ahead-some, ahead_none, place-stays}
 
 -- ---- a step of a column
 
@@ -90,7 +54,7 @@ module _ (m : ℕ) (es : List ℤ) (i : ℕ) where
 -- ---- the least of the ends, one column after another: an end as it is found, or none, and what the columns after have
 
 abbrev pub earlier : ℕ → Option ℕ → Option ℕ
-earlier l o = cond (ltb l (spent)) (some (least l o)) o
+earlier l o = cond (ltb l (spent)) (Some (least l o)) o
 
 pub earlier-next : (l : ℕ) {e : ℕ} (rest : List ℕ) (o : Option ℕ) → EndAt rest e → l < 2 ^ 64 → earlier l (with_others rest o) ≡ earlier (min l e) o
 earlier-next l {e} [] o q h = let n : min l e ≡ l = omega (arith, q.current) in rw n
@@ -102,9 +66,9 @@ earlier-next l {e} (d ∷ ds) o q h =
     (λ t. rw (t, lt-ltb (min l d) (spent) (omega (arith, ltb-true l (spent) t))) (both o))
     (λ t. let k : min l d ≡ d = omega (arith, ltb-false l (spent) t) in rw (t, k, lt-ltb d (spent) s)))
   where
-    both : (x : Option ℕ) → some (least l (some (least d x))) ≡ some (least (min l d) x)
-    both none = refl
-    both (some y) = let n : min l (min d y) ≡ min (min l d) y = omega arith in ap some n
+    both : (x : Option ℕ) → Some (least l (Some (least d x))) ≡ Some (least (min l d) x)
+    both None = refl
+    both (Some y) = let n : min l (min d y) ≡ min (min l d) y = omega arith in ap Some n
 
 pub earlier-small : (l : ℕ) {e : ℕ} (rest : List ℕ) → EndAt rest e → (l < spent → l < 2 ^ 63) → min l e < spent → min l e < 2 ^ 63
 earlier-small l {e} rest q f h =

@@ -1,7 +1,7 @@
 -- Worked examples of `plan_many`, computed from its definition. A and B are document 01's: ends 3, 5, 9 and 2, 5.
 -- Assumes nothing.
 use Prim.Native.Nat.{ℕ}
-use mathlib.Core.Option.{none, some}
+use Rattle.std.specs.Prelude.{Some, None}
 use mathlib.Core.List.{List, [], ◌∷◌, map}
 use mathlib.Core.Path.{refl}
 use lib.IntN.{ℤ, pos}
@@ -46,9 +46,9 @@ rows =
     ∷ row (as_plan (plan_many two (5 ∷ 10 ∷ [])))
     (answers ((pos 2 ∷ pos 3 ∷ pos 5 ∷ pos 9 ∷ []) ∷ (pos 0 ∷ pos 0 ∷ pos 0 ∷ pos 1 ∷ pos 1 ∷ pos 1 ∷ pos 2 ∷ pos 2 ∷ []) ∷ []))
     ∷ row (as_plan (plan_many three (2 ∷ 6 ∷ []))) (answers ((pos 4 ∷ []) ∷ (pos 0 ∷ pos 0 ∷ pos 0 ∷ []) ∷ []))
-    ∷ row (as_plan (plan_many two (5 ∷ 9 ∷ []))) (refused 12 (pos 1 ∷ pos 10 ∷ pos 9 ∷ []) none)
-    ∷ row (as_plan (plan_many falling (3 ∷ 6 ∷ []))) (refused 4 (pos 1 ∷ []) (some 1))
-    ∷ row (as_plan (plan_many (of_ends (replicate 130 0) []) (0 ∷ 0 ∷ []))) (refused 5 (pos 129 ∷ []) none)
+    ∷ row (as_plan (plan_many two (5 ∷ 9 ∷ []))) (refused 12 (pos 1 ∷ pos 10 ∷ pos 9 ∷ []) None)
+    ∷ row (as_plan (plan_many falling (3 ∷ 6 ∷ []))) (refused 4 (pos 1 ∷ []) (Some 1))
+    ∷ row (as_plan (plan_many (of_ends (replicate 130 0) []) (0 ∷ 0 ∷ []))) (refused 5 (pos 129 ∷ []) None)
     ∷ []
 
 pub examples : Hold rows

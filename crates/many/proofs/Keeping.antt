@@ -1,39 +1,26 @@
 -- What is kept of columns where they stand: the ends and the values of their runs, in buffers.
 -- Assumes nothing.
-use Prim.Native.Nat.{ℕ, zero, suc, ◌+◌, ◌≤◌, ◌<◌}
+use Prim.Native.Nat.{ℕ, zero, suc, ◌+◌, ◌<◌}
 use mathlib.Core.Bool.{cond}
-use mathlib.Core.List.{List, [], ◌∷◌}
+use mathlib.Core.List.{List, ◌∷◌}
 use mathlib.Core.Path.{◌≡◌, refl, ap, sym, ◌∙◌}
 use native.Mathlib.Nat.{add-zero}
 use native.Mathlib.Numerals.{add-one}
 use native.Mathlib.Omega.{arith}
-use lib.Dec.{eqb, ltb}
+use lib.Dec.{eqb}
 use lib.IntN.{ℤ, pos}
 use lib.ListN.{length, get_or, drop, set, length-set, drop_of_length-le}
-use lib.Seq.{drop-cons, get_or-set_same, get_or-set_other}
-use borrow.Author.Tests.{eqb-true, eqb-false, eq-eqb, ne_eqb, ltb-true, ltb-false}
+use lib.Seq.{drop-cons, get_or-set_same, get_or-set_other, set-get_or}
+use borrow.Author.Tests.{eqb-true, eqb-false, eq-eqb, ne_eqb}
 use Rattle.num.proofs.Tests.{by-test}
 use Rattle.column.specs.Lists.{parts}
-use Rattle.column.proofs.Parts.{parts_at, parts-start, parts-cons, length_part}
-use Rattle.plan.specs.Workers.{spent, current_end, EndAt}
-use Rattle.plan.proofs.Step.{ahead, ahead_none}
-use Rattle.many.specs.Workers.{InColumn, column_at, Paired, Kept, ColumnPlaced, ColumnStepped}
+use Rattle.column.proofs.Parts.{parts_at, parts-start, parts-cons}
+use Rattle.plan.specs.Workers.{EndAt}
+use Rattle.plan.proofs.Step.{ahead}
+use Rattle.many.specs.Workers.{column_at, ColumnRead, Kept, ColumnStepped}
 use Rattle.many.proofs.Places.{values_at}
 
-set-again : (l : List ℕ) (i : ℕ) → i < length l → set l i (get_or l i 0) ≡ l
-set-again [] i h = refl
-set-again (x ∷ l) zero h = refl
-set-again (x ∷ l) (suc i) h = ap {B = List ℕ} (λ r. x ∷ r) (set-again l i (omega arith))
-
 module _ {os : List ℕ} {es vs : List ℤ} {fill : ℤ} {is xs : List ℕ} {ys : List ℤ} where
-  pub kept-none : Paired es vs is xs ys → Kept os es vs fill is xs ys 0
-  kept-none p = record {
-    long_ends = p.room_ends;
-    long_values = p.room_values;
-    ends = λ c h. let z : ⊥ = omega arith in absurd z;
-    values = λ c h. let z : ⊥ = omega arith in absurd z;
-  }
-
   module _ {n : ℕ} (k : Kept os es vs fill is xs ys n) where
     -- column c stands at p now
     kept_put : (c p m : ℕ) {x : ℕ} {y : ℤ} → c < length is → ((d : ℕ) → d < m → (d ≡ c → ⊥) → d < n) → EndAt (ahead (column_at os es c) p) x
@@ -54,18 +41,10 @@ module _ {os : List ℕ} {es vs : List ℤ} {fill : ℤ} {is xs : List ℕ} {ys 
         }
 
     -- one column more is read
-    pub kept_more : {x : ℕ} {y : ℤ} → n < length is → EndAt (ahead (column_at os es n) (get_or is n 0)) x → y ≡ get_or (column_at os vs n) (get_or is n 0) fill
-        → Kept os es vs fill is (set xs n x) (set ys n y) (n + 1)
-    kept_more h ex ey =
-        rw (set-again is n h) at (kept_put n (get_or is n 0) (n + 1) h (λ d l o. omega (arith, o)) ex ey)
-
-    pub kept_fewer : (m : ℕ) → m ≤ n → Kept os es vs fill is xs ys m
-    kept_fewer m h = record {
-      long_ends = k.long_ends;
-      long_values = k.long_values;
-      ends = λ c l. k.ends c (omega arith);
-      values = λ c l. k.values c (omega arith);
-    }
+    pub kept_more : {xs' : List ℕ} {ys' : List ℤ} {end : ℕ} → n < length is → ColumnRead os es vs fill n (get_or is n 0) xs xs' ys ys' end
+        → Kept os es vs fill is xs' ys' (n + 1)
+    kept_more h d =
+        rw (d.ends, d.values) (rw (set-get_or is n 0) at (kept_put n (get_or is n 0) (n + 1) h (λ d l o. omega (arith, o)) d.found refl))
 
   -- all values that are kept are what the columns show
   module _ (k : Kept os es vs fill is xs ys (length is)) (offsets : length os ≡ length is + 1) where
@@ -78,41 +57,23 @@ module _ {os : List ℕ} {es vs : List ℤ} {fill : ℤ} {is xs : List ℕ} {ys 
     pub kept-shown : ys ≡ values_at is (parts os vs) fill
     kept-shown = kept_from (length is) 0 (omega arith) ∙ rw (parts-start os vs)
 
--- the same entries of the values
-pub in_values : {es vs : List ℤ} {a b i : ℕ} → length es ≡ length vs → InColumn es a b i → InColumn vs a b i
-in_values l q = record { inside = omega (arith, q.inside); place = q.place }
-
 -- ---- a column's step
 
 module _ {os : List ℕ} {es vs : List ℤ} {fill : ℤ} {is xs : List ℕ} {ys : List ℤ} {c start : ℕ}
     (k : Kept os es vs fill is xs ys (length is)) (h : c < length is) where
   pub column-stays : (get_or xs c 0 ≡ start → ⊥) → ColumnStepped os es vs fill c start is is xs xs ys (get_or xs c 0)
   column-stays n = record {
-    places = rw (ne_eqb (get_or xs c 0) start n, add-zero (get_or is c 0)) (sym (set-again is c h));
+    places = rw (ne_eqb (get_or xs c 0) start n, add-zero (get_or is c 0)) (sym (set-get_or is c 0));
     kept = k;
     found = refl;
   }
 
-  -- a run is left to step on to
-  pub column-within : ColumnPlaced os es is c → get_or xs c 0 ≡ start → start < spent → InColumn es (get_or os c 0) (get_or os (c + 1) 0) (get_or is c 0 + 1)
-  column-within q e l =
-      record {
-        inside = q.place.inside;
-        place =
-            by-test (ltb (get_or is c 0) (length (column_at os es c)))
-            (λ t. omega (arith, ltb-true (get_or is c 0) (length (column_at os es c)) t, length_part (get_or os c 0) (get_or os (c + 1) 0) es q.place.inside))
-            (λ t. let n = (k.ends c h).current
-            ∙ ap current_end (ahead_none (column_at os es c) (get_or is c 0) (ltb-false (get_or is c 0) (length (column_at os es c)) t)) in
-            let z : ⊥ = omega arith in absurd z);
-      }
-
-  pub column-goes : {x : ℕ} {y : ℤ} → get_or xs c 0 ≡ start → EndAt (ahead (column_at os es c) (get_or is c 0 + 1)) x
-      → y ≡ get_or (column_at os vs c) (get_or is c 0 + 1) fill
-      → ColumnStepped os es vs fill c start is (set is c (get_or is c 0 + 1)) xs (set xs c x) (set ys c y) x
-  column-goes {x} e ex ey = record {
+  pub column-goes : {xs' : List ℕ} {ys' : List ℤ} {end : ℕ} → get_or xs c 0 ≡ start → ColumnRead os es vs fill c (get_or is c 0 + 1) xs xs' ys ys' end
+      → ColumnStepped os es vs fill c start is (set is c (get_or is c 0 + 1)) xs xs' ys' end
+  column-goes {end = end} e d = record {
     places = rw (eq-eqb (get_or xs c 0) start e);
-    kept = rw (length-set is c (get_or is c 0 + 1)) (kept_put k c (get_or is c 0 + 1) (length is) h (λ d l o. l) ex ey);
-    found = sym (get_or-set_same xs c x 0 (omega (arith, k.long_ends)));
+    kept = rw (length-set is c (get_or is c 0 + 1), d.ends, d.values) (kept_put k c (get_or is c 0 + 1) (length is) h (λ d l o. l) d.found refl);
+    found = rw d.ends (sym (get_or-set_same xs c end 0 (omega (arith, k.long_ends))));
   }
 
 pub stepped-end : {os : List ℕ} {es vs : List ℤ} {fill : ℤ} {c start : ℕ} {is is' xs xs' : List ℕ} {ys' : List ℤ} {end : ℕ}

@@ -1,7 +1,7 @@
 -- The places of columns, one for each, and where they stand after a step.
 -- Assumes nothing.
 use Prim.Native.Nat.{ℕ, zero, suc, ◌+◌, ◌≤◌, ◌<◌}
-use mathlib.Core.Option.{none}
+use Rattle.std.specs.Prelude.{None}
 use mathlib.Core.List.{List, [], ◌∷◌}
 use mathlib.Core.Path.{◌≡◌, refl, ap, ap₂}
 use native.Mathlib.Numerals.{add-one}
@@ -72,7 +72,7 @@ module _ (os : List ℕ) (es : List ℤ) (is : List ℕ) (c : ℕ) where
     within-cons : Within (drop c is) (parts_at c os es) → (get_or is c 0 ≤ length (column_at os es c)) × Within (drop (c + 1) is) (parts_at (c + 1) os es)
     within-cons w = rw add-one (rw (drop-cons is c 0 h, parts-cons c os es k, add-one c) at w)
 
-    valid-cons : AllValid (parts_at c os es) → (ends_valid (column_at os es c) ≡ none) × AllValid (parts_at (c + 1) os es)
+    valid-cons : AllValid (parts_at c os es) → (ends_valid (column_at os es c) ≡ None) × AllValid (parts_at (c + 1) os es)
     valid-cons v = rw (parts-cons c os es k) at v
 
 -- ---- a column where all stand at their places
@@ -93,9 +93,7 @@ module _ {os : List ℕ} {es : List ℤ} {is : List ℕ} (q : Placed os es is) w
       let o = offset-within os (length es) c q.offsets k in
       record {
         offset = k;
-        place = record {
-          inside = o.1;
-          place = omega (arith, o.0, length_part (get_or os c 0) (get_or os (c + 1) 0) es o.1, (within-cons os es is c h k r.0).0);
-        };
+        inside = o.1;
+        place = omega (arith, o.0, length_part (get_or os c 0) (get_or os (c + 1) 0) es o.1, (within-cons os es is c h k r.0).0);
         valid = (valid-cons os es is c h k r.1).0;
       }

@@ -1,12 +1,11 @@
 -- What the positions show, by the segments that `plan_many` gives; `zip_many` is defined by what it shows.
 -- Assumes nothing.
 use Prim.Native.Nat.{ℕ}
-use mathlib.Core.Option.{none}
+use Rattle.std.specs.Prelude.{None, Option}
 use mathlib.Core.List.{List, map, map-map}
 use mathlib.Core.Path.{◌≡◌, sym}
 use lib.IntN.{ℤ}
 use lib.ListN.{length}
-use Rattle.column.specs.declared.answer.Fill.{Fill}
 use Rattle.column.specs.Combine.{Column, many, table}
 use Rattle.column.specs.Flat.{flat, columns}
 use Rattle.column.specs.Questions.{sequences_valid}
@@ -15,7 +14,7 @@ use Rattle.plan.specs.Calls.{ends_in, segments, segment_run, segment_runs}
 use Rattle.plan.proofs.Raw.{raw_dense}
 use Rattle.many.proofs.Flats.{many-valid}
 
-module _ (op : ℤ → ℤ → ℤ) (fill : Fill) (os : List ℕ) (es vs : List ℤ) (l : length es ≡ length vs) (v : sequences_valid os es ≡ none) where
+module _ (op : ℤ → ℤ → ℤ) (fill : Option ℤ) (os : List ℕ) (es vs : List ℤ) (l : length es ≡ length vs) (v : sequences_valid os es ≡ None) where
   abbrev cs : List Column
   cs = many fill (columns (flat os es vs))
 

@@ -8,7 +8,7 @@ use native.Mathlib.Numerals.{add-one}
 use native.Mathlib.Omega.{arith}
 use lib.Dec.{eqb}
 use lib.IntN.{ℤ}
-use lib.ListN.{length, get_or, drop, set, length-append, length-drop, drop_of_length-le}
+use lib.ListN.{length, get_or, drop, set, length-append, drop_of_length-le}
 use lib.Seq.{drop-cons, set_at, get_or_at, append_snoc}
 use Rattle.column.specs.Lists.{parts}
 use Rattle.column.specs.Runs.{to_nat}
@@ -28,7 +28,6 @@ module _ (os : List ℕ) (es : List ℤ) (m : ℕ) (is : List ℕ) where
   pub record Stepping (is' : List ℕ) (l c : ℕ) : Type 0 where
     pub done : List ℕ
     pub passed : length done ≡ c
-    pub inside : c ≤ length is
     pub places : is' ≡ done ++ drop c is
     pub steps : indexes (stepped m (places_of os es is)) ≡ done ++ indexes (rest c)
     pub least : least_end (rests (stepped m (places_of os es is))) ≡ earlier l (least_end (rests (rest c)))
@@ -41,7 +40,6 @@ module _ (os : List ℕ) (es : List ℤ) (m : ℕ) (is : List ℕ) where
       record {
         done = [];
         passed = refl;
-        inside = omega arith;
         places = refl;
         steps = rw p;
         least = rw p;
@@ -50,9 +48,6 @@ module _ (os : List ℕ) (es : List ℤ) (m : ℕ) (is : List ℕ) where
       }
 
 module _ {os : List ℕ} {es : List ℤ} {m : ℕ} {is is' : List ℕ} {l c : ℕ} (s : Stepping os es m is is' l c) where
-  pub step-long : length is' ≡ length is
-  step-long = ap length s.places ∙ simp (length-append, length-drop) (omega (arith, s.passed, s.inside))
-
   pub step_end : length is ≤ c → Stepped os es m is is' l
   step_end h =
       let none_left : drop c is ≡ [] = drop_of_length-le is {i = c} h in
@@ -65,10 +60,7 @@ module _ {os : List ℕ} {es : List ℤ} {m : ℕ} {is is' : List ℕ} {l c : �
       }
 
   -- the next column, at its place i
-  module _ (q : Placed os es is) (more : c < length is') where
-    h : c < length is
-    h = omega (arith, step-long)
-
+  module _ (q : Placed os es is) (h : c < length is) where
     abbrev column : List ℤ
     column = column_at os es c
 
@@ -79,7 +71,7 @@ module _ {os : List ℕ} {es : List ℤ} {m : ℕ} {is is' : List ℕ} {l c : �
     unmoved = rw (s.places, drop-cons is c 0 h) (get_or_at s.done (get_or is c 0) (drop (suc c) is) 0 c s.passed)
 
     pub step-placed : ColumnPlaced os es is' c
-    step-placed = let p = placed-column q c h in record { offset = p.offset; place = rw unmoved p.place; valid = p.valid }
+    step-placed = let p = placed-column q c h in record { offset = p.offset; inside = p.inside; place = rw unmoved p.place; valid = p.valid }
 
     module _ {e n : ℕ} (a : EndAt (ahead column i) e) (small : m < spent) (en : n ≡ i + cond (eqb e m) 1 0) where
       moved : place_at column n ≡ stepped_on m i (ahead column i)
@@ -97,7 +89,6 @@ module _ {os : List ℕ} {es : List ℤ} {m : ℕ} {is is' : List ℕ} {l c : �
           record {
             done = s.done ++ n ∷ [];
             passed = simp length-append (omega (arith, s.passed));
-            inside = omega (arith, h);
             places = rw (s.places, drop-cons is c 0 h, set_at s.done (get_or is c 0) (drop (suc c) is) n c s.passed, add-one c)
                 (sym (append_snoc s.done n (drop (suc c) is)));
             steps = s.steps ∙ rw step-cons (sym (append_snoc s.done n (indexes others)));

@@ -1,7 +1,7 @@
 -- The walk over the segments of many columns, from their first runs on: `done` are the segments so far, and `end` is where the next one ends.
 -- Assumes nothing.
 use Prim.Native.Nat.{ℕ, zero, suc, ◌+◌, ◌-◌, ◌≤◌, ◌<◌, ◌^◌}
-use mathlib.Core.Option.{none, some}
+use Rattle.std.specs.Prelude.{Some, None}
 use mathlib.Core.List.{List, [], ◌∷◌, ◌++◌, map}
 use mathlib.Core.Path.{◌≡◌, refl, ap, ap₂, sym, ◌∙◌}
 use native.Mathlib.Omega.{arith}
@@ -48,7 +48,7 @@ first-stays : (ess : List (List ℤ)) → AllValid ess → stepped 0 (first_plac
 first-stays [] v = refl
 first-stays (es ∷ ess) v = ap₂ (λ (p : Place) (ps : List Place). p ∷ ps) (stays es v.0) (first-stays ess v.1)
   where
-    stays : (l : List ℤ) → ends_valid l ≡ none → stepped_on 0 0 (map to_nat l) ≡ record { index = 0; rest = map to_nat l }
+    stays : (l : List ℤ) → ends_valid l ≡ None → stepped_on 0 0 (map to_nat l) ≡ record { index = 0; rest = map to_nat l }
     stays [] h = refl
     stays (e ∷ l) h = rw (ne_eqb (to_nat e) 0 (λ z. let y : ⊥ = omega (arith, (rising (e ∷ l) h).1) in y))
 
@@ -57,7 +57,7 @@ total-lengths [] = refl
 total-lengths (es ∷ ess) = ap₂ ◌+◌ (length-map es to_nat) (total-lengths ess)
 
 -- they have all runs left
-pub first-total : (os : List ℕ) (es : List ℤ) → offsets_valid os (length es) ≡ none → left (first_places (ends_of_parts os es)) ≡ length es
+pub first-total : (os : List ℕ) (es : List ℤ) → offsets_valid os (length es) ≡ None → left (first_places (ends_of_parts os es)) ≡ length es
 first-total os es o = left-first (ends_of_parts os es) ∙ total-lengths (parts os es) ∙ total-parts os es o
 
 -- ---- the walk
@@ -97,7 +97,7 @@ module _ (os : List ℕ) (es : List ℤ) where
         }
 
 module _ {os : List ℕ} {es : List ℤ} {done : List Segment} {is : List ℕ} {end : ℕ} (w : Walk os es done is end) where
-  pub walk_none : spent ≤ end → least_end (rests (places_of os es is)) ≡ none
+  pub walk_none : spent ≤ end → least_end (rests (places_of os es is)) ≡ None
   walk_none h = w.found ∙ rw (le-ltb end spent h)
 
   pub walk_end : spent ≤ end → segments (ends_of_parts os es) ≡ done
@@ -107,7 +107,7 @@ module _ {os : List ℕ} {es : List ℤ} {done : List Segment} {is : List ℕ} {
   walk-indexes = indexes-places is (parts os es) (placed-paired w.placed)
 
   module _ (h : end < spent) where
-    ends : least_end (rests (places_of os es is)) ≡ some end
+    ends : least_end (rests (places_of os es is)) ≡ Some end
     ends = w.found ∙ rw (lt-ltb end spent h)
 
     -- there are no more segments than runs

@@ -1,12 +1,13 @@
 -- many.rs: the segments of many columns.
-use Rattle.std.specs.Prelude.{ℕ, ◌*◌, List, [], ◌∷◌, ◌++◌, map, ◌≡◌, ℤ, length}
+use Rattle.std.specs.Prelude.{ℕ, ◌*◌, List, [], ◌∷◌, ◌++◌, map, ◌≡◌, ℤ, length, Result}
 use Rattle.column.specs.Asking.{Question, first_no, ◌otherwise◌}
 use Rattle.column.specs.Flat.{Flat, count, columns, paired_flat, offsets_flat, ends_flat}
-use Rattle.column.specs.Paper.{Outcome, answers, refuses, paper, counts, written}
+use Rattle.column.specs.Paper.{Outcome, counts, written, outcome_of}
 use Rattle.column.specs.Questions.{at_most, room}
 use Rattle.plan.specs.Calls.{Segment, segments, segment_ends, ends_in}
-use Rattle.many.specs.declared.PlannedMany.{PlannedMany}
 use Rattle.column.specs.Lent.{Lent, given, after}
+use Rattle.column.specs.declared.error.Refusal.{Refusal}
+use Rattle.many.specs.declared.Planned.{Planned}
 
 -- "Has a many_way call at most 128 sequences?"
 abbrev pub most_columns : ℕ
@@ -27,24 +28,16 @@ all_indexes [] = []
 all_indexes (s ∷ ss) = s.indexes ++ all_indexes ss
 
 -- how many segments, and how many indexes
-pub record Planned : Type 0 where
-  pub segments : ℕ
-  pub indexes : ℕ
-
 abbrev pub planned : List Segment → Planned
 planned ss = record { segments = length ss; indexes = length (all_indexes ss) }
 
-abbrev pub shown_planned : PlannedMany → Outcome Planned
-shown_planned (PlannedMany.Counts segments indexes) = answers (record { segments = segments; indexes = indexes })
-shown_planned (PlannedMany.Refused r) = refuses (paper r)
-
 -- the promise: ends and indexes, each buffer before and after
-pub record WrittenPlanMany (o : Outcome (List Segment)) (r : PlannedMany) (e e' : List ℤ) (x x' : List ℕ) : Type 0 where
-  pub answer : shown_planned r ≡ counts planned o
+pub record WrittenPlanMany (o : Outcome (List Segment)) (r : Result Planned Refusal) (e e' : List ℤ) (x x' : List ℕ) : Type 0 where
+  pub answer : outcome_of r ≡ counts planned o
   pub ends : e' ≡ written segment_ends o e
   pub indexes : x' ≡ written all_indexes o x
 
 -- of the buffers that a call is lent: question 12 is about their lengths
-abbrev pub WritesPlanMany : (List ℕ → Outcome (List Segment)) → Lent ℤ → Lent ℕ → PlannedMany → Type 0
+abbrev pub WritesPlanMany : (List ℕ → Outcome (List Segment)) → Lent ℤ → Lent ℕ → Result Planned Refusal → Type 0
 WritesPlanMany call e x r =
     WrittenPlanMany (call (length (given e) ∷ length (given x) ∷ [])) r (given e) (after e) (given x) (after x)

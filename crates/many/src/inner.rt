@@ -1,22 +1,14 @@
 // Workers that assume what the call has asked, and the walk over the segments of many columns. The ends are valid.
 ghost use Rattle.std.specs.Prelude.{◌+◌, ◌*◌, ◌-◌, ◌≤◌, ◌<◌, ◌++◌, map, ◌≡◌, length, get_or, take, drop};
-ghost use Rattle.std.proofs.Math.Option.{none};
 ghost use Rattle.column.specs.Lists.{part, parts};
-ghost use Rattle.column.specs.Questions.{ends_valid};
 ghost use Rattle.column.specs.Runs.{to_nat, length_of_ends, over};
 ghost use Rattle.plan.specs.Calls.{segments};
-ghost use Rattle.plan.specs.Workers.{spent, EndAt};
-ghost use Rattle.many.specs.Workers.{InColumn, Placed, Paired, Kept, ColumnPlaced, ColumnStepped, Stepped, Walkable, Plannable, PlanManyFilled};
+ghost use Rattle.plan.specs.Workers.{spent};
+ghost use Rattle.many.specs.Workers.{Placed, Paired, Readable, ColumnRead, Kept, ColumnPlaced, ColumnStepped, Stepped, Walkable, Plannable, PlanManyFilled};
 
+use crate::Planned;
 use column::sequence;
-use plan::inner::SPENT;
-
-// How many segments were written, and how many indexes.
-#[derive(Clone, Copy)]
-pub struct Counts {
-    pub segments: usize,
-    pub indexes: usize,
-}
+use plan::inner::{SPENT, end_at};
 
 // The length of column c.
 pub fn length_at(offsets: &[usize], ends: &[i64], c: usize) -> i64
@@ -28,27 +20,27 @@ pub fn length_at(offsets: &[usize], ends: &[i64], c: usize) -> i64
     sequence::length(sequence::part(ends, from, to))
 }
 
-// The end of the run where a column stands, or `SPENT` where the column is spent. The column's runs are those from `from` up to `to`.
-fn end_at(ends: &[i64], from: usize, to: usize, place: usize) -> usize
-    requires { InColumn ends.now from to place × (ends_valid (part from to ends.now) ≡ none) }
-    ensures { EndAt (map to_nat (drop place (part from to ends.now))) result }
+// The end of column c's run at a place, and its value, read into `current` and `shown`: `SPENT` and the fill where the column is spent
+// there. The end.
+fn read_column(
+    offsets: &[usize],
+    ends: &[i64],
+    values: &[i64],
+    fill: i64,
+    c: usize,
+    place: usize,
+    current: &mut [usize],
+    shown: &mut [i64],
+) -> usize
+    requires { Readable offsets.now ends.now values.now c current.old shown.old }
+    ensures { ColumnRead offsets.now ends.now values.now fill c place current.old current.new shown.old shown.new result }
 {
-    let at = from + place;
-    if at < to {
-        let end = ends[at];
-        end as usize
-    } else {
-        SPENT
-    }
-}
-
-// The value of the run where a column stands, or the fill where it is spent.
-fn value_at(values: &[i64], from: usize, to: usize, place: usize, fill: i64) -> i64
-    requires { InColumn values.now from to place }
-    ensures { result ≡ get_or (part from to values.now) place fill }
-{
-    let at = from + place;
-    if at < to { values[at] } else { fill }
+    let from = offsets[c];
+    let to = offsets[c + 1];
+    let end = end_at(&ends[from..to], place);
+    current[c] = end;
+    shown[c] = sequence::entry_or(&values[from..to], place, fill);
+    end
 }
 
 // The end and the value of each column's run where it stands, read into `current` and `shown`.
@@ -64,16 +56,8 @@ pub fn read_current(
     requires { Placed offsets.now ends.now places.now × Paired ends.now values.now places.now current.old shown.old }
     ensures { Kept offsets.now ends.now values.now fill places.now current.new shown.new (length places.now) }
 {
-    let mut c: usize = 0;
-    while c < places.len() {
-        let from = offsets[c];
-        let to = offsets[c + 1];
-        let place = places[c];
-        let end = end_at(ends, from, to, place);
-        let value = value_at(values, from, to, place, fill);
-        current[c] = end;
-        shown[c] = value;
-        c += 1;
+    for c in 0..places.len() {
+        read_column(offsets, ends, values, fill, c, places[c], current, shown);
     }
 }
 
@@ -91,7 +75,7 @@ fn step_column(
 ) -> usize
     requires { ColumnPlaced offsets.now ends.now places.old c × (c < length places.old)
         × (length ends.now ≡ length values.now)
-        × Kept offsets.now ends.now values.now fill places.old current.old shown.old (length places.old) × (start < spent) }
+        × Kept offsets.now ends.now values.now fill places.old current.old shown.old (length places.old) }
     ensures { ColumnStepped offsets.now
         ends.now values.now fill c start places.old places.new current.old current.new shown.new result }
 {
@@ -99,15 +83,9 @@ fn step_column(
     if end != start {
         return end;
     }
-    let from = offsets[c];
-    let to = offsets[c + 1];
     let place = places[c] + 1;
-    let next = end_at(ends, from, to, place);
-    let value = value_at(values, from, to, place, fill);
     places[c] = place;
-    current[c] = next;
-    shown[c] = value;
-    next
+    read_column(offsets, ends, values, fill, c, place, current, shown)
 }
 
 // Each column whose current run ends at `start` goes on to its next one. The least of the ends of the runs that are current then, or
@@ -128,13 +106,11 @@ pub fn step(
         result × Kept offsets.now ends.now values.now fill places.new current.new shown.new (length places.new) }
 {
     let mut least = SPENT;
-    let mut c: usize = 0;
-    while c < places.len() {
+    for c in 0..places.len() {
         let end = step_column(
             offsets, ends, values, fill, c, start, places, current, shown,
         );
         least = num::smaller_count(least, end);
-        c += 1;
     }
     least
 }
@@ -144,13 +120,11 @@ fn put_places(places: &[usize], out: &mut [usize], at: usize) -> usize
     requires { at + length places.now ≤ length out.old }
     ensures { (result ≡ at + length places.now) × (out.new ≡ take at out.old ++ over places.now (drop at out.old)) }
 {
-    let mut c: usize = 0;
-    while c < places.len() {
+    for c in 0..places.len() {
         let place = places[c];
         out[at + c] = place;
-        c += 1;
     }
-    at + c
+    at + places.len()
 }
 
 // The segments, with the columns' places in a lent buffer.
@@ -163,7 +137,7 @@ fn plan_walk(
     shown: &mut [i64],
     out_ends: &mut [i64],
     out_idx: &mut [usize],
-) -> Counts
+) -> Planned
     requires { Walkable offsets.now ends.now places.old × Paired ends.now values.now places.old current.old shown.old
         × (length ends.now ≤ length out_ends.old) × (length ends.now * (length offsets.now - 1) ≤ length out_idx.old) }
     ensures { PlanManyFilled (segments (map (map to_nat) (parts offsets.now ends.now)))
@@ -179,7 +153,7 @@ fn plan_walk(
         m = put_places(places, out_idx, m);
         end = step(offsets, ends, values, 0, end, places, current, shown);
     }
-    Counts {
+    Planned {
         segments: n,
         indexes: m,
     }
@@ -191,7 +165,7 @@ pub fn plan_many(
     values: &[i64],
     out_ends: &mut [i64],
     out_idx: &mut [usize],
-) -> Counts
+) -> Planned
     requires { Plannable offsets.now ends.now values.now out_ends.old out_idx.old }
     ensures { PlanManyFilled (segments (map (map to_nat) (parts offsets.now ends.now)))
         out_ends.old out_ends.new out_idx.old out_idx.new result }

@@ -1,12 +1,12 @@
 -- The loops of both zips: the walk of two columns, with a run written for each segment, merged or not.
 -- Assumes nothing.
+use Rattle.std.specs.Prelude.{Some}
 use Prim.Native.Nat.{ℕ, ◌+◌, ◌≤◌, ◌<◌, ◌^◌}
 use mathlib.Core.List.{List, [], ◌∷◌, map-map}
 use mathlib.Core.Path.{◌≡◌, ap, sym, ◌∙◌}
 use native.Mathlib.Omega.{arith}
 use lib.IntN.{ℤ, pos}
 use lib.ListN.{length, get_or, set, length-map}
-use Rattle.column.specs.declared.answer.Fill.TheVariants.{Value}
 use Rattle.column.specs.declared.inner.Writer.{Writer}
 use Rattle.column.specs.Combine.{Column, two, combined}
 use Rattle.column.specs.Runs.{Run, sequence, runs_of, ends_of, values_of, over, Filled}
@@ -25,7 +25,7 @@ use Rattle.ops.specs.Workers.{Zippable}
 
 module _ (op : ℤ → ℤ → ℤ) (fa fb : ℤ) (ae av be bv e₀ v₀ : List ℤ) where
   abbrev pub cs : List Column
-  cs = two (Value fa) (Value fb) (runs_of ae av) (runs_of be bv)
+  cs = two (Some fa) (Some fb) (runs_of ae av) (runs_of be bv)
 
   -- what a run of each shows, as the code reads it
   abbrev pub value : ℕ → ℕ → ℤ
@@ -66,26 +66,28 @@ module _ (op : ℤ → ℤ → ℤ) (fa fb : ℤ) (ae av be bv e₀ v₀ : List 
 
   module _ (q : Zippable (sequence ae av) (sequence be bv) e₀ v₀) where
     started : starts op cs ≡ firsts ae be
-    started = both-start op (Value fa) (Value fb) ae av be bv q.paired_a q.paired_b
+    started = both-start op (Some fa) (Some fb) ae av be bv q.paired_a q.paired_b
 
     shown : (i j : ℕ) → shown_at op cs (i ∷ j ∷ []) ≡ value i j
-    shown = both-shown op (Value fa) (Value fb) ae av be bv q.paired_a q.paired_b
+    shown = both-shown op (Some fa) (Some fb) ae av be bv q.paired_a q.paired_b
 
     total : left (starts op cs) ≡ length ae + length be
     total = ap left started ∙ left-firsts ae be
 
     pub zipped-none : length ae + length be ≡ 0 → Filled (combined op cs) e₀ e₀ v₀ v₀ 0
-    zipped-none h = zip-none op cs (both-valid op (Value fa) (Value fb) ae av be bv q.valid_a q.valid_b) (total ∙ h) e₀ v₀
+    zipped-none h = zip-none op cs (both-valid op (Some fa) (Some fb) ae av be bv q.valid_a q.valid_b) (total ∙ h) e₀ v₀
 
-    pub zipped-start : {first : ℤ} {c : Segments} → first ≡ value 0 0 → Starts ae be c → Zipped e₀ v₀ (record { at = 0; last = first }) c
+    pub zipped-start : {first : ℤ} {c : Segments} → Starts ae be c → first ≡ value c.a.index c.b.index → Zipped e₀ v₀ (record { at = 0; last = first }) c
     unfolding merged_runs push_all
-    zipped-start h s = rw (h, ← shown 0 0) (record { done = []; walk = walk_start ae be s; merging = merge_start _ e₀ v₀ })
+    zipped-start {first} s h =
+        let same : first ≡ shown_at op cs (0 ∷ 0 ∷ []) = h ∙ rw (s.first_a, s.first_b) (sym (shown 0 0)) in
+        rw same (record { done = []; walk = walk_start ae be s; merging = merge_start _ e₀ v₀ })
 
     module _ {e v : List ℤ} {w : Writer} {c : Segments} (z : Zipped e v w c) where
       pub zipped-end : length ae + length be ≤ c.a.index + c.b.index → 0 < length ae + length be → Filled (combined op cs) e₀ e v₀ v (w.at + 1)
       zipped-end h k =
           let l : Listing (starts op cs) z.done (places_at ae be c) = rw started z.walk.listing in
-          zip_end op cs (both-valid op (Value fa) (Value fb) ae av be bv q.valid_a q.valid_b) l z.merging
+          zip_end op cs (both-valid op (Some fa) (Some fb) ae av be bv q.valid_a q.valid_b) l z.merging
           (none_left (places_at ae be c) (walk_none ae be z.walk h))
           (omega (arith, total))
 

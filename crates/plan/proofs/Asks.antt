@@ -1,7 +1,7 @@
 -- What a "yes" to all the questions of `plan` tells.
 -- Assumes nothing.
 use Prim.Native.Nat.{ℕ, ◌+◌, ◌≤◌}
-use mathlib.Core.Option.{none}
+use Rattle.std.specs.Prelude.{None}
 use mathlib.Core.List.{List, [], ◌∷◌}
 use mathlib.Core.Path.{◌≡◌, sym, ◌∙◌}
 use lib.IntN.{ℤ}
@@ -12,8 +12,8 @@ use Rattle.column.proofs.Told.{room-told}
 use Rattle.column.proofs.YesNo.{room-each}
 use Rattle.plan.specs.Calls.{plan_asked}
 
-pub plan-yes : (a b : List ℤ) (e x y : ℕ) → plan_asked a b (e ∷ x ∷ y ∷ []) ≡ none
-    → (ends_valid a ≡ none) × (ends_valid b ≡ none) × (length a + length b ≤ e) × (length a + length b ≤ x) × (length a + length b ≤ y)
+pub plan-yes : (a b : List ℤ) (e x y : ℕ) → plan_asked a b (e ∷ x ∷ y ∷ []) ≡ None
+    → (ends_valid a ≡ None) × (ends_valid b ≡ None) × (length a + length b ≤ e) × (length a + length b ≤ x) × (length a + length b ≤ y)
 unfolding plan_asked
 plan-yes a b e x y h =
     let n = length a + length b in

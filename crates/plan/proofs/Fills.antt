@@ -2,7 +2,7 @@
 -- Assumes nothing.
 use Prim.Native.Nat.{ℕ, zero, suc, ◌+◌, ◌<◌}
 use mathlib.Core.Bool.{false, ◌&&◌}
-use mathlib.Core.Option.{none}
+use Rattle.std.specs.Prelude.{None, Option, Some, unwrap_or}
 use mathlib.Core.List.{List, [], ◌∷◌, map}
 use mathlib.Core.Path.{◌≡◌, refl, ap}
 use native.Mathlib.Omega.{arith}
@@ -11,8 +11,6 @@ use lib.ListN.{length, get_or}
 use lib.Dec.{ltb}
 use borrow.Author.Tests.{ltb-true, ltb-false, lt-ltb}
 use Rattle.num.proofs.Tests.{by-test, both_false}
-use Rattle.column.specs.declared.answer.Fill.{Fill}
-use Rattle.column.specs.declared.answer.Fill.TheVariants.{Value, Missing}
 use Rattle.column.specs.Combine.{Column, value_of, value_at, greatest_length, side_of, all_filled, folded, row_at, table, combined}
 use Rattle.column.specs.Questions.{is_missing, longest, lacking, filled}
 use Rattle.column.specs.Runs.{length_of, dense, encode}
@@ -21,6 +19,11 @@ use Rattle.column.proofs.Dense.{length-dense}
 use Rattle.column.proofs.Naturals.{larger_naturals}
 use Rattle.column.proofs.Positions.{each_position_cong}
 use Rattle.column.proofs.Rising.{Valid}
+
+-- the value of a fill, as the code reads it
+pub unwrapped : (f : Option ℤ) → unwrap_or f (pos 0) ≡ value_of f
+unwrapped None = refl
+unwrapped (Some v) = refl
 
 pub longest-sides : (cs : List Column) → longest (map side_of cs) ≡ pos (greatest_length cs)
 unfolding greatest_length
@@ -35,13 +38,13 @@ Refilled (c ∷ cs) [] = ⊥
 Refilled (c ∷ cs) (d ∷ ds) = (d.runs ≡ c.runs) × (is_missing c.fill ≡ false → d.fill ≡ c.fill) × Refilled cs ds
 
 -- in particular any value
-abbrev pub or_else : ℤ → Fill → Fill
-or_else x Missing = Value x
-or_else x (Value v) = Value v
+abbrev pub or_else : ℤ → Option ℤ → Option ℤ
+or_else x None = Some x
+or_else x (Some v) = Some v
 
-pub or_else-given : (x : ℤ) (f : Fill) → is_missing f ≡ false → or_else x f ≡ f
-or_else-given x Missing m = absurd (let z : ◌≡◌ {A = ℕ} 0 1 = cc in omega arith)
-or_else-given x (Value v) m = refl
+pub or_else-given : (x : ℤ) (f : Option ℤ) → is_missing f ≡ false → or_else x f ≡ f
+or_else-given x None m = absurd (let z : ◌≡◌ {A = ℕ} 0 1 = cc in omega arith)
+or_else-given x (Some v) m = refl
 
 abbrev ValidColumn : Column → Type 0
 ValidColumn c = Valid c.runs
@@ -74,13 +77,13 @@ same-values n (c ∷ cs) (d ∷ ds) v l r i h =
     (λ t. let k = ltb-false i m t in rw (r.0, r.1 (rw (lt-ltb m n (omega arith)) at here))) in
     rw (value, same-values n cs ds v.1 rest r.2 i h)
 
-filled-told : (left right : ℕ) (cs : List Column) → all_filled left right cs ≡ none → lacking (pos (greatest_length cs)) (map side_of cs) ≡ false
+filled-told : (left right : ℕ) (cs : List Column) → all_filled left right cs ≡ None → lacking (pos (greatest_length cs)) (map side_of cs) ≡ false
 unfolding all_filled filled
 filled-told left right cs e = by-test (lacking (pos (greatest_length cs)) (map side_of cs))
     (λ t. absurd (let z : ◌≡◌ {A = ℕ} 0 1 = cc (rw (longest-sides cs, t) at e) in omega arith)) (λ t. t)
 
 -- where question 10 is answered "yes", columns combined come to the same whichever fills stand in place of those that are missing
-pub missing_shows_nowhere : (op : ℤ → ℤ → ℤ) (left right : ℕ) (cs ds : List Column) → All ValidColumn cs → all_filled left right cs ≡ none → Refilled cs ds
+pub missing_shows_nowhere : (op : ℤ → ℤ → ℤ) (left right : ℕ) (cs ds : List Column) → All ValidColumn cs → all_filled left right cs ≡ None → Refilled cs ds
     → combined op ds ≡ combined op cs
 unfolding combined table row_at
 missing_shows_nowhere op left right cs ds v e r =

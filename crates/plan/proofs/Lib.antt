@@ -1,6 +1,7 @@
 pub mod Asks
 pub mod Columns
 pub mod Fills
+pub mod InTurn
 pub mod Listing
 pub mod Planning
 pub mod Raw

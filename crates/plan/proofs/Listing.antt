@@ -1,7 +1,7 @@
 -- A walk over the segments of columns that started at the places `start`: `done` are the segments so far, and the columns stand at `ps` after them.
 -- Assumes nothing.
 use Prim.Native.Nat.{ℕ, zero, suc, ◌+◌, ◌≤◌, ◌<◌}
-use mathlib.Core.Option.{none}
+use Rattle.std.specs.Prelude.{None}
 use mathlib.Core.List.{List, [], ◌∷◌, ◌++◌, append-nil, map}
 use mathlib.Core.Path.{◌≡◌, refl, sym, ap, ◌∙◌}
 use native.Mathlib.Omega.{arith}
@@ -48,7 +48,7 @@ module _ {start : List Place} {done : List Segment} {ps : List Place} (l : Listi
             begun = λ z. absurd (let y : ⊥ = omega (arith, simp length-append at z) in y);
           }
 
-  pub list_end : least_end (rests ps) ≡ none → segments_from (left start) start ≡ done
+  pub list_end : least_end (rests ps) ≡ None → segments_from (left start) start ≡ done
   list_end h = l.all ∙ ap (λ (r : List Segment). done ++ r) (segments-end l.bound ps h) ∙ append-nil done
 
 -- ---- a walk that started at the first runs lists all segments

@@ -1,17 +1,17 @@
 -- A walk that writes its segments: their ends, and the indexes of both columns.
 -- Assumes nothing.
 use Prim.Native.Nat.{ℕ, ◌+◌, ◌≤◌, ◌<◌}
-use mathlib.Core.Option.{none, some}
+use Rattle.std.specs.Prelude.{Some, None, Result, Ok, IsErrAnd}
 use mathlib.Core.List.{List, []}
-use mathlib.Core.Path.{◌≡◌, refl, ap, ◌∙◌}
+use mathlib.Core.Path.{◌≡◌, refl, ap, sym, ◌∙◌}
 use native.Mathlib.Omega.{arith}
 use lib.IntN.{ℤ, pos}
 use lib.ListN.{length, get_or, set}
-use Rattle.column.specs.declared.answer.Counted.{Counted}
 use Rattle.column.specs.declared.error.Refusal.{Refusal}
 use Rattle.column.specs.Asking.{Question, ◌otherwise◌}
 use Rattle.column.specs.Paper.{answers, paper}
 use Rattle.column.proofs.Buffer.{Written, write_start, write_next}
+use Rattle.column.proofs.Promised.{passed_on}
 use Rattle.plan.specs.Calls.{Segment, segments_of, WrittenPlan}
 use Rattle.plan.specs.declared.inner.Segments.{Segments}
 use Rattle.plan.specs.Workers.{places_at, Starts, Walks, PlanFilled}
@@ -59,10 +59,10 @@ module _ {a b e₀ : List ℤ} {x₀ y₀ : List ℕ} {e : List ℤ} {x y : List
 
 -- ---- what is promised
 
-pub plan-written : {q : Question} (ss : List Segment) {e e' : List ℤ} {x x' y y' : List ℕ} {n : ℕ} → q ≡ none → PlanFilled ss e e' x x' y y' n
-    → WrittenPlan (q otherwise ss) (Counted.Count n) e e' x x' y y'
+pub plan-written : {q : Question} (ss : List Segment) {e e' : List ℤ} {x x' y y' : List ℕ} {n : ℕ} → q ≡ None → PlanFilled ss e e' x x' y y' n
+    → WrittenPlan (q otherwise ss) (Ok n) e e' x x' y y'
 plan-written ss h f = rw h (record { answer = ap answers f.count; ends = f.ends; left = f.left; right = f.right })
 
-pub plan-refused : {q : Question} (ss : List Segment) {r : Refusal} {e : List ℤ} {x y : List ℕ} → q ≡ some (paper r)
-    → WrittenPlan (q otherwise ss) (Counted.Refused r) e e x x y y
-plan-refused ss h = rw h (record { answer = refl; ends = refl; left = refl; right = refl })
+pub plan-refused : {q : Question} (ss : List Segment) (r : Result ℕ Refusal) (e : Refusal) {b : List ℤ} {x y : List ℕ}
+    → IsErrAnd r (λ (z : Refusal). z ≡ e) → Some (paper e) ≡ q → WrittenPlan (q otherwise ss) r b b x x y y
+plan-refused ss r e h f = rw (sym f, passed_on r e h) (record { answer = refl; ends = refl; left = refl; right = refl })

@@ -1,7 +1,7 @@
 -- A run for each segment: their ends rise, and they show, position by position, what the columns show together.
 -- Assumes nothing.
 use Prim.Native.Nat.{ℕ, zero, suc, ◌+◌, ◌-◌, ◌≤◌, ◌<◌, max}
-use mathlib.Core.Option.{Option, none, some}
+use Rattle.std.specs.Prelude.{Option, Some, None}
 use mathlib.Core.List.{List, [], ◌∷◌, ◌++◌, map, map-map}
 use mathlib.Core.Path.{◌≡◌, refl, ap, sym, ◌∙◌}
 use native.Mathlib.Nat.{zero-add, sub-zero}
@@ -114,16 +114,16 @@ here-step p e a h u w = go (runs_left a) refl u w
 -- ---- the next segment's end: no further than any current end, past p, and within the longest column
 
 abbrev Below : ℕ → Option ℕ → Type 0
-Below e none = Unit {0}
-Below e (some x) = e ≤ x
+Below e None = Unit {0}
+Below e (Some x) = e ≤ x
 
 abbrev Past : ℕ → Option ℕ → Type 0
-Past p none = Unit {0}
-Past p (some x) = p < x
+Past p None = Unit {0}
+Past p (Some x) = p < x
 
 abbrev Within : ℕ → Option ℕ → Type 0
-Within n none = Unit {0}
-Within n (some x) = x ≤ n
+Within n None = Unit {0}
+Within n (Some x) = x ≤ n
 
 abbrev next_end : List At → Option ℕ
 next_end ys = least_end (rests (map place_of ys))
@@ -139,8 +139,8 @@ all_upto e (a ∷ ys) b =
   where
     split : (ds : Runs) (o : Option ℕ) → Below e (with_others (ends_in ds) o) → Upto e ds × Below e o
     split [] o b = (tt, b)
-    split (d ∷ ds) none b = (b, tt)
-    split (d ∷ ds) (some x) b = (omega arith, omega arith)
+    split (d ∷ ds) None b = (b, tt)
+    split (d ∷ ds) (Some x) b = (omega arith, omega arith)
 
 all_past : (p : ℕ) (ys : List At) → All (Here p) ys → Past p (next_end ys)
 all_past p [] h = tt
@@ -149,8 +149,8 @@ all_past p (a ∷ ys) h =
   where
     both : (ds : Runs) (o : Option ℕ) → Rising p ds → Past p o → Past p (with_others (ends_in ds) o)
     both [] o r k = k
-    both (d ∷ ds) none r k = r.0
-    both (d ∷ ds) (some x) r k = omega (arith, r.0)
+    both (d ∷ ds) None r k = r.0
+    both (d ∷ ds) (Some x) r k = omega (arith, r.0)
 
 all-within : (p : ℕ) (ys : List At) → All (Here p) ys → Within (greatest_length (columns_in ys)) (next_end ys)
 unfolding greatest_length columns_in
@@ -160,20 +160,20 @@ all-within p (a ∷ ys) h =
     (both (runs_left a) (next_end ys) (greatest_length (columns_in ys)) h.0 (all-within p ys h.1))
   where
     both : (ds : Runs) (o : Option ℕ) (n : ℕ) → Stands p a.column ds → Within n o → Within (max (length_of a.column.runs) n) (with_others (ends_in ds) o)
-    both [] none n w k = tt
-    both [] (some x) n w k = omega arith
-    both (d ∷ ds) none n w k = omega (arith, w.long, w.rises.0, last-above d.end ds w.rises.1)
-    both (d ∷ ds) (some x) n w k = omega (arith, w.long, w.rises.0, last-above d.end ds w.rises.1)
+    both [] None n w k = tt
+    both [] (Some x) n w k = omega arith
+    both (d ∷ ds) None n w k = omega (arith, w.long, w.rises.0, last-above d.end ds w.rises.1)
+    both (d ∷ ds) (Some x) n w k = omega (arith, w.long, w.rises.0, last-above d.end ds w.rises.1)
 
 -- where every column is spent, none is longer than p
-all-spent : (p : ℕ) (ys : List At) → All (Here p) ys → next_end ys ≡ none → greatest_length (columns_in ys) ≤ p
+all-spent : (p : ℕ) (ys : List At) → All (Here p) ys → next_end ys ≡ None → greatest_length (columns_in ys) ≤ p
 unfolding greatest_length columns_in
 all-spent p [] h e = omega arith
 all-spent p (a ∷ ys) h e =
     let s = split (runs_left a) (next_end ys) h.0 (sym (least-cons (ends_in (runs_left a)) (rests (map place_of ys))) ∙ e) in
     omega (arith, s.0, all-spent p ys h.1 s.1)
   where
-    split : (ds : Runs) (o : Option ℕ) → Stands p a.column ds → with_others (ends_in ds) o ≡ none → (length_of a.column.runs ≤ p) × (o ≡ none)
+    split : (ds : Runs) (o : Option ℕ) → Stands p a.column ds → with_others (ends_in ds) o ≡ None → (length_of a.column.runs ≤ p) × (o ≡ None)
     split [] o w q = (omega (arith, w.long), q)
     split (d ∷ ds) o w q = absurd (let z : ◌≡◌ {A = ℕ} 0 1 = cc in omega arith)
 
@@ -221,14 +221,14 @@ module _ (op : ℤ → ℤ → ℤ) (cs : List Column) where
     rises : Rising p rs
     shows : dense_from p rs ≡ each_position (row_at op cs) p (greatest_length cs - p)
 
-  nothing_left : (n p : ℕ) (ys : List At) → columns_in ys ≡ cs → All (Here p) ys → next_end ys ≡ none
+  nothing_left : (n p : ℕ) (ys : List At) → columns_in ys ≡ cs → All (Here p) ys → next_end ys ≡ None
       → Right p (map (segment_run op cs) (segments_from n (map place_of ys)))
   unfolding dense_from each_position
   nothing_left n p ys q w e =
       let l : greatest_length cs - p ≡ 0 = rw (← q) (omega (arith, all-spent p ys w e)) in
       rw (segments-end n (map place_of ys) e) (record { rises = tt; shows = rw l })
 
-  next_segment : (n p e : ℕ) (ys : List At) → columns_in ys ≡ cs → All (Here p) ys → next_end ys ≡ some e
+  next_segment : (n p e : ℕ) (ys : List At) → columns_in ys ≡ cs → All (Here p) ys → next_end ys ≡ Some e
       → Right e (map (segment_run op cs) (segments_from n (map place_of (map (step_at e) ys))))
       → Right p (map (segment_run op cs) (segments_from (suc n) (map place_of ys)))
   unfolding dense_from row_at
@@ -253,10 +253,10 @@ module _ (op : ℤ → ℤ → ℤ) (cs : List Column) where
       (all-step p e ys (rw r at (all_past p ys w)) (all_upto e ys (rw r (omega arith))) w))
     where
       go : (o : Option ℕ) → next_end ys ≡ o
-          → ((e : ℕ) → next_end ys ≡ some e → Right e (map (segment_run op cs) (segments_from n (map place_of (map (step_at e) ys)))))
+          → ((e : ℕ) → next_end ys ≡ Some e → Right e (map (segment_run op cs) (segments_from n (map place_of (map (step_at e) ys)))))
           → Right p (map (segment_run op cs) (segments_from (suc n) (map place_of ys)))
-      go none r k = nothing_left (suc n) p ys q w r
-      go (some e) r k = next_segment n p e ys q w r (k e r)
+      go None r k = nothing_left (suc n) p ys q w r
+      go (Some e) r k = next_segment n p e ys q w r (k e r)
 
 -- ---- the whole
 

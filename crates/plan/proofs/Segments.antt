@@ -1,7 +1,7 @@
 -- The segments of columns: one step after the other, as many as there are.
 -- Assumes nothing.
 use Prim.Native.Nat.{ℕ, zero, suc, ◌+◌, ◌≤◌, ◌<◌, min}
-use mathlib.Core.Option.{Option, none, some}
+use Rattle.std.specs.Prelude.{Option, Some, None}
 use mathlib.Core.List.{List, [], ◌∷◌}
 use mathlib.Core.Path.{◌≡◌, refl, ap, sym, ◌∙◌}
 use native.Mathlib.Omega.{arith}
@@ -18,20 +18,20 @@ left (p ∷ ps) = length p.rest + left ps
 
 -- ---- a step, and the end
 
-pub segments-step : (n : ℕ) (ps : List Place) (e : ℕ) → least_end (rests ps) ≡ some e
+pub segments-step : (n : ℕ) (ps : List Place) (e : ℕ) → least_end (rests ps) ≡ Some e
     → segments_from (suc n) ps ≡ record { end = e; indexes = indexes ps } ∷ segments_from n (stepped e ps)
 unfolding segments_from
 segments-step n ps e h = rw (h, segments_from)
 
-pub segments-end : (n : ℕ) (ps : List Place) → least_end (rests ps) ≡ none → segments_from n ps ≡ []
+pub segments-end : (n : ℕ) (ps : List Place) → least_end (rests ps) ≡ None → segments_from n ps ≡ []
 unfolding segments_from
 segments-end zero ps h = refl
 segments-end (suc n) ps h = rw (h, segments_from)
 
 few-step : (n : ℕ) (ps : List Place) (o : Option ℕ) → least_end (rests ps) ≡ o → ((e : ℕ) → length (segments_from n (stepped e ps)) ≤ n)
     → length (segments_from (suc n) ps) ≤ suc n
-few-step n ps none h k = rw (segments-end (suc n) ps h) (omega arith)
-few-step n ps (some e) h k = rw (segments-step n ps e h) (omega (arith, k e))
+few-step n ps None h k = rw (segments-end (suc n) ps h) (omega arith)
+few-step n ps (Some e) h k = rw (segments-step n ps e h) (omega (arith, k e))
 
 pub segments-few : (n : ℕ) (ps : List Place) → length (segments_from n ps) ≤ n
 unfolding segments_from
@@ -51,25 +51,25 @@ left_step e (p ∷ ps) = omega (arith, length-step e p.index p.rest, left_step e
 -- the least of a column's current end and of what the others have
 abbrev pub with_others : List ℕ → Option ℕ → Option ℕ
 with_others [] o = o
-with_others (d ∷ ds) o = some (least d o)
+with_others (d ∷ ds) o = Some (least d o)
 
 pub least-cons : (es : List ℕ) (rs : List (List ℕ)) → least_end (es ∷ rs) ≡ with_others es (least_end rs)
 least-cons [] rs = refl
 least-cons (d ∷ ds) rs = refl
 
-less_cons : (e i : ℕ) (es : List ℕ) (o : Option ℕ) (m m' : ℕ) → with_others es o ≡ some e → (o ≡ some e → m' < m) → m' ≤ m
+less_cons : (e i : ℕ) (es : List ℕ) (o : Option ℕ) (m m' : ℕ) → with_others es o ≡ Some e → (o ≡ Some e → m' < m) → m' ≤ m
     → length (stepped_on e i es).rest + m' < length es + m
 less_cons e i [] o m m' h k l = omega (arith, k h)
-less_cons e i (d ∷ ds) none m m' h k l = let q : d ≡ e = cc in rw (eq-eqb d e q) (omega arith)
-less_cons e i (d ∷ ds) (some x) m m' h k l =
+less_cons e i (d ∷ ds) None m m' h k l = let q : d ≡ e = cc in rw (eq-eqb d e q) (omega arith)
+less_cons e i (d ∷ ds) (Some x) m m' h k l =
     let q : min d x ≡ e = cc in
     by-test (eqb d e)
     (λ t. rw t (omega arith))
     (λ t. let n = eqb-false d e t in
     let y : x ≡ e = omega arith in
-    rw t (omega (arith, k (ap some y))))
+    rw t (omega (arith, k (ap Some y))))
 
-pub left_less : (e : ℕ) (ps : List Place) → least_end (rests ps) ≡ some e → left (stepped e ps) < left ps
+pub left_less : (e : ℕ) (ps : List Place) → least_end (rests ps) ≡ Some e → left (stepped e ps) < left ps
 left_less e [] h = absurd (let z : ◌≡◌ {A = ℕ} 0 1 = cc in omega arith)
 left_less e (p ∷ ps) h =
     less_cons e p.index p.rest (least_end (rests ps)) (left ps) (left (stepped e ps)) (sym (least-cons p.rest (rests ps)) ∙ h) (left_less e ps)
@@ -77,18 +77,18 @@ left_less e (p ∷ ps) h =
 
 -- ---- there is a next end where runs are left, and there alone
 
-pub none_left : (ps : List Place) → left ps ≡ 0 → least_end (rests ps) ≡ none
+pub none_left : (ps : List Place) → left ps ≡ 0 → least_end (rests ps) ≡ None
 none_left [] h = refl
 none_left (p ∷ ps) h = least-cons p.rest (rests ps) ∙ spent p.rest (least_end (rests ps)) (omega arith) (none_left ps (omega arith))
   where
-    spent : (es : List ℕ) (o : Option ℕ) → length es ≡ 0 → o ≡ none → with_others es o ≡ none
+    spent : (es : List ℕ) (o : Option ℕ) → length es ≡ 0 → o ≡ None → with_others es o ≡ None
     spent [] o k e = e
     spent (d ∷ ds) o k e = absurd (let z : ⊥ = omega arith in z)
 
-pub some_left : (ps : List Place) → 0 < left ps → (e : ℕ) × (least_end (rests ps) ≡ some e)
+pub some_left : (ps : List Place) → 0 < left ps → (e : ℕ) × (least_end (rests ps) ≡ Some e)
 some_left [] h = let z : ⊥ = omega arith in absurd z
 some_left (p ∷ ps) h = go p.rest h (some_left ps)
   where
-    go : (es : List ℕ) → 0 < length es + left ps → (0 < left ps → (e : ℕ) × (least_end (rests ps) ≡ some e)) → (e : ℕ) × (least_end (es ∷ rests ps) ≡ some e)
+    go : (es : List ℕ) → 0 < length es + left ps → (0 < left ps → (e : ℕ) × (least_end (rests ps) ≡ Some e)) → (e : ℕ) × (least_end (es ∷ rests ps) ≡ Some e)
     go [] k f = f (omega arith)
     go (d ∷ ds) k f = (least d (least_end (rests ps)), refl)

@@ -1,8 +1,8 @@
 -- One step of a walk by cursors: a column by itself, and two columns together.
 -- Assumes nothing.
-use Prim.Native.Nat.{ℕ, suc, ◌+◌, ◌-◌, ◌≤◌, ◌<◌, ◌^◌, min}
-use mathlib.Core.Bool.{Bool, cond, true, false}
-use mathlib.Core.Option.{some}
+use Prim.Native.Nat.{ℕ, suc, ◌+◌, ◌≤◌, ◌<◌, ◌^◌, min}
+use mathlib.Core.Bool.{Bool, true, false}
+use Rattle.std.specs.Prelude.{Some}
 use mathlib.Core.List.{List, [], ◌∷◌, map}
 use mathlib.Core.Path.{◌≡◌, refl, ap, sym, ◌∙◌}
 use native.Mathlib.Numerals.{add-one}
@@ -38,17 +38,6 @@ module _ (es : List ℤ) (i : ℕ) where
 -- as the code reads it
 pub end-some : {r : ℕ} {rest : List ℕ} (e : ℕ) {es : List ℕ} → rest ≡ e ∷ es → r ≡ e → e < 2 ^ 63 → EndAt rest r
 end-some e h er f = rw (er, h) (record { current = refl; small = λ z. f; some = λ z. omega arith })
-
-pub end_none : {rest : List ℕ} → rest ≡ [] → EndAt rest spent
-end_none h = rw h (record { current = refl; small = λ z. let y : ⊥ = omega arith in absurd y; some = λ z. let y : ⊥ = omega arith in absurd y })
-
--- as the code steps
-pub cursor_steps : (c : Cursor) (other next : ℕ) {b e : ℕ} → b ≡ cond (ltb other c.end) 1 0 → e ≡ cond (ltb other c.end) c.end next
-    → (b ≤ c.index + 1) × (◌≡◌ {A = Cursor} (record { index = c.index + 1 - b; end = e }) (stepped_cursor c other next))
-cursor_steps c other next {b} {e} eb ee =
-    by-test (ltb other c.end)
-    (λ t. let n : b ≡ 1 = eb ∙ rw t in let i : c.index + 1 - b ≡ c.index = omega arith in (omega arith, rw (i, ee, t)))
-    (λ t. let n : b ≡ 0 = eb ∙ rw t in let i : c.index + 1 - b ≡ c.index + 1 = omega arith in (omega arith, rw (i, ee, t)))
 
 module _ {es : List ℤ} {c : Cursor} (s : Stands es c) where
   ahead-run : c.index < length es → ahead es c.index ≡ c.end ∷ ahead es (suc c.index)
@@ -99,7 +88,7 @@ module _ {a b : List ℤ} {c : Segments} (s : Standing a b c) where
       (λ t. omega (arith, s.left.ends.small (ltb-true _ _ t)))
       (λ t. let l = ltb-false c.a.end spent t in omega (arith, s.right.ends.small (omega arith)))
 
-  least-ends : least < spent → least_end (rests (places_at a b c)) ≡ some least
+  least-ends : least < spent → least_end (rests (places_at a b c)) ≡ Some least
   least-ends h =
       by-test (ltb c.a.end spent)
       (λ t. let ra = ahead-run s.left (unspent-run s.left (ltb-true _ _ t)) in

@@ -1,7 +1,7 @@
 -- A walk that writes the merged runs of what the columns show together, a run for each segment.
 -- Assumes nothing.
 use Prim.Native.Nat.{ℕ, zero, suc, ◌+◌, ◌≤◌, ◌<◌}
-use mathlib.Core.Option.{none}
+use Rattle.std.specs.Prelude.{None}
 use mathlib.Core.List.{List, [], ◌∷◌, ◌++◌, map, map-append}
 use mathlib.Core.Path.{◌≡◌, refl, ap, sym, ◌∙◌}
 use native.Mathlib.Omega.{arith}
@@ -90,7 +90,7 @@ module _ (op : ℤ → ℤ → ℤ) (cs : List Column) where
     module _ {done : List Segment} {ps : List Place} {first : ℤ} {e₀ v₀ e v : List ℤ} {w : Writer}
         (l : Listing starts done ps) (m : Merging (merged_runs done) first e₀ v₀ e v w) where
       -- every column is spent
-      pub zip_end : least_end (rests ps) ≡ none → 0 < left starts → Filled (combined op cs) e₀ e v₀ v (w.at + 1)
+      pub zip_end : least_end (rests ps) ≡ None → 0 < left starts → Filled (combined op cs) e₀ e v₀ v (w.at + 1)
       zip_end h k =
           let some : 0 < length (merged_runs done) = pos_of (length (merged_runs done)) (λ z. begun (l.begun (merged-none done z))) in
           rw (← merged-all (list_end l h)) (merge_end m some)
@@ -102,7 +102,7 @@ module _ (op : ℤ → ℤ → ℤ) (cs : List Column) where
           begun : ps ≡ starts → ⊥
           begun q =
               let u = some_left starts k in
-              let r : least_end (rests starts) ≡ none = rw q at h in
+              let r : least_end (rests starts) ≡ None = rw q at h in
               let z : ◌≡◌ {A = ℕ} 0 1 = cc in
               omega arith
 

@@ -1,14 +1,13 @@
 -- plan.rs: the segments of columns, of two or of many.
-use Rattle.std.specs.Prelude.{ℕ, zero, suc, ◌+◌, min, cond, List, [], ◌∷◌, map, ◌≡◌, ℤ, pos, length, get_or, eqb}
-use Rattle.std.proofs.Math.Option.{Option, none, some}
-use Rattle.column.specs.declared.answer.Counted.{Counted}
+use Rattle.std.specs.Prelude.{ℕ, zero, suc, ◌+◌, min, cond, List, [], ◌∷◌, map, ◌≡◌, ℤ, pos, length, get_or, eqb, Option, Some, None, Result}
 use Rattle.column.specs.Asking.{Question, first_no, ◌otherwise◌}
 use Rattle.column.specs.Combine.{Column, value_of, folded}
 use Rattle.column.specs.Lists.{total}
-use Rattle.column.specs.Paper.{Outcome, shown_counted, counts, written}
+use Rattle.column.specs.Paper.{Outcome, counts, written, outcome_of}
 use Rattle.column.specs.Questions.{ends_valid, room}
 use Rattle.column.specs.Runs.{Run, Runs, to_nat, values_of}
 use Rattle.column.specs.Lent.{Lent, given, after}
+use Rattle.column.specs.declared.error.Refusal.{Refusal}
 
 -- where a column stands: the index of its current run, and the ends from it on
 pub record Place : Type 0 where
@@ -22,14 +21,14 @@ pub record Segment : Type 0 where
 
 -- "A segment ends at the smaller of the two current ends", of many at the least
 abbrev pub least : ℕ → Option ℕ → ℕ
-least e none = e
-least e (some d) = min e d
+least e None = e
+least e (Some d) = min e d
 
 -- the least of the current ends, of which a spent column has none
 abbrev pub least_end : List (List ℕ) → Option ℕ
-least_end [] = none
+least_end [] = None
 least_end ([] ∷ rests) = least_end rests
-least_end ((e ∷ es) ∷ rests) = some (least e (least_end rests))
+least_end ((e ∷ es) ∷ rests) = Some (least e (least_end rests))
 
 -- "each side whose end that is steps on; a spent side keeps its run count as index"
 abbrev pub stepped_on : ℕ → ℕ → List ℕ → Place
@@ -50,8 +49,8 @@ unfoldable pub segments_from : ℕ → List Place → List Segment
 segments_from zero ps = []
 segments_from (suc n) ps =
     elim (least_end (rests ps)) [
-      | none ↦ []
-      | some e ↦ record { end = e; indexes = indexes ps } ∷ segments_from n (stepped e ps)
+      | None ↦ []
+      | Some e ↦ record { end = e; indexes = indexes ps } ∷ segments_from n (stepped e ps)
     ]
 
 -- each column at its first run
@@ -85,14 +84,14 @@ abbrev pub indexes_of : ℕ → List Segment → List ℕ
 indexes_of c ss = map (λ (s : Segment). get_or s.indexes c 0) ss
 
 -- the promise: ends, indexes of the first column, indexes of the second, each buffer before and after
-pub record WrittenPlan (o : Outcome (List Segment)) (r : Counted) (e e' : List ℤ) (a a' b b' : List ℕ) : Type 0 where
-  pub answer : shown_counted r ≡ counts length o
+pub record WrittenPlan (o : Outcome (List Segment)) (r : Result ℕ Refusal) (e e' : List ℤ) (a a' b b' : List ℕ) : Type 0 where
+  pub answer : outcome_of r ≡ counts length o
   pub ends : e' ≡ written segment_ends o e
   pub left : a' ≡ written (indexes_of 0) o a
   pub right : b' ≡ written (indexes_of 1) o b
 
 -- of the buffers that a call is lent: question 12 is about their lengths
-abbrev pub WritesPlan : (List ℕ → Outcome (List Segment)) → Lent ℤ → Lent ℕ → Lent ℕ → Counted → Type 0
+abbrev pub WritesPlan : (List ℕ → Outcome (List Segment)) → Lent ℤ → Lent ℕ → Lent ℕ → Result ℕ Refusal → Type 0
 WritesPlan call e a b r =
     WrittenPlan (call (length (given e) ∷ length (given a) ∷ length (given b) ∷ [])) r (given e) (after e) (given a) (after a) (given b) (after b)
 

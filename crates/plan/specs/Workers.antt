@@ -1,6 +1,5 @@
 -- What the walk over segments promises its callers.
-use Rattle.std.specs.Prelude.{ℕ, ◌+◌, ◌-◌, ◌≤◌, ◌<◌, ◌^◌, min, cond, List, [], ◌∷◌, map, ◌≡◌, ltb, ℤ, pos, length, drop}
-use Rattle.std.proofs.Math.Option.{none, some}
+use Rattle.std.specs.Prelude.{ℕ, ◌+◌, ◌-◌, ◌≤◌, ◌<◌, ◌^◌, min, cond, List, [], ◌∷◌, map, ◌≡◌, ltb, ℤ, pos, length, drop, Some, None}
 use Rattle.column.specs.Questions.{ends_valid}
 use Rattle.column.specs.Runs.{to_nat, over}
 use Rattle.plan.specs.declared.inner.Cursor.{Cursor}
@@ -18,7 +17,7 @@ places_at a b c = place_at a c.a.index ∷ place_at b c.b.index ∷ []
 -- the next segment: its end, and where the columns stand after it
 pub record Steps (ps : List Place) (end : ℤ) (ps' : List Place) : Type 0 where
   pub natural : end ≡ pos (to_nat end)
-  pub ends : least_end (rests ps) ≡ some (to_nat end)
+  pub ends : least_end (rests ps) ≡ Some (to_nat end)
   pub next : ps' ≡ stepped (to_nat end) ps
 
 -- ---- a current end
@@ -60,8 +59,8 @@ stepped_cursor c other next = cond (ltb other c.end) c (record { index = c.index
 
 -- columns that are not both spent
 pub record Walkable (a b : List ℤ) (c : Segments) : Type 0 where
-  pub valid_a : ends_valid a ≡ none
-  pub valid_b : ends_valid b ≡ none
+  pub valid_a : ends_valid a ≡ None
+  pub valid_b : ends_valid b ≡ None
   pub standing : Standing a b c
   pub unspent : min c.a.end c.b.end < spent
 

@@ -1,6 +1,5 @@
 // The walk over the segments of two columns, and what it is used for. The ends are valid.
-ghost use Rattle.std.specs.Prelude.{◌+◌, ◌≤◌, ◌<◌, ◌^◌, min, cond, map, ◌≡◌, ltb, length, drop};
-ghost use Rattle.std.proofs.Math.Option.{none};
+ghost use Rattle.std.specs.Prelude.{◌+◌, ◌≤◌, ◌<◌, ◌^◌, min, cond, map, ◌≡◌, ltb, length, drop, None};
 ghost use Rattle.column.specs.Questions.{ends_valid};
 ghost use Rattle.column.specs.Runs.{to_nat};
 ghost use Rattle.plan.specs.Workers.{spent, EndAt, stepped_cursor, Starts, Walkable, Walks, PlanFilled};
@@ -31,8 +30,8 @@ pub struct Segment {
 }
 
 // Where the run at an index ends.
-fn end_at(ends: &[i64], index: usize) -> usize
-    requires { ends_valid ends.now ≡ none }
+pub fn end_at(ends: &[i64], index: usize) -> usize
+    requires { ends_valid ends.now ≡ None }
     ensures { EndAt (map to_nat (drop index ends.now)) result }
 {
     if index < ends.len() {
@@ -41,13 +40,6 @@ fn end_at(ends: &[i64], index: usize) -> usize
     } else {
         SPENT
     }
-}
-
-// 1 if a is below b.
-fn below(a: usize, b: usize) -> usize
-    ensures { result ≡ cond (ltb a b) 1 0 }
-{
-    if a < b { 1 } else { 0 }
 }
 
 // Where the current run ends after a segment; the next one ends at `next`.
@@ -63,14 +55,14 @@ fn stepped(here: Cursor, other: usize, next: usize) -> Cursor
     requires { here.index + 1 < 2 ^ 64 }
     ensures { result ≡ stepped_cursor here other next }
 {
-    let index = here.index + 1 - below(other, here.end);
+    let index = here.index + 1 - usize::from(other < here.end);
     let end = end_after(here.end, other, next);
     Cursor { index, end }
 }
 
 impl Segments {
     pub fn start(a: &[i64], b: &[i64]) -> Segments
-        requires { (ends_valid a.now ≡ none) × (ends_valid b.now ≡ none) }
+        requires { (ends_valid a.now ≡ None) × (ends_valid b.now ≡ None) }
         ensures { Starts a.now b.now result }
     {
         Segments {
@@ -120,7 +112,7 @@ pub fn plan(
     out_idx_a: &mut [usize],
     out_idx_b: &mut [usize],
 ) -> usize
-    requires { (ends_valid a.now ≡ none) × (ends_valid b.now ≡ none) × (length a.now + length b.now ≤ length out_ends.old)
+    requires { (ends_valid a.now ≡ None) × (ends_valid b.now ≡ None) × (length a.now + length b.now ≤ length out_ends.old)
         × (length a.now + length b.now ≤ length out_idx_a.old) × (length a.now + length b.now ≤ length out_idx_b.old) }
     ensures { PlanFilled (segments_of a.now b.now)
         out_ends.old out_ends.new out_idx_a.old out_idx_a.new out_idx_b.old out_idx_b.new result }

@@ -1,8 +1,8 @@
 -- A run after the used entries of two lent buffers: put there, or merged with the last.
 -- Assumes nothing.
-use Prim.Native.Nat.{ℕ, zero, suc, ◌+◌, ◌-◌, ◌≤◌, ◌<◌}
+use Prim.Native.Nat.{ℕ, zero, suc, ◌+◌, ◌-◌, ◌<◌}
 use mathlib.Core.Bool.{true}
-use mathlib.Core.Option.{none}
+use Rattle.std.specs.Prelude.{None}
 use mathlib.Core.List.{List}
 use mathlib.Core.Path.{◌≡◌, refl, ap, sym, ◌∙◌}
 use native.Mathlib.Nat.{le_of_lt, sub-zero}
@@ -17,10 +17,10 @@ use Rattle.column.specs.declared.inner.Writer.{Writer}
 use Rattle.column.specs.Lists.{part}
 use Rattle.column.specs.Questions.{ends_valid}
 use Rattle.column.specs.Runs.{sequence, to_nat, runs_of, length_of_ends, Filled}
-use Rattle.column.specs.Workers.{next_place, PushedMerged, last_of, Merging}
+use Rattle.column.specs.Workers.{PushedMerged, last_of, Merging}
 use Rattle.column.proofs.Encode.{length_push}
 use Rattle.column.proofs.Ends.{length_of-ends}
-use Rattle.column.proofs.Merging.{merge_at, merge_more, merge_end}
+use Rattle.column.proofs.Merging.{merge_more, merge_end}
 use Rattle.column.proofs.Naturals.{natural}
 use Rattle.column.proofs.Told.{negative_told, fits_told, long-told}
 use Rattle.column.proofs.Used.{used_runs, used-paired, used-count, used-filled, used-merging, used-last}
@@ -38,7 +38,7 @@ module _ (e v : List ℤ) (n : ℕ) where
   present = present_length n (sequence e v)
 
   -- their length, as the code reads it
-  pub present-length : {x : ℤ} {es : List ℤ} → ends_valid (take n e) ≡ none → n < length e → n < length v
+  pub present-length : {x : ℤ} {es : List ℤ} → ends_valid (take n e) ≡ None → n < length e → n < length v
       → x ≡ length_of_ends es → es ≡ part 0 n e → x ≡ pos present
   present-length valid le lv ex ep =
       ex ∙ ap length_of_ends (ep ∙ first_part n e) ∙ length_of-ends (take n e) (take n v) valid (used-paired n e v (le_of_lt le) (le_of_lt lv))
@@ -86,10 +86,6 @@ module _ (e v : List ℤ) (n : ℕ) where
 
       merging : Merging (used_runs n e v (le_of_lt q.room_ends) (le_of_lt q.room_values)) value e v e v w
       merging = used-merging n e v (le_of_lt q.room_ends) (le_of_lt q.room_values) q.valid value at_last (last_value n refl)
-
-      -- the new run goes at most one place after the used entries
-      pub extend-at : next_place w value ≤ n
-      extend-at = rw (used-count n e v (le_of_lt q.room_ends) (le_of_lt q.room_values)) at (merge_at merging value (λ z. refl))
 
       pub extend-filled : {z : ℤ} {e' v' : List ℤ} {next : Writer} → (requested ≡ pos present → ⊥) → z ≡ requested → PushedMerged w z value e e' v v' next
           → Filled (extended (sequence e v) n requested value) e e' v v' (next.at + 1)

@@ -1,7 +1,7 @@
 -- What the positions of a sequence show that `push_run` or `extend_to` has made.
 -- Assumes nothing.
 use Prim.Native.Nat.{ℕ, ◌-◌, ◌≤◌}
-use mathlib.Core.Option.{none}
+use Rattle.std.specs.Prelude.{None}
 use mathlib.Core.List.{List, [], ◌∷◌, ◌++◌, append-nil}
 use mathlib.Core.Path.{◌≡◌, ap, sym, ◌∙◌}
 use native.Mathlib.Omega.{arith}
@@ -26,7 +26,7 @@ module _ (buffers : Sequence) (n : ℕ) where
       let shown = shown-from p (run ∷ []) (value ∷ []) ∙ append-nil (replicate (to_nat run) value) in
       dense-append (runs (used n buffers)) (runs_from p (run ∷ []) (value ∷ [])) ∙ ap (λ (l : List ℤ). dense (runs (used n buffers)) ++ l) shown
 
-  pub extend_to-shows : (requested value : ℤ) → ends_valid (used n buffers).ends ≡ none → present_length n buffers ≤ to_nat requested
+  pub extend_to-shows : (requested value : ℤ) → ends_valid (used n buffers).ends ≡ None → present_length n buffers ≤ to_nat requested
       → dense (extended buffers n requested value) ≡ dense (runs (used n buffers)) ++ replicate (to_nat requested - present_length n buffers) value
   unfolding extended
   extend_to-shows requested value valid h =

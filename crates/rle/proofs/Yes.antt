@@ -1,7 +1,7 @@
 -- What a call's questions tell where all are answered "yes": what its worker requires.
 -- Assumes nothing.
 use Prim.Native.Nat.{ℕ, ◌+◌}
-use mathlib.Core.Option.{none}
+use Rattle.std.specs.Prelude.{None}
 use mathlib.Core.List.{List, [], ◌∷◌}
 use mathlib.Core.Path.{◌≡◌}
 use native.Mathlib.Omega.{arith}
@@ -15,7 +15,7 @@ use Rattle.rle.specs.Calls.{push_run_asked, extend_to_asked, present_length, roo
 use Rattle.rle.specs.Workers.{Pushable, Extendable}
 
 module _ (e v : List ℤ) where
-  pub push_run-yes : (n : ℕ) (run : ℤ) → push_run_asked (sequence e v) n run ≡ none → Pushable e v n run
+  pub push_run-yes : (n : ℕ) (run : ℤ) → push_run_asked (sequence e v) n run ≡ None → Pushable e v n run
   unfolding push_run_asked
   push_run-yes n run h =
       let y = all_yes
@@ -28,7 +28,7 @@ module _ (e v : List ℤ) where
       let r = both_told (n + 1) (length e) (length v) y.1.1.1.1.0 in
       record { valid = y.1.0; room_ends = omega arith; room_values = omega arith; natural = y.1.1.0; fitting = y.1.1.1.0 }
 
-  pub extend_to-yes : (n : ℕ) (requested : ℤ) → extend_to_asked (sequence e v) n requested ≡ none → Extendable e v n requested
+  pub extend_to-yes : (n : ℕ) (requested : ℤ) → extend_to_asked (sequence e v) n requested ≡ None → Extendable e v n requested
   unfolding extend_to_asked
   extend_to-yes n requested h =
       let y = all_yes

@@ -1,12 +1,11 @@
 -- The questions of zip_many, what a "yes" to all of them tells, and that a missing fill shows nowhere.
 -- Assumes nothing.
 use Prim.Native.Nat.{ℕ}
-use mathlib.Core.Option.{none}
+use Rattle.std.specs.Prelude.{None, Option}
 use mathlib.Core.List.{List, [], ◌∷◌, ◌++◌, map}
 use mathlib.Core.Path.{◌≡◌, refl, ap, sym, ◌∙◌}
 use lib.IntN.{ℤ}
 use lib.ListN.{length}
-use Rattle.column.specs.declared.answer.Fill.{Fill}
 use Rattle.column.specs.Asking.{Question, first_no}
 use Rattle.column.specs.Combine.{Column, many, greatest_length, all_filled, combined}
 use Rattle.column.specs.Flat.{Flat, flat, count, columns, flat_asked}
@@ -33,22 +32,22 @@ module _ (os : List ℕ) (es vs : List ℤ) where
   abbrev most : Question
   most = at_most most_columns (count f)
 
-  module _ (fill : Fill) where
+  module _ (fill : Option ℤ) where
     abbrev fills : Question
     fills = all_filled (least_length (columns f)) (greatest_length (many fill (columns f))) (many fill (columns f))
 
     -- 10, by the last ends: they are the lengths where every question before it is answered "yes"
-    pub filled-asked : (code : ℕ) {q : Question} {x y : ℤ} {n : Lengths} → q ≡ filled x y (side x fill ∷ side y fill ∷ []) → x ≡ n.least → y ≡ n.greatest
-        → LengthsOf (map length_of_ends (parts os es)) n → first_no (listed 0 9 code ∷ flat_asked f ++ most ∷ []) ≡ none → q ≡ fills
+    pub filled-asked : {q : Question} {x y : ℤ} {n : Lengths} → q ≡ filled x y (side x fill ∷ side y fill ∷ []) → x ≡ n.least → y ≡ n.greatest
+        → LengthsOf (map length_of_ends (parts os es)) n → None ≡ first_no (flat_asked f) → q ≡ fills
     unfolding paired
-    filled-asked code hq ex ey n h =
-        let (_, (pairs, (_, (valid, _)))) = all_yes (listed 0 9 code ∷ flat_asked f ++ most ∷ []) h in
+    filled-asked hq ex ey n h =
+        let (pairs, (_, (valid, _))) = all_yes (flat_asked f) (sym h) in
         let e = sym (lengths_by_ends os es vs (agree-told 3 (length es) (length vs) pairs) (sequences-told os es valid)) in
         let least = ex ∙ n.least ∙ ap (from_first least_from) e ∙ least_is (columns f) in
         let greatest = ey ∙ n.greatest ∙ ap (from_first greatest_from) e ∙ greatest_is fill (columns f) in
         hq ∙ many-filled fill (columns f) least greatest
 
-    pub zip-many-yes : (code : ℕ) (e v : List ℤ) → zip_many_asked f fill code (length e ∷ length v ∷ []) ≡ none → Zippable os es vs e v
+    pub zip-many-yes : (code : ℕ) (e v : List ℤ) → zip_many_asked f fill code (length e ∷ length v ∷ []) ≡ None → Zippable os es vs e v
     unfolding zip_many_asked
     zip-many-yes code e v h =
         let space = room (both (length es)) (length e ∷ length v ∷ []) in
@@ -66,7 +65,7 @@ module _ (os : List ℕ) (es vs : List ℤ) where
     valid-many [] v = tt
     valid-many (c ∷ cs) v = (v.0, valid-many cs v.1)
 
-    pub missing_fill : (op : ℤ → ℤ → ℤ) → sequences_valid os es ≡ none → fills ≡ none
+    pub missing_fill : (op : ℤ → ℤ → ℤ) → sequences_valid os es ≡ None → fills ≡ None
         → (x : ℤ) → combined op (many (or_else x fill) (columns f)) ≡ combined op (many fill (columns f))
     missing_fill op v e x =
         let cs = columns f in

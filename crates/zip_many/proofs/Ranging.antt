@@ -1,5 +1,6 @@
 -- The least and the greatest length of columns: one column after another, as natural numbers, and what they tell of 10.
 -- Assumes nothing.
+use Rattle.std.specs.Prelude.{Option}
 use Prim.Native.Nat.{ℕ, ◌+◌, ◌≤◌, ◌<◌, min, max}
 use mathlib.Core.Bool.{Bool, true, false, not, ◌&&◌, ◌||◌}
 use mathlib.Core.List.{List, [], ◌∷◌, map}
@@ -11,7 +12,6 @@ use lib.ListN.{length, get_or}
 use borrow.Author.Tests.{lt-ltb, le-ltb, ltb-true, ltb-false}
 use Rattle.num.specs.Numbers.{smaller_of, larger_of}
 use Rattle.num.proofs.Tests.{by-test}
-use Rattle.column.specs.declared.answer.Fill.{Fill}
 use Rattle.column.specs.Asking.{refusal, ◌unless◌}
 use Rattle.column.specs.Combine.{many, greatest_length, side_of, all_filled}
 use Rattle.column.specs.Lists.{any, part, parts}
@@ -36,7 +36,6 @@ module _ (os : List ℕ) (es : List ℤ) where
   ahead-cons c h = ap (map length_of_ends) (parts-cons c os es h)
 
   pub record Ranging (l g : ℤ) (c : ℕ) : Type 0 where
-    pub inside : c < length os
     pub least : from_first least_from (map length_of_ends (parts os es)) ≡ least_from l (ahead c)
     pub greatest : from_first greatest_from (map length_of_ends (parts os es)) ≡ greatest_from g (ahead c)
 
@@ -48,13 +47,12 @@ module _ (os : List ℕ) (es : List ℤ) where
   pub ranging_start : {l g : ℤ} → 2 ≤ length os → l ≡ length_at 0 → g ≡ length_at 0 → Ranging l g 1
   ranging_start h el eg =
       let n : map length_of_ends (parts os es) ≡ length_at 0 ∷ ahead 1 = ap (map length_of_ends) (parts-start os es) ∙ ahead-cons 0 (omega arith) in
-      record { inside = omega arith; least = rw (n, el); greatest = rw (n, eg) }
+      record { least = rw (n, el); greatest = rw (n, eg) }
 
   module _ {l g : ℤ} {c : ℕ} (r : Ranging l g c) where
     pub ranging_next : {x l' g' : ℤ} → c + 1 < length os → x ≡ length_at c → l' ≡ smaller_of l x → g' ≡ larger_of g x → Ranging l' g' (c + 1)
     ranging_next h ex el eg =
         record {
-          inside = h;
           least = r.least ∙ ap (least_from l) (ahead-cons c h) ∙ rw (el, ex);
           greatest = r.greatest ∙ ap (greatest_from g) (ahead-cons c h) ∙ rw (eg, ex);
         }
@@ -82,7 +80,7 @@ least_is [] = refl
 least_is (c ∷ []) = refl
 least_is (c ∷ d ∷ cs) = least-from (length_of c) d cs
 
-module _ (fill : Fill) where
+module _ (fill : Option ℤ) where
   greatest-from : (l : ℕ) (cs : List Runs) → greatest_from (pos l) (numbers cs) ≡ pos (max l (greatest_length (many fill cs)))
   unfolding greatest_length
   greatest-from l [] = let n : l ≡ max l 0 = omega arith in ap pos n

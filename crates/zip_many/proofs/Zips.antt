@@ -1,12 +1,12 @@
 -- The loop of `zip_many`: the merged runs of the segments so far are written.
 -- Assumes nothing.
+use Rattle.std.specs.Prelude.{Some}
 use Prim.Native.Nat.{ℕ, ◌+◌, ◌≤◌, ◌<◌, ◌^◌}
 use mathlib.Core.List.{List, []}
 use mathlib.Core.Path.{◌≡◌, refl, ap, sym, ◌∙◌}
 use native.Mathlib.Omega.{arith}
 use lib.IntN.{ℤ, pos}
 use lib.ListN.{length}
-use Rattle.column.specs.declared.answer.Fill.TheVariants.{Value}
 use Rattle.column.specs.declared.inner.Writer.{Writer}
 use Rattle.column.specs.Combine.{Column, many, folded, combined}
 use Rattle.column.specs.Flat.{flat, columns}
@@ -30,7 +30,7 @@ use Rattle.zip_many.proofs.Flats.{ends-many, values-columns}
 
 module _ (op : ℤ → ℤ → ℤ) (fill : ℤ) (os : List ℕ) (es vs e₀ v₀ : List ℤ) where
   abbrev cs : List Column
-  cs = many (Value fill) (columns (flat os es vs))
+  cs = many (Some fill) (columns (flat os es vs))
 
   -- what the columns show together at places, as the code reads it
   abbrev pub value : List ℕ → ℤ
@@ -49,10 +49,10 @@ module _ (op : ℤ → ℤ → ℤ) (fill : ℤ) (os : List ℕ) (es vs e₀ v�
 
   module _ {is₀ : List ℕ} (q : Combinable os es vs is₀ e₀ v₀) where
     started : starts op cs ≡ first
-    started = ap first_places (ends-many os es vs q.paired q.walkable.valid (Value fill))
+    started = ap first_places (ends-many os es vs q.paired q.walkable.valid (Some fill))
 
     shown : {done : List Segment} {is : List ℕ} {end : ℕ} → Walk os es done is end → shown_at op cs (indexes (places_of os es is)) ≡ value is
-    shown {is = is} w = ap (shown_at op cs) (walk-indexes w) ∙ ap (folded op) (values-columns (Value fill) os es vs is q.paired)
+    shown {is = is} w = ap (shown_at op cs) (walk-indexes w) ∙ ap (folded op) (values-columns (Some fill) os es vs is q.paired)
 
     pub zipped-start : {is : List ℕ} {end : ℕ} {x : ℤ} → Stepped os es 0 is₀ is end → x ≡ value is → Zipped is e₀ v₀ (record { at = 0; last = x }) end
     unfolding merged_runs push_all
@@ -65,7 +65,7 @@ module _ (op : ℤ → ℤ → ℤ) (fill : ℤ) (os : List ℕ) (es vs e₀ v�
     total = ap left started ∙ first-total os es q.walkable.offsets
 
     valid : All (λ (c : Column). Valid c.runs) cs
-    valid = many-valid os es vs q.paired q.walkable.valid (Value fill)
+    valid = many-valid os es vs q.paired q.walkable.valid (Some fill)
 
     -- no column has a run
     pub zipped-none : length es ≡ 0 → Filled (combined op cs) e₀ e₀ v₀ v₀ 0

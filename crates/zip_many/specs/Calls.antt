@@ -1,7 +1,6 @@
 -- many.rs: many columns combined.
-use Rattle.std.specs.Prelude.{ℕ, min, List, [], ◌∷◌, length}
+use Rattle.std.specs.Prelude.{ℕ, min, List, [], ◌∷◌, ℤ, length, Option}
 use Rattle.num.specs.Numbers.{operation}
-use Rattle.column.specs.declared.answer.Fill.{Fill}
 use Rattle.column.specs.Asking.{Question, first_no, ◌otherwise◌}
 use Rattle.column.specs.Combine.{many, greatest_length, all_filled, combined}
 use Rattle.column.specs.Flat.{Flat, count, columns, paired_flat, offsets_flat, ends_flat}
@@ -17,7 +16,7 @@ least_length (c ∷ []) = length_of c
 least_length (c ∷ d ∷ cs) = min (length_of c) (least_length (d ∷ cs))
 
 -- "N (all runs) entries"
-unfoldable pub zip_many_asked : Flat → Fill → ℕ → List ℕ → Question
+unfoldable pub zip_many_asked : Flat → Option ℤ → ℕ → List ℕ → Question
 zip_many_asked f fill code buffers =
     let cs = many fill (columns f) in
     first_no
@@ -31,5 +30,5 @@ zip_many_asked f fill code buffers =
     ∷ [])
 
 -- "covers positions 0 up to the greatest length, the single fill standing where a column has ended; its result is merged"
-unfoldable pub zip_many : Flat → Fill → ℕ → List ℕ → Outcome Runs
+unfoldable pub zip_many : Flat → Option ℤ → ℕ → List ℕ → Outcome Runs
 zip_many f fill code buffers = zip_many_asked f fill code buffers otherwise combined (operation code) (many fill (columns f))

@@ -1,6 +1,5 @@
 -- What the workers of zip_many require and leave.
-use Rattle.std.specs.Prelude.{ℕ, ◌-◌, ◌≤◌, List, [], ◌∷◌, ◌≡◌, ℤ, pos, length}
-use Rattle.std.proofs.Math.Option.{none}
+use Rattle.std.specs.Prelude.{ℕ, ◌-◌, ◌≤◌, List, [], ◌∷◌, ◌≡◌, ℤ, pos, length, None}
 use Rattle.num.specs.Numbers.{smaller_of, larger_of}
 use Rattle.column.specs.Questions.{offsets_valid, sequences_valid}
 use Rattle.many.specs.Calls.{most_columns}
@@ -16,8 +15,8 @@ pub record Combinable (os : List ℕ) (es vs : List ℤ) (is : List ℕ) (e v : 
 
 -- every question of zip_many answered "yes"
 pub record Zippable (os : List ℕ) (es vs e v : List ℤ) : Type 0 where
-  pub offsets : offsets_valid os (length es) ≡ none
-  pub valid : sequences_valid os es ≡ none
+  pub offsets : offsets_valid os (length es) ≡ None
+  pub valid : sequences_valid os es ≡ None
   pub columns : length os - 1 ≤ most_columns
   pub paired : length es ≡ length vs
   pub room_ends : length es ≤ length e

@@ -1,7 +1,6 @@
 // Workers that assume what the call has asked. The ends are valid.
-ghost use Rattle.std.specs.Prelude.{◌<◌, ◌≡◌, length};
+ghost use Rattle.std.specs.Prelude.{◌<◌, ◌≡◌, length, Some};
 ghost use Rattle.num.specs.Numbers.{operation};
-ghost use Rattle.column.specs.declared.answer.Fill.TheVariants.{Value};
 ghost use Rattle.column.specs.Combine.{many, folded, combined};
 ghost use Rattle.column.specs.Flat.{columns, flat};
 ghost use Rattle.column.specs.Runs.{Fills};
@@ -18,10 +17,8 @@ fn fold_by(code: u8, shown: &[i64]) -> i64
     ensures { result ≡ folded (operation code) shown.now }
 {
     let mut value = shown[0];
-    let mut c: usize = 1;
-    while c < shown.len() {
+    for c in 1..shown.len() {
         value = num::apply(code, value, shown[c]);
-        c += 1;
     }
     value
 }
@@ -60,7 +57,7 @@ fn zip_walk(
 ) -> usize
     requires { Combinable offsets.now ends.now values.now places.old out_ends.old out_values.old
         × Paired ends.now values.now places.old current.old shown.old }
-    ensures { Fills (combined (operation code) (many (Value fill) (columns (flat offsets.now ends.now values.now)))) out_ends out_values result }
+    ensures { Fills (combined (operation code) (many (Some fill) (columns (flat offsets.now ends.now values.now)))) out_ends out_values result }
 {
     if ends.len() == 0 {
         return 0;
@@ -87,7 +84,7 @@ pub fn zip_many(
     out_values: &mut [i64],
 ) -> usize
     requires { Zippable offsets.now ends.now values.now out_ends.old out_values.old }
-    ensures { Fills (combined (operation code) (many (Value fill) (columns (flat offsets.now ends.now values.now)))) out_ends out_values result }
+    ensures { Fills (combined (operation code) (many (Some fill) (columns (flat offsets.now ends.now values.now)))) out_ends out_values result }
 {
     let k = offsets.len() - 1;
     let mut places = [0usize; rle::Rle::MAX_COLUMNS];

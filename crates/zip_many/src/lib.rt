@@ -12,7 +12,8 @@ ghost use Rattle.column.specs.Runs.{length_of_ends};
 ghost use Rattle.zip_many.specs.Calls as calls;
 ghost use Rattle.zip_many.specs.Workers.{LengthsOf};
 
-use column::answer::{Asked, Counted, Fill};
+use column::error::Refusal;
+use column::sequence;
 
 // The least and the greatest length of columns.
 #[derive(Clone, Copy)]
@@ -32,35 +33,34 @@ fn least_and_greatest(offsets: &[usize], ends: &[i64]) -> Lengths
     }
     let mut least = many::inner::length_at(offsets, ends, 0);
     let mut greatest = least;
-    let mut c: usize = 1;
-    while c + 1 < offsets.len() {
+    for c in 1..sequence::count(offsets) {
         let length = many::inner::length_at(offsets, ends, c);
         least = num::smaller(least, length);
         greatest = num::larger(greatest, length);
-        c += 1;
     }
     Lengths { least, greatest }
 }
 
 // The least and the greatest length stand for all: a column that is shorter than another lacks its fill exactly if the shortest does.
+#[tactic(auto, using(plan::proofs::InTurn::in_turn), unfolding(crate::specs::Calls::zip_many_asked))]
 fn zip_many_asks(
     offsets: &[usize],
     ends: &[i64],
     values: &[i64],
-    fill: Fill,
+    fill: Option<i64>,
     code: u8,
     out_ends: usize,
     out_values: usize,
-) -> Asked
+) -> Result<(), Refusal>
     ensures { shown_asked result ≡ calls.zip_many_asked (flat offsets.now ends.now values.now) fill code (out_ends ∷ out_values ∷ []) }
 {
-    let k = many::columns(offsets);
+    let k = sequence::count(offsets);
     let lengths = least_and_greatest(offsets, ends);
-    questions::ask_code(0, 9, code)
-        .and(questions::ask_flat(offsets, ends, values))
-        .and(questions::ask_columns(rle::Rle::MAX_COLUMNS, k))
-        .and(questions::ask_fills(lengths.least, lengths.greatest, fill, fill))
-        .and(questions::ask_both(ends.len(), out_ends, out_values))
+    questions::ask_code(0, 9, code)?;
+    questions::ask_flat(offsets, ends, values)?;
+    questions::ask_columns(rle::Rle::MAX_COLUMNS, k)?;
+    questions::ask_fills(lengths.least, lengths.greatest, fill, fill)?;
+    questions::ask_both(ends.len(), out_ends, out_values)
 }
 
 // Many columns combined position by position, folded from the first, merged.
@@ -68,14 +68,14 @@ pub fn zip_many(
     offsets: &[usize],
     ends: &[i64],
     values: &[i64],
-    fill: Fill,
+    fill: Option<i64>,
     code: u8,
     out_ends: &mut [i64],
     out_values: &mut [i64],
-) -> Counted
+) -> Result<usize, Refusal>
     ensures { WritesRuns (calls.zip_many (flat offsets.now ends.now values.now) fill code) out_ends out_values result }
 {
-    let asked = zip_many_asks(
+    zip_many_asks(
         offsets,
         ends,
         values,
@@ -83,20 +83,15 @@ pub fn zip_many(
         code,
         out_ends.len(),
         out_values.len(),
+    )?;
+    let n = inner::zip_many(
+        offsets,
+        ends,
+        values,
+        fill.unwrap_or(0),
+        code,
+        out_ends,
+        out_values,
     );
-    match asked {
-        Asked::Yes => {
-            let n = inner::zip_many(
-                offsets,
-                ends,
-                values,
-                fill.value(),
-                code,
-                out_ends,
-                out_values,
-            );
-            Counted::Count(n)
-        }
-        Asked::No(r) => Counted::Refused(r),
-    }
+    Ok(n)
 }

@@ -1,24 +1,16 @@
-use mathlib.Core.Path.{sym, ◌∙◌}
-use Rattle.column.proofs.Promised.{asked-yes, asked_no, value-answered, value-refused}
+use mathlib.Core.Path.{sym}
+use Rattle.column.proofs.Promised.{value-answered, value-refused}
 use Rattle.equals.specs.Calls.{equals}
 use Rattle.equals.proofs.Asks.{equals-yes}
 use Rattle.equals.proofs.equals.Goals as goal
 
 pub equals-requires : goal.equals-requires
-equals-requires c = equals-yes _ _ _ _ (asked-yes c.equals_asks-asked.ensures c.in-Yes.is)
+equals-requires c = equals-yes _ _ _ _ (sym c.in_ok-equals_asks.ensures)
 
-pub returns-then-equals : goal.returns-then-equals
+pub returns : goal.returns
 unfolding equals
-returns-then-equals c =
-    value-answered (asked-yes c.equals_asks-asked.ensures c.in-Yes.is)
-    (sym c.if-equals.true ∙ c.equals.ensures)
+returns c = value-answered (sym c.in_ok-equals_asks.ensures) c.equals.ensures
 
-pub returns-else-equals : goal.returns-else-equals
+pub returns-in_err-equals_asks : goal.returns-in_err-equals_asks
 unfolding equals
-returns-else-equals c =
-    value-answered (asked-yes c.equals_asks-asked.ensures c.in-Yes.is)
-    (sym c.if-equals.false ∙ c.equals.ensures)
-
-pub returns-in-No : goal.returns-in-No
-unfolding equals
-returns-in-No c = value-refused _ (asked_no _ c.equals_asks-asked.ensures c.in-No.is)
+returns-in_err-equals_asks c = value-refused _ _ _ c.from_residual.ensures.1 c.in_err-equals_asks.ensures

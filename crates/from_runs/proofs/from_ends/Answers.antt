@@ -1,12 +1,12 @@
-use Rattle.column.proofs.Promised.{asked-yes, asked_no, value-answered, value-refused}
-use mathlib.Core.Path.{refl}
+use Rattle.column.proofs.Promised.{value-answered, value-refused}
+use mathlib.Core.Path.{refl, sym}
 use Rattle.from_runs.specs.Calls.{from_ends}
 use Rattle.from_runs.proofs.from_ends.Goals as goal
 
-pub returns-in-Yes : goal.returns-in-Yes
+pub returns : goal.returns
 unfolding from_ends
-returns-in-Yes c = value-answered (asked-yes c.ask_sequence-asked.ensures c.in-Yes.is) refl
+returns c = value-answered (sym c.in_ok-ask_sequence.ensures) refl
 
-pub returns-in-No : goal.returns-in-No
+pub returns-in_err-ask_sequence : goal.returns-in_err-ask_sequence
 unfolding from_ends
-returns-in-No c = value-refused tt (asked_no _ c.ask_sequence-asked.ensures c.in-No.is)
+returns-in_err-ask_sequence c = value-refused tt _ _ c.from_residual.ensures.1 c.in_err-ask_sequence.ensures

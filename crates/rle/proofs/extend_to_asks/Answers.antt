@@ -1,27 +1,26 @@
-use Rattle.rle.specs.Calls.{present_length, extend_to_asked}
-use Rattle.rle.proofs.Asks.{used-ends, used-length, used-room}
-use Rattle.num.proofs.Bits.{back}
-use Rattle.column.proofs.FirstNo.{asks-first, asks_then}
-use Rattle.column.specs.Questions.{long_enough}
-use Rattle.column.specs.Runs.{sequence}
-use lib.IntN.{pos}
-use mathlib.Core.List.{[], ◌∷◌}
 use mathlib.Core.Path.{ap, ◌∙◌}
 use native.Mathlib.Omega.{arith}
 use mir.Facts.{to_z-of_z}
+use Rattle.num.proofs.Bits.{back}
+use Rattle.column.specs.Questions.{long_enough}
+use Rattle.column.proofs.FirstNo.{ends_at, goes_on, alone}
+use Rattle.rle.specs.Calls.{extend_to_asked}
+use Rattle.rle.proofs.Asks.{used-length, used-room}
 use Rattle.rle.proofs.extend_to_asks.Goals as goal
+
+pub returns-in_err-ask_length : goal.returns-in_err-ask_length
+unfolding extend_to_asked
+returns-in_err-ask_length c =
+    let required = back _ c.length-required.type_inv ∙ c.length-required.ensures in
+    let present = used-length _ _ _ c.in_ok-ask_used.ensures c.part-present.ensures c.in_ok-ask_ends.ensures required in
+    let long = rw (to_z-of_z c.ranges.length) at c.in_err-ask_length.ensures ∙ ap (long_enough c.args.length) present in
+    grind (arith, ends_at, goes_on, long)
 
 pub returns : goal.returns
 unfolding extend_to_asked
 returns c =
-    let a = c.args in
-    let e = a.ends.now in
-    let v = a.values.now in
-    let f = to_z-of_z c.ranges.length in
-    let reached = long_enough a.length (pos (present_length a.used (sequence e v))) in
-    let present = back _ c.length-required.type_inv ∙ c.length-required.ensures in
-    let asked = asks-first c.ask_used.ensures in
-    let asked = asks_then asked c.and.ensures (λ y. used-ends e v a.used c.part-present.ensures c.ask_ends.ensures) in
-    let asked = asks_then asked c.and-2.ensures
-    (λ y. rw f at c.ask_length.ensures ∙ ap (long_enough a.length) (used-length e v a.used [] y c.part-present.ensures present)) in
-    (asks_then asked c.and-3.ensures (λ y. used-room e v a.used (reached ∷ []) y (omega arith) c.room_for_one.ensures)).told
+    let required = back _ c.length-required.type_inv ∙ c.length-required.ensures in
+    let present = used-length _ _ _ c.in_ok-ask_used.ensures c.part-present.ensures c.in_ok-ask_ends.ensures required in
+    let long = rw (to_z-of_z c.ranges.length) at c.in_ok-ask_length.ensures ∙ ap (long_enough c.args.length) present in
+    let room = used-room _ _ _ c.in_ok-ask_used.ensures (omega arith) c.room_for_one.ensures in
+    grind (arith, goes_on, alone, long, room)

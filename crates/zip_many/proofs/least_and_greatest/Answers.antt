@@ -10,16 +10,10 @@ returns-then-offsets-lt2 c = let a = c.args in ranging_none a.offsets.now a.ends
 pub loop-c-init : goal.loop-c-init
 loop-c-init c = let e = back _ c.length_at-least.type_inv ∙ c.length_at-least.ensures in ranging_start _ _ c.if-offsets-lt2.false e e
 
-pub overflow_add-c : goal.overflow_add-c
-overflow_add-c c = omega (arith, c.loop-c.invariant.inside)
-
-pub loop-c-smaller : goal.loop-c-smaller
-loop-c-smaller c = omega arith
-
 pub loop-c-preserved : goal.loop-c-preserved
 loop-c-preserved c =
-    ranging_next _ _ c.loop-c.invariant c.loop-c-test.true (back _ c.length_at-length.type_inv ∙ c.length_at-length.ensures)
+    ranging_next _ _ c.loop-c.invariant (omega arith) (back _ c.length_at-length.type_inv ∙ c.length_at-length.ensures)
     (back _ c.smaller-least.type_inv ∙ c.smaller-least.ensures) (back _ c.larger-greatest.type_inv ∙ c.larger-greatest.ensures)
 
 pub returns : goal.returns
-returns c = ranging_end _ _ c.loop-c.invariant c.loop-c-test.false
+returns c = ranging_end _ _ c.loop-c.invariant (omega arith)

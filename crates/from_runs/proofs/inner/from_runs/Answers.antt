@@ -1,4 +1,3 @@
-use native.Mathlib.Omega.{arith}
 use lib.IntN.{pos}
 use lib.ListN.{get_or}
 use mir.Facts.{to_z-of_z}
@@ -9,17 +8,8 @@ use Rattle.from_runs.proofs.inner.from_runs.Goals as goal
 pub loop-i-init : goal.loop-i-init
 loop-i-init c = inv-start _ _ _ _ c.requires.1
 
-pub bounds-values-i : goal.bounds-values-i
-bounds-values-i c = omega arith
-
 pub overflow_add-end : goal.overflow_add-end
 overflow_add-end c = inv-fits c.loop-i.invariant c.loop-i-test.true (back _ c.run-1.given)
-
-pub put_run-n-requires : goal.put_run-n-requires
-put_run-n-requires c =
-    let inv = c.loop-i.invariant in
-    let t = c.loop-i-test.true in
-    (omega (arith, t, inv.few, inv.long_ends, c.requires.2), omega (arith, t, inv.few, inv.long_values, c.requires.3))
 
 pub loop-i-preserved : goal.loop-i-preserved
 loop-i-preserved c =
@@ -27,12 +17,6 @@ loop-i-preserved c =
     let s = c.requires in
     let r = back (get_or c.args.runs.now c.loop-i.i (pos 0)) c.run-1.given in
     inv-more c.loop-i.invariant t s.0 s.2 s.3 r (back _ c.value-1.given) (to_z-of_z (inv-fits c.loop-i.invariant t r)) c.put_run-n.ensures
-
-pub shape_of-out_ends : goal.shape_of-out_ends
-shape_of-out_ends c = c.loop-i.invariant.long_ends
-
-pub shape_of-out_values : goal.shape_of-out_values
-shape_of-out_values c = c.loop-i.invariant.long_values
 
 pub returns : goal.returns
 returns c = inv-end c.loop-i.invariant c.loop-i-test.false

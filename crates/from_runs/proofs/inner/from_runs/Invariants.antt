@@ -1,5 +1,5 @@
-use Prim.Native.Nat.{ℕ, ◌+◌, ◌-◌, ◌≤◌, ◌<◌}
-use mathlib.Core.Option.{none}
+use Prim.Native.Nat.{ℕ, ◌+◌, ◌≤◌, ◌<◌}
+use Rattle.std.specs.Prelude.{None}
 use mathlib.Core.List.{List, [], ◌++◌, append-nil, append_assoc}
 use mathlib.Core.Path.{◌≡◌, refl, sym, ap, ◌∙◌}
 use native.Mathlib.Omega.{arith}
@@ -23,14 +23,13 @@ pub record Inv (runs values e₀ v₀ e v : List ℤ) (end : ℤ) (n i : ℕ) : 
   pub done : Runs
   pub filled : Filled done e₀ e v₀ v n
   pub whole : runs_from 0 runs values ≡ done ++ runs_from p (drop i runs) (drop i values)
-  pub yes : run_by_run i p (drop i runs) ≡ none
+  pub yes : run_by_run i p (drop i runs) ≡ None
   pub reached : end ≡ pos p
-  pub within : i ≤ length runs
   pub few : n ≤ i
   pub long_ends : length e ≡ length e₀
   pub long_values : length v ≡ length v₀
 
-pub inv-start : (runs values e₀ v₀ : List ℤ) → run_by_run 0 0 runs ≡ none → Inv runs values e₀ v₀ e₀ v₀ (pos 0) 0 0
+pub inv-start : (runs values e₀ v₀ : List ℤ) → run_by_run 0 0 runs ≡ None → Inv runs values e₀ v₀ e₀ v₀ (pos 0) 0 0
 inv-start runs values e₀ v₀ h = record {
   p = 0;
   done = [];
@@ -38,7 +37,6 @@ inv-start runs values e₀ v₀ h = record {
   whole = refl;
   yes = h;
   reached = refl;
-  within = omega arith;
   few = omega arith;
   long_ends = refl;
   long_values = refl;
@@ -79,7 +77,6 @@ module _ {runs values e₀ v₀ e v : List ℤ} {end : ℤ} {n i : ℕ} (m : Inv
           whole = m.whole ∙ ap (λ (l : Runs). m.done ++ l) next ∙ sym (append_assoc m.done (one m.p k x) rest);
           yes = runs-yes m.p i runs h m.yes;
           reached = q;
-          within = omega arith;
           few = let s = put_few d in omega (arith, m.few);
           long_ends = put_long_ends d ∙ m.long_ends;
           long_values = put_long_values d ∙ m.long_values;
@@ -87,6 +84,3 @@ module _ {runs values e₀ v₀ e v : List ℤ} {end : ℤ} {n i : ℕ} (m : Inv
 
 abbrev pub invariant-loop-i : goal.invariant-loop-i
 invariant-loop-i l = Inv l.runs l.values l.initial.out_ends l.initial.out_values l.out_ends l.out_values l.end l.n l.i
-
-abbrev pub decreases-loop-i : goal.decreases-loop-i
-decreases-loop-i l = length l.runs - l.i

@@ -8,15 +8,6 @@ use Rattle.many.proofs.inner.plan_many.Goals as goal
 pub overflow_sub-k : goal.overflow_sub-k
 overflow_sub-k c = omega (arith, offsets-some _ _ c.requires.offsets)
 
-pub slice_bounds-plan_walk-end : goal.slice_bounds-plan_walk-end
-slice_bounds-plan_walk-end c = let q = c.requires in sym (length_front 0 _ 128 q.columns)
-
-pub slice_bounds-plan_walk-end-2 : goal.slice_bounds-plan_walk-end-2
-slice_bounds-plan_walk-end-2 c = let q = c.requires in sym (length_front 0 _ 128 q.columns)
-
-pub slice_bounds-plan_walk-end-3 : goal.slice_bounds-plan_walk-end-3
-slice_bounds-plan_walk-end-3 c = let q = c.requires in sym (length_front (pos 0) _ 128 q.columns)
-
 pub plan_walk-requires : goal.plan_walk-requires
 plan_walk-requires c =
     let q = c.requires in (

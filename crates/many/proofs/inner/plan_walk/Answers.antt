@@ -14,9 +14,6 @@ step-end-requires c = (walk_placed _ _ c.requires.0, c.requires.1.paired, c.read
 pub loop-end-init : goal.loop-end-init
 loop-end-init c = (planning-start _ _ _ _ c.requires.0 c.step-end.ensures.0, c.step-end.ensures.1)
 
-pub overflow_cast-out_ends : goal.overflow_cast-out_ends
-overflow_cast-out_ends c = record { sfits = c.loop-end.invariant.0.walk.small c.loop-end-test.true }
-
 pub offset_bounds-out_ends-n : goal.offset_bounds-out_ends-n
 offset_bounds-out_ends-n c = omega (arith, planning-ends c.loop-end.invariant.0 c.loop-end-test.true c.requires.2 c.requires.3)
 
@@ -29,9 +26,6 @@ overflow_add-n c = omega (arith, planning-ends c.loop-end.invariant.0 c.loop-end
 pub put_places-m-requires : goal.put_places-m-requires
 put_places-m-requires c = planning-indexes c.loop-end.invariant.0 c.loop-end-test.true c.requires.2 c.requires.3
 
-pub step-end-requires-in-loop-end : goal.step-end-requires-in-loop-end
-step-end-requires-in-loop-end c = (c.loop-end.invariant.0.walk.placed, c.requires.1.paired, c.loop-end.invariant.1, c.loop-end-test.true)
-
 pub loop-end-smaller : goal.loop-end-smaller
 loop-end-smaller c = walk-less c.loop-end.invariant.0.walk c.loop-end-test.true c.step-end-in-loop-end.ensures.0
 
@@ -43,21 +37,6 @@ loop-end-preserved c =
       planning-next c.loop-end.invariant.0 more c.requires.2 c.requires.3 end places.ensures.0 places.auto.out places.ensures.1 c.step-end-in-loop-end.ensures.0,
       c.step-end-in-loop-end.ensures.1,
     )
-
-pub shape_of-places : goal.shape_of-places
-shape_of-places c = omega (arith, c.loop-end.invariant.0.walk.placed.count, (walk_placed _ _ c.requires.0).count)
-
-pub shape_of-current : goal.shape_of-current
-shape_of-current c = omega (arith, c.loop-end.invariant.0.walk.placed.count, (walk_placed _ _ c.requires.0).count, c.loop-end.invariant.1.long_ends, c.requires.1.room_ends)
-
-pub shape_of-shown : goal.shape_of-shown
-shape_of-shown c = omega (arith, c.loop-end.invariant.0.walk.placed.count, (walk_placed _ _ c.requires.0).count, c.loop-end.invariant.1.long_values, c.requires.1.room_values)
-
-pub shape_of-out_ends : goal.shape_of-out_ends
-shape_of-out_ends c = c.loop-end.invariant.0.ends.long
-
-pub shape_of-out_idx : goal.shape_of-out_idx
-shape_of-out_idx c = c.loop-end.invariant.0.long
 
 pub returns : goal.returns
 returns c = planning-end c.loop-end.invariant.0 c.loop-end-test.false

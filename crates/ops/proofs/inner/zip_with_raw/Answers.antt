@@ -1,83 +1,22 @@
-use Prim.Native.Nat.{◌+◌, ◌<◌}
-use mathlib.Core.Path.{◌≡◌, ◌∙◌}
-use native.Mathlib.Omega.{arith}
-use lib.ListN.{length}
+use mathlib.Core.Path.{◌∙◌}
 use mir.Facts.{to_z-of_z}
-use mir.Val.{to_z, of_z}
-use mir.Syntax.{w64}
 use Rattle.num.proofs.Bits.{back}
-use Rattle.plan.proofs.Walking.{walk-moves}
 use Rattle.plan.proofs.Step.{more_left, none_more}
-use Rattle.ops.proofs.Zips.{listed_start, listed-few, listed_next, listed-end}
+use Rattle.ops.proofs.Zips.{listed_start, listed_next, listed-end}
 use borrow.Author.Rules.{rules}
 use Rattle.ops.proofs.inner.zip_with_raw.Goals as goal
-
-pub start-here-requires : goal.start-here-requires
-start-here-requires c = (c.requires.valid_a, c.requires.valid_b)
 
 pub loop-here-init : goal.loop-here-init
 loop-here-init c = listed_start _ _ _ _ _ _ _ _ _ c.start-here.ensures
 
-pub next-segment-requires : goal.next-segment-requires
-next-segment-requires c =
-    let standing = c.loop-here.invariant.walk.standing in
-    record {
-      valid_a = c.requires.valid_a;
-      valid_b = c.requires.valid_b;
-      standing = standing;
-      unspent = (more_left standing c.more.ensures c.loop-here-test.true).0;
-    }
-
-pub offset_bounds-out_ends-n : goal.offset_bounds-out_ends-n
-offset_bounds-out_ends-n c =
-    let left : c.loop-here.here.a.index + c.loop-here.here.b.index < length c.args.a_ends.now + length c.args.b_ends.now = (more_left c.loop-here.invariant.walk.standing c.more.ensures c.loop-here-test.true).1 in
-    let few : c.loop-here.n < length c.args.a_ends.now + length c.args.b_ends.now = omega (arith, listed-few _ _ _ _ _ _ _ _ _ c.requires c.loop-here.invariant, left) in
-    omega (arith, few, c.requires.room_ends, c.well_formed)
-
-pub bounds-out_ends-n : goal.bounds-out_ends-n
-bounds-out_ends-n c =
-    let left : c.loop-here.here.a.index + c.loop-here.here.b.index < length c.args.a_ends.now + length c.args.b_ends.now = (more_left c.loop-here.invariant.walk.standing c.more.ensures c.loop-here-test.true).1 in
-    let few : c.loop-here.n < length c.args.a_ends.now + length c.args.b_ends.now = omega (arith, listed-few _ _ _ _ _ _ _ _ _ c.requires c.loop-here.invariant, left) in
-    omega (arith, few, c.loop-here.invariant.ends.long, c.requires.room_ends)
-
-pub offset_bounds-out_values-n : goal.offset_bounds-out_values-n
-offset_bounds-out_values-n c =
-    let left : c.loop-here.here.a.index + c.loop-here.here.b.index < length c.args.a_ends.now + length c.args.b_ends.now = (more_left c.loop-here.invariant.walk.standing c.more.ensures c.loop-here-test.true).1 in
-    let few : c.loop-here.n < length c.args.a_ends.now + length c.args.b_ends.now = omega (arith, listed-few _ _ _ _ _ _ _ _ _ c.requires c.loop-here.invariant, left) in
-    omega (arith, few, c.requires.room_ends, c.well_formed)
-
-pub bounds-out_values-n : goal.bounds-out_values-n
-bounds-out_values-n c =
-    let left : c.loop-here.here.a.index + c.loop-here.here.b.index < length c.args.a_ends.now + length c.args.b_ends.now = (more_left c.loop-here.invariant.walk.standing c.more.ensures c.loop-here-test.true).1 in
-    let few : c.loop-here.n < length c.args.a_ends.now + length c.args.b_ends.now = omega (arith, listed-few _ _ _ _ _ _ _ _ _ c.requires c.loop-here.invariant, left) in
-    omega (arith, few, c.loop-here.invariant.values.long, c.requires.room_values)
-
-pub overflow_add-n : goal.overflow_add-n
-overflow_add-n c =
-    let left : c.loop-here.here.a.index + c.loop-here.here.b.index < length c.args.a_ends.now + length c.args.b_ends.now = (more_left c.loop-here.invariant.walk.standing c.more.ensures c.loop-here-test.true).1 in
-    let few : c.loop-here.n < length c.args.a_ends.now + length c.args.b_ends.now = omega (arith, listed-few _ _ _ _ _ _ _ _ _ c.requires c.loop-here.invariant, left) in
-    omega (arith, few, c.requires.room_ends, c.well_formed)
-
-pub loop-here-smaller : goal.loop-here-smaller
-loop-here-smaller c =
-    let left : c.loop-here.here.a.index + c.loop-here.here.b.index < length c.args.a_ends.now + length c.args.b_ends.now = (more_left c.loop-here.invariant.walk.standing c.more.ensures c.loop-here-test.true).1 in
-    omega (arith, walk-moves _ _ c.loop-here.invariant.walk c.next-segment.ensures, left)
-
 pub loop-here-preserved : goal.loop-here-preserved
 loop-here-preserved c =
-    let left : c.loop-here.here.a.index + c.loop-here.here.b.index < length c.args.a_ends.now + length c.args.b_ends.now = (more_left c.loop-here.invariant.walk.standing c.more.ensures c.loop-here-test.true).1 in
-    let end : to_z w64 (of_z w64 c.next-segment.result.end) ≡ c.next-segment.result.end = search rules in
+    let (_, left) = more_left c.loop-here.invariant.walk.standing c.more.ensures c.loop-here-test.true in
     let value = back _ c.shown_at-value.type_inv ∙ c.shown_at-value.ensures in
-    listed_next _ _ _ _ _ _ _ _ _ c.requires c.loop-here.invariant c.next-segment.ensures end value left
-
-pub shape_of-out_ends : goal.shape_of-out_ends
-shape_of-out_ends c = c.loop-here.invariant.ends.long
-
-pub shape_of-out_values : goal.shape_of-out_values
-shape_of-out_values c = c.loop-here.invariant.values.long
+    listed_next _ _ _ _ _ _ _ _ _ c.requires c.loop-here.invariant c.next-segment.ensures (search rules) value left
 
 pub returns : goal.returns
 returns c =
     let k = c.loop-here.invariant in
-    let none = none_more k.walk.standing c.more.ensures c.loop-here-test.false in
-    rw (to_z-of_z c.ranges.fill_a, to_z-of_z c.ranges.fill_b) at (listed-end _ _ _ _ _ _ _ _ _ c.requires k none)
+    let spent = none_more k.walk.standing c.more.ensures c.loop-here-test.false in
+    rw (to_z-of_z c.ranges.fill_a, to_z-of_z c.ranges.fill_b) at (listed-end _ _ _ _ _ _ _ _ _ c.requires k spent)

@@ -3,7 +3,7 @@ use lib.IntN.{pos}
 use Rattle.num.proofs.Bits.{end_cast, end_nat}
 use Rattle.column.proofs.Naturals.{to_nat-below}
 use Rattle.column.proofs.Ends.{natural_end}
-use Rattle.plan.proofs.Step.{ahead-some, ahead_none, end-some, end_none}
+use Rattle.plan.proofs.Step.{ahead-some, end-some}
 use Rattle.plan.proofs.inner.end_at.Goals as goal
 
 pub overflow_cast-result : goal.overflow_cast-result
@@ -16,6 +16,3 @@ returns-then-index-ends c =
     let inside = c.if-index-ends.true in
     let end = end_nat (natural_end es i c.requires inside) c.end-1.given in
     end-some _ (ahead-some es i inside) end (to_nat-below (get_or es i (pos 0)) (record { sfits = c.end-1.given }))
-
-pub returns-else-index-ends : goal.returns-else-index-ends
-returns-else-index-ends c = end_none (ahead_none _ _ c.if-index-ends.false)

@@ -1,11 +1,9 @@
 use mathlib.Core.Path.{sym, ap, ◌∙◌}
-use native.Mathlib.Omega.{arith}
-use native.Mathlib.Nat.{le_of_lt}
 use mir.Syntax.{w64}
 use mir.Val.{to_z, of_z}
 use mir.Facts.{to_z-of_z}
 use Rattle.num.proofs.Bits.{back}
-use Rattle.rle.proofs.After.{present-length, extend_same, extend-at, extend-filled}
+use Rattle.rle.proofs.After.{present-length, extend_same, extend-filled}
 use Rattle.rle.proofs.inner.extend_to.Goals as goal
 
 pub returns-then-length-present : goal.returns-then-length-present
@@ -15,23 +13,6 @@ returns-then-length-present c =
     let told = present-length a.ends.now a.values.now a.used q.valid q.room_ends q.room_values in
     let x = back c.length-present.result c.length-present.type_inv ∙ told c.length-present.ensures c.part.ensures in
     extend_same _ _ _ _ q _ (sym (to_z-of_z c.ranges.length) ∙ ap (to_z w64) c.if-length-present.true ∙ x)
-
-pub last_run-writer-requires : goal.last_run-writer-requires
-last_run-writer-requires c = le_of_lt c.requires.room_values
-
-pub push_merged-next-requires : goal.push_merged-next-requires
-push_merged-next-requires c =
-    let q = c.requires in
-    let r = c.last_run-writer.ensures in
-    let p = extend-at _ _ _ _ q r.0 r.1 r.2 in
-    (omega (arith, r.0, q.room_ends), omega (arith, p, q.room_ends), omega (arith, p, q.room_values))
-
-pub overflow_add-result : goal.overflow_add-result
-overflow_add-result c =
-    let q = c.requires in
-    let r = c.last_run-writer.ensures in
-    let p = extend-at _ _ _ _ q r.0 r.1 r.2 in
-    omega (arith, p, q.room_ends, c.push_merged-next.ensures.place)
 
 pub returns : goal.returns
 returns c =

@@ -12,9 +12,6 @@ overflow_add-present c =
     let x = back c.length-present.result c.length-present.type_inv ∙ told c.length-present.ensures c.part.ensures in
     push_fits _ _ _ _ q x (to_z-of_z c.ranges.run)
 
-pub put_run-requires : goal.put_run-requires
-put_run-requires c = let q = c.requires in (q.room_ends, q.room_values)
-
 pub returns : goal.returns
 returns c =
     let a = c.args in

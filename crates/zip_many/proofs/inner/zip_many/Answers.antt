@@ -1,22 +1,12 @@
 use mathlib.Core.Path.{refl, ◌∙◌, sym}
 use native.Mathlib.Omega.{arith}
 use lib.IntN.{pos}
-use mir.Facts.{to_z-of_z}
 use Rattle.column.proofs.Flattened.{offsets-some}
 use Rattle.many.proofs.Walking.{take-zeros, length_front}
 use Rattle.zip_many.proofs.inner.zip_many.Goals as goal
 
 pub overflow_sub-k : goal.overflow_sub-k
 overflow_sub-k c = omega (arith, offsets-some _ _ c.requires.offsets)
-
-pub slice_bounds-zip_walk-end : goal.slice_bounds-zip_walk-end
-slice_bounds-zip_walk-end c = let q = c.requires in sym (length_front 0 _ 128 q.columns)
-
-pub slice_bounds-zip_walk-end-2 : goal.slice_bounds-zip_walk-end-2
-slice_bounds-zip_walk-end-2 c = let q = c.requires in sym (length_front 0 _ 128 q.columns)
-
-pub slice_bounds-zip_walk-end-3 : goal.slice_bounds-zip_walk-end-3
-slice_bounds-zip_walk-end-3 c = let q = c.requires in sym (length_front (pos 0) _ 128 q.columns)
 
 pub zip_walk-requires : goal.zip_walk-requires
 zip_walk-requires c =
@@ -29,6 +19,3 @@ zip_walk-requires c =
       },
       record { paired = q.paired; room_ends = refl; room_values = length_front (pos 0) _ 128 q.columns ∙ sym (length_front 0 _ 128 q.columns) },
     )
-
-pub returns : goal.returns
-returns c = rw (to_z-of_z c.ranges.fill) at c.zip_walk.ensures

@@ -32,20 +32,11 @@ loop-end-init c =
     let value = back _ c.fold-first.type_inv ∙ c.fold-first.ensures ∙ ap (folded (operation _)) (kept-shown kept walk.placed.count) in
     (zipped-start _ _ _ _ _ _ _ c.requires.0 c.step-end.ensures.0 value, kept)
 
-pub fold-value-requires : goal.fold-value-requires
-fold-value-requires c = omega (arith, c.loop-end.invariant.1.long_values, placed-some c.loop-end.invariant.0.walk.placed (omega (arith, c.if-ends-eq0.false)))
-
-pub overflow_cast-end : goal.overflow_cast-end
-overflow_cast-end c = record { sfits = c.loop-end.invariant.0.walk.small c.loop-end-test.true }
-
 pub push_merged-writer-requires : goal.push_merged-writer-requires
 push_merged-writer-requires c =
     let k = c.loop-end.invariant in
     let value = back _ c.fold-value.type_inv ∙ c.fold-value.ensures ∙ ap (folded (operation _)) (kept-shown k.1 k.0.walk.placed.count) in
     zipped-room _ _ _ _ _ _ _ c.requires.0 k.0 c.loop-end-test.true value (omega (arith, c.well_formed))
-
-pub step-end-requires-in-loop-end : goal.step-end-requires-in-loop-end
-step-end-requires-in-loop-end c = (c.loop-end.invariant.0.walk.placed, c.requires.0.paired, c.loop-end.invariant.1, c.loop-end-test.true)
 
 pub loop-end-smaller : goal.loop-end-smaller
 loop-end-smaller c = walk-less c.loop-end.invariant.0.walk c.loop-end-test.true c.step-end-in-loop-end.ensures.0
@@ -60,25 +51,6 @@ loop-end-preserved c =
 
 pub overflow_add-result : goal.overflow_add-result
 overflow_add-result c = omega (arith, zipped-last _ _ _ _ _ _ _ c.loop-end.invariant.0, c.well_formed)
-
-pub shape_of-places : goal.shape_of-places
-shape_of-places c = omega (arith, c.loop-end.invariant.0.walk.placed.count, (walk_placed _ _ c.requires.0.walkable).count)
-
-pub shape_of-current : goal.shape_of-current
-shape_of-current c =
-    let k = c.loop-end.invariant in
-    omega (arith, k.0.walk.placed.count, (walk_placed _ _ c.requires.0.walkable).count, k.1.long_ends, c.requires.1.room_ends)
-
-pub shape_of-shown : goal.shape_of-shown
-shape_of-shown c =
-    let k = c.loop-end.invariant in
-    omega (arith, k.0.walk.placed.count, (walk_placed _ _ c.requires.0.walkable).count, k.1.long_values, c.requires.1.room_values)
-
-pub shape_of-out_ends : goal.shape_of-out_ends
-shape_of-out_ends c = c.loop-end.invariant.0.merging.long_ends
-
-pub shape_of-out_values : goal.shape_of-out_values
-shape_of-out_values c = c.loop-end.invariant.0.merging.long_values
 
 pub returns : goal.returns
 returns c =

@@ -3,9 +3,6 @@ use mir.Facts.{to_z_pos}
 use Rattle.plan.proofs.Step.{least_fits, walks}
 use Rattle.plan.proofs.inner.Segments.next.Goals as goal
 
-pub overflow_cast-result : goal.overflow_cast-result
-overflow_cast-result c = record { sfits = rw c.smaller_count-end.ensures (least_fits c.requires.standing c.requires.unspent) }
-
 pub returns : goal.returns
 returns c =
     let f = least_fits c.requires.standing c.requires.unspent in
