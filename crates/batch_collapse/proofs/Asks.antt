@@ -2,35 +2,34 @@
 -- Assumes nothing.
 use Prim.Native.Nat.{ℕ, ◌+◌, ◌*◌, ◌≤◌}
 use mathlib.Core.Bool.{Bool, true}
-use mathlib.Core.Option.{none, some}
+use Rattle.std.specs.Prelude.{Some, None, Option}
 use mathlib.Core.List.{List, [], ◌∷◌, ◌++◌}
 use mathlib.Core.Path.{◌≡◌, ap, sym, ◌∙◌}
 use lib.IntN.{ℤ}
 use lib.ListN.{length}
 use Rattle.num.specs.Numbers.{operation}
-use Rattle.column.specs.declared.answer.Fill.{Fill}
 use Rattle.column.specs.Asking.{Question, first_no}
 use Rattle.column.specs.Paper.{PaperRefusal}
 use Rattle.column.specs.Questions.{listed, agree, room_at, room, both}
-use Rattle.column.proofs.FirstNo.{all_yes, asked-last, first_several}
+use Rattle.column.proofs.FirstNo.{all_yes, goes_on, alone, first_several}
 use Rattle.column.proofs.Told.{agree-told, room-told}
 use Rattle.column.proofs.YesNo.{room-each}
 use Rattle.batch.specs.Batch.{batch, lengths_asked, content_asked, batch_needs}
 use Rattle.batch.specs.Workers.{ValidBatch}
-use Rattle.batch.proofs.Asks.{batch-told}
+use Rattle.batch.proofs.Asks.{batch-told, first-refused}
 use Rattle.batch_keys.specs.Calls.{once}
 use Rattle.batch_collapse.specs.Calls.{collapse_asked, filled_groups, renamed, collapse_needs}
 use Rattle.batch_collapse.specs.Workers.{Together, Grouped, CollapseRoom}
 
 module _ (ks os : List ℕ) (es vs : List ℤ) (new_keys : List ℕ) (code : ℕ) where
-  pub collapse-told : collapse_asked (batch ks os es vs) new_keys code ≡ none → ValidBatch (batch ks os es vs) × (length new_keys ≡ length ks)
+  pub collapse-told : collapse_asked (batch ks os es vs) new_keys code ≡ None → ValidBatch (batch ks os es vs) × (length new_keys ≡ length ks)
   unfolding collapse_asked
   collapse-told h =
       let y = all_yes (listed 0 9 code ∷ first_no (lengths_asked (batch ks os es vs)) ∷ agree 4 (length new_keys) (length ks)
       ∷ first_no (content_asked (batch ks os es vs)) ∷ []) h in
       (batch-told ks os es vs y.1.0 y.1.1.1.0, agree-told 4 (length new_keys) (length ks) y.1.1.0)
 
-  pub grouped : {together : Bool} → collapse_asked (batch ks os es vs) new_keys code ≡ none → (together ≡ true → Together new_keys)
+  pub grouped : {together : Bool} → collapse_asked (batch ks os es vs) new_keys code ≡ None → (together ≡ true → Together new_keys)
       → Grouped (batch ks os es vs) new_keys together
   grouped h f = let y = collapse-told h in record { valid = y.0; renamed = y.1; known = f }
 
@@ -60,7 +59,7 @@ module _ (keys runs k x e v s t : ℕ) where
     pub for_scratch_ends : 2 * runs ≤ s
     pub for_scratch_values : 2 * runs ≤ t
 
-  pub rooms-told : room (batch_needs keys runs ++ both (2 * runs)) (k ∷ x ∷ e ∷ v ∷ s ∷ t ∷ []) ≡ none → Rooms
+  pub rooms-told : room (batch_needs keys runs ++ both (2 * runs)) (k ∷ x ∷ e ∷ v ∷ s ∷ t ∷ []) ≡ None → Rooms
   rooms-told h =
       let y = all_yes six (sym (room-each (batch_needs keys runs ++ both (2 * runs)) (k ∷ x ∷ e ∷ v ∷ s ∷ t ∷ [])) ∙ h) in
       record {
@@ -72,34 +71,37 @@ module _ (keys runs k x e v s t : ℕ) where
         for_scratch_values = room-told 5 (2 * runs) t y.1.1.1.1.1.0;
       }
 
--- ---- all of them
-
-module _ (ks os : List ℕ) (es vs : List ℤ) (new_keys : List ℕ) (fill : Fill) (code : ℕ) (k x : List ℕ) (e v s t : List ℤ) where
-  abbrev groups : Question
-  groups = filled_groups (operation code) fill (renamed (batch ks os es vs) new_keys) (once new_keys)
-
+module _ (ks os : List ℕ) (es vs : List ℤ) (k x : List ℕ) (e v s t : List ℤ) where
   abbrev space : Question
   space = room (collapse_needs (batch ks os es vs)) (length k ∷ length x ∷ length e ∷ length v ∷ length s ∷ length t ∷ [])
 
+  pub all_room : None ≡ space → CollapseRoom (batch ks os es vs) k x e v s t
+  all_room h =
+      let r = rooms-told (length ks) (length es) (length k) (length x) (length e) (length v) (length s) (length t) (sym h) in
+      record {
+        room_keys = r.for_keys;
+        room_offsets = r.for_offsets;
+        room_ends = r.for_ends;
+        room_values = r.for_values;
+        scratch_ends = r.for_scratch_ends;
+        scratch_values = r.for_scratch_values;
+      }
+
+-- ---- all of them
+
+module _ (ks os : List ℕ) (es vs : List ℤ) (new_keys : List ℕ) (fill : Option ℤ) (code : ℕ) (k x : List ℕ) (e v s t : List ℤ) where
+  abbrev groups : Question
+  groups = filled_groups (operation code) fill (renamed (batch ks os es vs) new_keys) (once new_keys)
+
+  abbrev last : Question
+  last = space ks os es vs k x e v s t
+
   abbrev pub every_asked : Question
-  every_asked = first_no (collapse_asked (batch ks os es vs) new_keys code ∷ groups ∷ space ∷ [])
+  every_asked = first_no (collapse_asked (batch ks os es vs) new_keys code ∷ groups ∷ last ∷ [])
 
-  pub all-refused : {r : PaperRefusal} → collapse_asked (batch ks os es vs) new_keys code ≡ some r → every_asked ≡ some r
-  all-refused h = rw h
+  module _ (yes : collapse_asked (batch ks os es vs) new_keys code ≡ None) where
+    pub groups-refused : {r : PaperRefusal} → Some r ≡ groups → Some r ≡ every_asked
+    groups-refused h = goes_on (groups ∷ last ∷ []) (sym yes) (first-refused (last ∷ []) h)
 
-  module _ (yes : collapse_asked (batch ks os es vs) new_keys code ≡ none) where
-    pub all_asked : {r a b : Question} → r ≡ first_no (a ∷ b ∷ []) → a ≡ groups → b ≡ space → r ≡ every_asked
-    all_asked hr ha hb = asked-last groups hr ha (λ y. hb) ∙ sym (rw yes)
-
-    pub all_room : every_asked ≡ none → CollapseRoom (batch ks os es vs) k x e v s t
-    all_room h =
-        let y = all_yes (collapse_asked (batch ks os es vs) new_keys code ∷ groups ∷ space ∷ []) h in
-        let r = rooms-told (length ks) (length es) (length k) (length x) (length e) (length v) (length s) (length t) y.1.1.0 in
-        record {
-          room_keys = r.for_keys;
-          room_offsets = r.for_offsets;
-          room_ends = r.for_ends;
-          room_values = r.for_values;
-          scratch_ends = r.for_scratch_ends;
-          scratch_values = r.for_scratch_values;
-        }
+    pub all_asked : {r : Question} → None ≡ groups → r ≡ last → r ≡ every_asked
+    all_asked g h = goes_on (groups ∷ last ∷ []) (sym yes) (goes_on (last ∷ []) g (h ∙ sym (alone last)))

@@ -2,7 +2,7 @@
 -- Assumes nothing.
 use Prim.Native.Nat.{ℕ, zero, suc, ◌+◌, ◌*◌, ◌-◌, ◌≤◌, ◌<◌}
 use mathlib.Core.Bool.{Bool}
-use mathlib.Core.Option.{none, some}
+use Rattle.std.specs.Prelude.{Some, None, Option, Result, Ok, IsErrAnd}
 use mathlib.Core.List.{List, [], ◌∷◌, map}
 use mathlib.Core.Path.{◌≡◌, refl, ap, ap₂, sym, ◌∙◌}
 use native.Mathlib.Numerals.{add-one}
@@ -12,9 +12,6 @@ use lib.IntN.{ℤ}
 use lib.ListN.{length, get_or, take, drop, set, length-map, length-set}
 use lib.Seq.{drop-cons}
 use Rattle.num.specs.Numbers.{operation}
-use Rattle.column.specs.declared.answer.Batched.{Batched}
-use Rattle.column.specs.declared.answer.Fill.{Fill}
-use Rattle.column.specs.declared.answer.Fill.TheVariants.{Value}
 use Rattle.column.specs.declared.answer.RleBatch.{RleBatch}
 use Rattle.column.specs.declared.error.Refusal.{Refusal}
 use Rattle.column.specs.Asking.{Question}
@@ -52,7 +49,7 @@ at_map f [] n d e h = let z : ⊥ = omega arith in absurd z
 at_map f (x ∷ xs) zero d e h = refl
 at_map f (x ∷ xs) (suc n) d e h = at_map f xs n d e (omega arith)
 
-module _ (op : ℤ → ℤ → ℤ) (fill : Fill) (ks os : List ℕ) (es vs : List ℤ) (new_keys : List ℕ) where
+module _ (op : ℤ → ℤ → ℤ) (fill : Option ℤ) (ks os : List ℕ) (es vs : List ℤ) (new_keys : List ℕ) where
   abbrev entries : List Entry
   entries = renamed (batch ks os es vs) new_keys
 
@@ -168,36 +165,36 @@ module _ (op : ℤ → ℤ → ℤ) (fill : Fill) (ks os : List ℕ) (es vs : Li
 
 -- ---- a fill that is missing shows nowhere: the result is that of its value
 
-from-filled : (op : ℤ → ℤ → ℤ) (fill : Fill) (sofar : Runs) (ms : List Runs) → collapse_from op (Value
-    (value_of fill)) sofar ms ≡ collapse_from op fill sofar ms
+from-filled : (op : ℤ → ℤ → ℤ) (fill : Option ℤ) (sofar : Runs) (ms : List Runs) → collapse_from op (Some (value_of fill)) sofar ms
+    ≡ collapse_from op fill sofar ms
 unfolding collapse_from combined table greatest_length row_at value_at
 from-filled op fill sofar [] = refl
 from-filled op fill sofar (m ∷ ms) = from-filled op fill (combined op (two fill fill sofar m)) ms
 
-runs-filled : (op : ℤ → ℤ → ℤ) (fill : Fill) (ms : List Runs) → collapse_runs op (Value (value_of fill)) ms ≡ collapse_runs op fill ms
+runs-filled : (op : ℤ → ℤ → ℤ) (fill : Option ℤ) (ms : List Runs) → collapse_runs op (Some (value_of fill)) ms ≡ collapse_runs op fill ms
 unfolding collapse_runs
 runs-filled op fill [] = refl
 runs-filled op fill (m ∷ ms) = from-filled op fill (encode (dense m)) ms
 
-keys_filled : (op : ℤ → ℤ → ℤ) (fill : Fill) (es : List Entry) (groups : List ℕ)
-    → map (collapse_key op (Value (value_of fill)) es) groups ≡ map (collapse_key op fill es) groups
+keys_filled : (op : ℤ → ℤ → ℤ) (fill : Option ℤ) (es : List Entry) (groups : List ℕ)
+    → map (collapse_key op (Some (value_of fill)) es) groups ≡ map (collapse_key op fill es) groups
 keys_filled op fill es [] = refl
 keys_filled op fill es (k ∷ groups) =
     ap₂ (λ (r : Runs) (l : List Entry). record { key = k; runs = r } ∷ l) (runs-filled op fill (members es k)) (keys_filled op fill es groups)
 
 -- ---- what the worker left, after a "yes" to every question, is what the call promises; and so is what was there, after a "no"
 
-module _ (ks os : List ℕ) (es vs : List ℤ) (new_keys : List ℕ) (fill : Fill) (code : ℕ) (k x : List ℕ) (e v s t : List ℤ) where
+module _ (ks os : List ℕ) (es vs : List ℤ) (new_keys : List ℕ) (fill : Option ℤ) (code : ℕ) (k x : List ℕ) (e v s t : List ℤ) where
   abbrev asked : Question
   asked = every_asked ks os es vs new_keys fill code k x e v s t
 
   abbrev outcome : Outcome (List Entry)
   outcome = collapse (batch ks os es vs) new_keys fill code (length k ∷ length x ∷ length e ∷ length v ∷ length s ∷ length t ∷ [])
 
-  pub collapse-written : {k' x' : List ℕ} {e' v' s' t' : List ℤ} {r : RleBatch} {w : ℤ} → asked ≡ none → w ≡ value_of fill
-      → FilledGroups (map (collapse_key (operation code) (Value w) (renamed (batch ks os es vs) new_keys)) (once new_keys)) (2 * length es)
+  pub collapse-written : {k' x' : List ℕ} {e' v' s' t' : List ℤ} {r : RleBatch} {w : ℤ} → asked ≡ None → w ≡ value_of fill
+      → FilledGroups (map (collapse_key (operation code) (Some w) (renamed (batch ks os es vs) new_keys)) (once new_keys)) (2 * length es)
       k k' x x' e e' v v' s s' t t' r
-      → WrittenCollapse outcome (2 * length es) (Batched.Batch r) k k' x x' e e' v v' s s' t t'
+      → WrittenCollapse outcome (2 * length es) (Ok r) k k' x x' e e' v v' s s' t t'
   unfolding collapse
   collapse-written {k'} {x'} {e'} {v'} {s'} {t'} {r} h ew f =
       let rs = map (collapse_key (operation code) fill (renamed (batch ks os es vs) new_keys)) (once new_keys) in
@@ -209,11 +206,12 @@ module _ (ks os : List ℕ) (es vs : List ℤ) (new_keys : List ℕ) (fill : Fil
         scratch_values = rw h (p.scratch_values.long, p.scratch_values.later);
       }
 
-  pub collapse-refused : {r : Refusal} → asked ≡ some (paper r) → WrittenCollapse outcome (2 * length es) (Batched.Refused r) k k x x e e v v s s t t
+  pub collapse-refused : (r : Result RleBatch Refusal) (y : Refusal) → IsErrAnd r (λ (z : Refusal). z ≡ y) → Some (paper y) ≡ asked
+      → WrittenCollapse outcome (2 * length es) r k k x x e e v v s s t t
   unfolding collapse
-  collapse-refused h =
+  collapse-refused r y h f =
       record {
-        batch = batch-refused (map (collapse_key (operation code) fill (renamed (batch ks os es vs) new_keys)) (once new_keys)) h;
-        scratch_ends = rw h;
-        scratch_values = rw h;
+        batch = batch-refused (map (collapse_key (operation code) fill (renamed (batch ks os es vs) new_keys)) (once new_keys)) r y h f;
+        scratch_ends = rw (sym f) refl;
+        scratch_values = rw (sym f) refl;
       }

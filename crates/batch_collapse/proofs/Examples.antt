@@ -1,13 +1,11 @@
 -- Worked examples of collapse, computed from its definition. The keys 5, 2 and 7 show 1, then 4, then 2, 2; the new keys are 8, 3 and 8: the
 -- group of 8 starts from its shortest member, and that of 3 has one.
 -- Assumes nothing.
-use mathlib.Core.Option.{some}
+use Rattle.std.specs.Prelude.{Some, Option, None, ℤ}
 use mathlib.Core.List.{List, [], ◌∷◌}
 use mathlib.Core.Path.{refl}
 use lib.IntN.{pos}
 use Rattle.num.specs.Numbers.{wrap, operation}
-use Rattle.column.specs.declared.answer.Fill.{Fill}
-use Rattle.column.specs.declared.answer.Fill.TheVariants.{Value, Missing}
 use Rattle.column.specs.Asking.{each_from}
 use Rattle.column.specs.Combine.{value_at, greatest_length, all_filled, row_at, each_position, table, combined}
 use Rattle.column.specs.Flat.{sequences_of, columns, offsets_from, flat_ends, flat_values}
@@ -22,16 +20,16 @@ use Rattle.batch.proofs.Rows.{as_batch}
 use Rattle.batch_collapse.specs.Calls.{collapse_from, collapse_runs, filled_from, filled_group, members, collapse_asked, filled_groups, collapse}
 
 -- the sum
-abbrev summed : Fill → Outcome Lines
+abbrev summed : Option ℤ → Outcome Lines
 summed fill =
     let c = batch (5 ∷ 2 ∷ 7 ∷ []) (0 ∷ 1 ∷ 2 ∷ 3 ∷ []) (pos 1 ∷ pos 1 ∷ pos 2 ∷ []) (pos 1 ∷ pos 4 ∷ pos 2 ∷ []) in
     as_batch (collapse c (8 ∷ 3 ∷ 8 ∷ []) fill 0 (3 ∷ 4 ∷ 3 ∷ 3 ∷ 6 ∷ 6 ∷ []))
 
 abbrev rows : List Row
 rows =
-    row (summed (Value (pos 10)))
+    row (summed (Some (pos 10)))
     (answers ((pos 8 ∷ pos 3 ∷ []) ∷ (pos 0 ∷ pos 2 ∷ pos 3 ∷ []) ∷ (pos 1 ∷ pos 2 ∷ pos 1 ∷ []) ∷ (pos 3 ∷ pos 12 ∷ pos 4 ∷ []) ∷ []))
-    ∷ row (summed Missing) (refused 10 (pos 1 ∷ pos 2 ∷ []) (some 0))
+    ∷ row (summed None) (refused 10 (pos 1 ∷ pos 2 ∷ []) (Some 0))
     ∷ []
 
 pub examples : Hold rows

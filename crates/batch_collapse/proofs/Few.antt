@@ -1,12 +1,12 @@
 -- How many runs the members of a group have together once they are combined, and how long that is.
 -- Assumes nothing.
+use Rattle.std.specs.Prelude.{Option}
 use Prim.Native.Nat.{◌+◌, ◌≤◌, max}
 use mathlib.Core.List.{List, [], ◌∷◌, map}
 use mathlib.Core.Path.{◌≡◌, ◌∙◌}
 use native.Mathlib.Omega.{arith}
 use lib.IntN.{ℤ}
 use lib.ListN.{length}
-use Rattle.column.specs.declared.answer.Fill.{Fill}
 use Rattle.column.specs.Combine.{two, greatest_length, row_at, table, combined}
 use Rattle.column.specs.Lists.{total}
 use Rattle.column.specs.Runs.{Runs, length_of, dense, encode}
@@ -28,7 +28,7 @@ merged-few rs v = rw (← push_all_lem rs v) (omega (arith, push_few [] rs))
 pub merged-long : (rs : Runs) → Valid rs → length_of (encode (dense rs)) ≡ length_of rs
 merged-long rs v = length-encode (dense rs) ∙ length-dense rs v
 
-module _ (op : ℤ → ℤ → ℤ) (fa fb : Fill) (a b : Runs) where
+module _ (op : ℤ → ℤ → ℤ) (fa fb : Option ℤ) (a b : Runs) where
   pub combined-valid : Valid (combined op (two fa fb a b))
   unfolding combined
   combined-valid = valid-encode (table op (two fa fb a b))
@@ -39,7 +39,7 @@ module _ (op : ℤ → ℤ → ℤ) (fa fb : Fill) (a b : Runs) where
 
 -- ---- a group
 
-from-few : (op : ℤ → ℤ → ℤ) (fill : Fill) (sofar : Runs) (ms : List Runs) → Valid sofar → All Valid ms
+from-few : (op : ℤ → ℤ → ℤ) (fill : Option ℤ) (sofar : Runs) (ms : List Runs) → Valid sofar → All Valid ms
     → length (collapse_from op fill sofar ms) ≤ length sofar + total (map length ms)
 unfolding collapse_from
 from-few op fill sofar [] v a = omega arith
@@ -50,7 +50,7 @@ from-few op fill sofar (m ∷ ms) v a =
       two-few op fill fill sofar m v a.0,
     )
 
-pub collapse-few : (op : ℤ → ℤ → ℤ) (fill : Fill) (ms : List Runs) → All Valid ms → length (collapse_runs op fill ms) ≤ total (map length ms)
+pub collapse-few : (op : ℤ → ℤ → ℤ) (fill : Option ℤ) (ms : List Runs) → All Valid ms → length (collapse_runs op fill ms) ≤ total (map length ms)
 unfolding collapse_runs
 collapse-few op fill [] a = omega arith
 collapse-few op fill (m ∷ ms) a = omega (arith, from-few op fill (encode (dense m)) ms (valid-encode (dense m)) a.1, merged-few m a.0)

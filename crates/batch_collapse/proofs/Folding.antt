@@ -2,15 +2,13 @@
 -- Assumes nothing.
 use Prim.Native.Nat.{ℕ, ◌+◌, ◌*◌, ◌≤◌, ◌<◌}
 use mathlib.Core.Bool.{Bool}
-use mathlib.Core.Option.{none}
+use Rattle.std.specs.Prelude.{None, Option, Some}
 use mathlib.Core.List.{List, [], ◌∷◌, map}
 use mathlib.Core.Path.{◌≡◌, refl, ap, sym, ◌∙◌}
 use native.Mathlib.Omega.{arith}
 use lib.IntN.{ℤ}
 use lib.ListN.{length, get_or, take, drop}
 use lib.Seq.{take_at, length-take-le}
-use Rattle.column.specs.declared.answer.Fill.{Fill}
-use Rattle.column.specs.declared.answer.Fill.TheVariants.{Value}
 use Rattle.column.specs.Combine.{two, combined}
 use Rattle.column.specs.Flat.{flat, columns}
 use Rattle.column.specs.Lists.{total, parts}
@@ -59,7 +57,7 @@ module _ (xs before now : List ℤ) (e : now ≡ over xs before) where
 
 module _ (op : ℤ → ℤ → ℤ) (f : ℤ) {pe pv : List ℤ} {count : ℕ} {e v s t : List ℤ} (z : Foldable (sequence pe pv) count e v s t) where
   abbrev both : Runs
-  both = combined op (sides (sequence (take count s) (take count t)) (sequence pe pv) (Value f) (Value f))
+  both = combined op (sides (sequence (take count s) (take count t)) (sequence pe pv) (Some f) (Some f))
 
   both-few : length both ≤ count + length pe
   both-few =
@@ -70,7 +68,7 @@ module _ (op : ℤ → ℤ → ℤ) (f : ℤ) {pe pv : List ℤ} {count : ℕ} {
       omega (
         arith,
         c,
-        two-few op (Value f) (Value f) (runs_of (take count s) (take count t)) (runs_of pe pv) valid_a valid_b,
+        two-few op (Some f) (Some f) (runs_of (take count s) (take count t)) (runs_of pe pv) valid_a valid_b,
         length_runs (take count s) (take count t) q.paired_a,
         length_runs pe pv q.paired_b,
       )
@@ -120,7 +118,7 @@ module _ (ks os : List ℕ) (es vs : List ℤ) where
   -- its ends and values, as the code reads them
   pub record Part (i : ℕ) (pe pv : List ℤ) : Type 0 where
     pub runs : runs_of pe pv ≡ column_at (batch ks os es vs) i
-    pub valid : ends_valid pe ≡ none
+    pub valid : ends_valid pe ≡ None
     pub paired : length pe ≡ length pv
     pub count : length pe ≡ length (column_at (batch ks os es vs) i)
 
@@ -137,7 +135,7 @@ module _ (ks os : List ℕ) (es vs : List ℤ) where
     pub most_few : (key : ℕ) → member_runs (renamed (batch ks os es vs) nk) key ≤ length es
     most_few key = omega (arith, members-few nk (columns (flat os es vs)) key, all_runs ks os es vs nk g)
 
-    pub group_few : (op : ℤ → ℤ → ℤ) (fill : Fill) (key : ℕ) → length (collapse_runs op fill (members (renamed (batch ks os es vs) nk) key))
+    pub group_few : (op : ℤ → ℤ → ℤ) (fill : Option ℤ) (key : ℕ) → length (collapse_runs op fill (members (renamed (batch ks os es vs) nk) key))
         ≤ member_runs (renamed (batch ks os es vs) nk) key
     group_few op fill key = collapse-few op fill (members (renamed (batch ks os es vs) nk) key)
         (members-all Valid key nk (columns (flat os es vs)) (all_valid ks os es vs nk g))
@@ -185,7 +183,7 @@ module _ (ks os : List ℕ) (es vs : List ℤ) (nk : List ℕ) (first : ℕ) whe
 
       module _ {pe pv : List ℤ} (p : Part ks os es vs first pe pv) where
         -- it is merged into the scratch buffers, or into the other two
-        pub first-scratch : (ends_valid pe ≡ none) × (length pe ≡ length pv) × (length pe ≤ length s) × (length pe ≤ length t)
+        pub first-scratch : (ends_valid pe ≡ None) × (length pe ≡ length pv) × (length pe ≤ length s) × (length pe ≤ length t)
         first-scratch = (
           p.valid,
           p.paired,
@@ -193,7 +191,7 @@ module _ (ks os : List ℕ) (es vs : List ℤ) (nk : List ℕ) (first : ℕ) whe
           omega (arith, first-few, low, p.count, q.scratch_values),
         )
 
-        pub first_out : (ends_valid pe ≡ none) × (length pe ≡ length pv) × (length pe ≤ length e) × (length pe ≤ length v)
+        pub first_out : (ends_valid pe ≡ None) × (length pe ≡ length pv) × (length pe ≤ length e) × (length pe ≤ length v)
         first_out = (p.valid, p.paired, omega (arith, first-few, p.count, q.room_ends), omega (arith, first-few, p.count, q.room_values))
 
         first_runs : length (encode (dense (runs_of pe pv))) + total (map length (left next)) ≤ most
@@ -220,7 +218,7 @@ module _ (ks os : List ℕ) (es vs : List ℤ) (nk : List ℕ) (first : ℕ) whe
       pub place : AtMember key nk at
       pub sofar : Runs
       pub valid : Valid sofar
-      pub rest : collapse_runs op (Value f) all ≡ collapse_from op (Value f) sofar (left at)
+      pub rest : collapse_runs op (Some f) all ≡ collapse_from op (Some f) sofar (left at)
       pub few : length sofar + total (map length (left at)) ≤ most
       pub folded : Folded sofar (length es) most e₀ e v₀ v s₀ s t₀ t count
 
@@ -229,7 +227,7 @@ module _ (ks os : List ℕ) (es vs : List ℤ) (nk : List ℕ) (first : ℕ) whe
           {pe pv : List ℤ} (p : Part ks os es vs first pe pv) where
         -- no other member
         pub alone-filled : {r : ℕ} {e' v' : List ℤ} → length nk ≤ at → Filled (encode (dense (runs_of pe pv))) e e' v v' r
-            → FilledGroup (collapse_runs op (Value f) all) (2 * length es) e e' v v' s s t t r
+            → FilledGroup (collapse_runs op (Some f) all) (2 * length es) e e' v v' s s t t r
         unfolding collapse_runs collapse_from
         alone-filled h d =
             rw (from_first_lem g q m, members_end key nk (columns (flat os es vs)) (new_many ks os es vs nk g) at h, ← p.runs)
@@ -244,7 +242,7 @@ module _ (ks os : List ℕ) (es vs : List ℤ) (nk : List ℕ) (first : ℕ) whe
                 place = record { within = m.within; here = m.here };
                 sofar = encode (dense (runs_of pe pv));
                 valid = valid-encode (dense (runs_of pe pv));
-                rest = ap (collapse_runs op (Value f)) (from_first_lem g q m) ∙ ap (λ (c : Runs). collapse_from op (Value f) (encode (dense c)) (left at))
+                rest = ap (collapse_runs op (Some f)) (from_first_lem g q m) ∙ ap (λ (c : Runs). collapse_from op (Some f) (encode (dense c)) (left at))
                     (sym p.runs);
                 few = first_runs g q m p;
                 folded = record {
@@ -263,12 +261,12 @@ module _ (ks os : List ℕ) (es vs : List ℤ) (nk : List ℕ) (first : ℕ) whe
               }
 
           pub fold_end : {e' v' s' t' : List ℤ} {r to : ℕ} → Folding e e' v v' s₁ s' t₁ t' r to → length nk ≤ to
-              → Folded (collapse_runs op (Value f) all) (length es) most e e' v v' s s' t t' r
+              → Folded (collapse_runs op (Some f) all) (length es) most e e' v v' s s' t t' r
           unfolding collapse_from
           fold_end {to = to} i h =
               let o = i.folded in
               let end = members_end key nk (columns (flat os es vs)) (new_many ks os es vs nk g) to h in
-              let whole : collapse_runs op (Value f) all ≡ i.sofar = i.rest ∙ ap (collapse_from op (Value f) i.sofar) end in
+              let whole : collapse_runs op (Some f) all ≡ i.sofar = i.rest ∙ ap (collapse_from op (Some f) i.sofar) end in
               rw whole (record {
                 count = o.count;
                 front_ends = o.front_ends;
@@ -305,10 +303,10 @@ module _ (ks os : List ℕ) (es vs : List ℤ) (nk : List ℕ) (first : ℕ) whe
             }
 
         next : Runs
-        next = combined op (two (Value f) (Value f) i.sofar (column_at (batch ks os es vs) at))
+        next = combined op (two (Some f) (Some f) i.sofar (column_at (batch ks os es vs) at))
 
         pub fold_more : {e' v' s' t' : List ℤ} {r at' : ℕ}
-            → FoldedMember (combined op (sides (sequence (take count s) (take count t)) (sequence pe pv) (Value f) (Value f))) e e' v v' s s' t t' r
+            → FoldedMember (combined op (sides (sequence (take count s) (take count t)) (sequence pe pv) (Some f) (Some f))) e e' v v' s s' t t' r
             → NextPosition (get_or nk at 0) nk (at + 1) at' → Folding e₀ e' v₀ v' s₀ s' t₀ t' r at'
         unfolding next collapse_from
         fold_more {e'} {v'} {s'} {t'} {r} {at'} d₀ m =
@@ -322,7 +320,7 @@ module _ (ks os : List ℕ) (es vs : List ℤ) (nk : List ℕ) (first : ℕ) whe
             omega (
               arith,
               k,
-              two-few op (Value f) (Value f) i.sofar (column_at (batch ks os es vs) at) i.valid (column-valid ks os es vs
+              two-few op (Some f) (Some f) i.sofar (column_at (batch ks os es vs) at) i.valid (column-valid ks os es vs
                   g.valid at),
             ) in
             let le : length e' ≡ length e = long _ e e' d.through.ends (rw length-ends (omega (arith, i.room.room_ends))) in
@@ -333,8 +331,8 @@ module _ (ks os : List ℕ) (es vs : List ℤ) (nk : List ℕ) (first : ℕ) whe
               room = room-kept i.room le lv ls lt;
               place = at_next key nk cs (new_many ks os es vs nk g) at m here;
               sofar = next;
-              valid = combined-valid op (Value f) (Value f) i.sofar (column_at (batch ks os es vs) at);
-              rest = i.rest ∙ ap (collapse_from op (Value f) i.sofar) on;
+              valid = combined-valid op (Some f) (Some f) i.sofar (column_at (batch ks os es vs) at);
+              rest = i.rest ∙ ap (collapse_from op (Some f) i.sofar) on;
               few = n;
               folded = record {
                 count = d.filled.count;

@@ -2,7 +2,7 @@
 -- Assumes nothing.
 use Prim.Native.Nat.{ℕ, zero, suc, ◌+◌, ◌-◌, ◌≤◌, ◌<◌}
 use mathlib.Core.Bool.{true, false}
-use mathlib.Core.Option.{none, some}
+use Rattle.std.specs.Prelude.{Some, None, Result, ⊤, IsErrAnd}
 use mathlib.Core.List.{List, [], ◌∷◌}
 use mathlib.Core.Path.{◌≡◌, refl, ap, sym, ◌∙◌}
 use native.Mathlib.Numerals.{add-one}
@@ -10,10 +10,11 @@ use native.Mathlib.Omega.{arith}
 use lib.IntN.{ℤ}
 use lib.ListN.{length, get_or, drop, length-drop}
 use lib.Seq.{drop-cons}
-use Rattle.column.specs.declared.answer.Fill.TheVariants.{Missing}
-use Rattle.column.specs.Asking.{Question, each_from, refused_in_key}
-use Rattle.column.specs.Paper.{PaperRefusal}
+use Rattle.column.specs.declared.error.Refusal.{Refusal}
+use Rattle.column.specs.Asking.{Question, shown_asked, each_from, refused_in_key}
+use Rattle.column.specs.Paper.{paper}
 use Rattle.column.proofs.FirstNo.{each_next, each-refused, each-end}
+use Rattle.column.proofs.Promised.{passed_on}
 use Rattle.batch_index.specs.Workers.{doubled}
 use Rattle.batch_keys.specs.Calls.{once}
 use Rattle.batch_keys.proofs.Once.{once_at, once-start, once-doubled, once-single, once-end, once-few}
@@ -75,30 +76,33 @@ module _ (ks : List ℕ) where
 
 module _ (op : ℤ → ℤ → ℤ) (es : List Entry) (ks : List ℕ) where
   abbrev ask : ℕ → ℕ → Question
-  ask n k = refused_in_key n (filled_group op Missing (members es k))
+  ask n k = refused_in_key n (filled_group op None (members es k))
 
   pub record AskingAll (n first : ℕ) : Type 0 where
     pub groups : Grouping ks n first
-    pub left : filled_groups op Missing es (once ks) ≡ each_from ask n (drop n (once ks))
+    pub left : filled_groups op None es (once ks) ≡ each_from ask n (drop n (once ks))
 
   pub all_start : {r : ℕ} → NextGroup ks 0 r → AskingAll 0 r
   unfolding filled_groups
   all_start s = record { groups = grouping_start ks s; left = refl }
 
   module _ {n first : ℕ} (s : AskingAll n first) where
-    module _ (h : first < length ks) {a q : Question} (ea : a ≡ refused_in_key n q) (eq : q ≡ filled_group op Missing (members es (get_or ks first 0))) where
-      asked : ask n (get_or (once ks) n 0) ≡ a
-      asked = ap (ask n) (group-key ks s.groups h) ∙ sym (ea ∙ ap (refused_in_key n) eq)
+    module _ (h : first < length ks) {q : Question} (eq : q ≡ filled_group op None (members es (get_or ks first 0))) where
+      asked : ask n (get_or (once ks) n 0) ≡ refused_in_key n q
+      asked = ap (ask n) (group-key ks s.groups h) ∙ sym (ap (refused_in_key n) eq)
 
-      pub all-no : {r : PaperRefusal} → a ≡ some r → some r ≡ filled_groups op Missing es (once ks)
-      all-no e = sym (s.left ∙ each-refused ask n (once ks) 0 (group-within ks s.groups h) (asked ∙ e))
+      pub all-no : (r : Result ⊤ Refusal) (e : Refusal) → IsErrAnd r (λ (z : Refusal). z ≡ e) → Some (paper e) ≡ refused_in_key n q
+          → shown_asked r ≡ filled_groups op None es (once ks)
+      all-no r e i f =
+          ap shown_asked (passed_on r e i)
+          ∙ sym (s.left ∙ each-refused ask n (once ks) 0 (group-within ks s.groups h) (asked ∙ sym f))
 
-      pub all-next : {r : ℕ} → a ≡ none → NextGroup ks (first + 1) r → AskingAll (n + 1) r
+      pub all-next : {r : ℕ} → None ≡ refused_in_key n q → NextGroup ks (first + 1) r → AskingAll (n + 1) r
       all-next e t = record {
         groups = grouping-next ks s.groups h t;
         left = s.left
-            ∙ each_next ask n (once ks) 0 (group-within ks s.groups h) (asked ∙ e);
+            ∙ each_next ask n (once ks) 0 (group-within ks s.groups h) (asked ∙ sym e);
       }
 
-    pub all_end : length ks ≤ first → none ≡ filled_groups op Missing es (once ks)
+    pub all_end : length ks ≤ first → None ≡ filled_groups op None es (once ks)
     all_end h = sym (s.left ∙ each-end ask n (once ks) 0 (group_all ks s.groups h))

@@ -1,47 +1,25 @@
 -- Entries put aside in a scratch buffer after its first n, and put back into the buffer that they came from.
 -- Assumes nothing.
-use Prim.Native.Nat.{ℕ, ◌+◌, ◌*◌, ◌-◌, ◌≤◌}
+use Rattle.std.specs.Prelude.{Some}
+use Prim.Native.Nat.{ℕ, ◌+◌, ◌*◌, ◌≤◌}
 use mathlib.Core.Bool.{Bool}
 use mathlib.Core.List.{List, ◌++◌}
-use mathlib.Core.Path.{◌≡◌, refl, ap, ap₂, sym, ◌∙◌}
+use mathlib.Core.Path.{◌≡◌, ap, ap₂, sym, ◌∙◌}
 use native.Mathlib.Omega.{arith}
-use borrow.Rule.Slice.PartMut.{put_mid}
 use lib.IntN.{ℤ}
 use lib.ListN.{length, get_or, take, drop, length-append, length-drop, take-append-drop}
 use lib.Seq.{drop-drop, drop_at, take_at, length-take-le}
-use Rattle.column.specs.declared.answer.Fill.TheVariants.{Value}
 use Rattle.column.specs.Runs.{over}
 use Rattle.column.proofs.Buffer.{length_over, drop-over}
-use Rattle.column.proofs.Rest.{rest-lent, rest_home}
 use Rattle.batch.specs.Batch.{batch}
 use Rattle.batch_collapse.specs.Calls.{collapse_runs, members, renamed}
 use Rattle.batch_collapse.specs.Workers.{Grouped, member_runs, FoldRoom, Folded, FilledGroup}
-use Rattle.batch_collapse.proofs.Folding.{most_few, group_few, room-kept}
+use Rattle.batch_collapse.proofs.Folding.{most_few, group_few}
 
 -- the first n of a buffer, written over what came after it
 over-kept : (n : ℕ) (x₀ x : List ℤ) → n ≤ length x₀ → drop n x ≡ drop n x₀ → over (take n x₀) x ≡ x₀
 unfolding over
 over-kept n x₀ x h e = rw (length-take-le n x₀ h) (ap (λ (l : List ℤ). take n x₀ ++ l) e ∙ take-append-drop n x₀)
-
--- the rest of the scratch buffer, lent for them, comes home
-pub put_aside : (n : ℕ) (xs s back : List ℤ) → n ≤ length s → back ≡ over xs (take (length s - n) (drop n s))
-    → put_mid n (length s - n) s back ≡ take n s ++ over xs (drop n s)
-put_aside n xs s back h e = rest_home n s back h ∙ ap (λ (l : List ℤ). take n s ++ l) (e ∙ ap (over xs) (rest-lent n s))
-
--- entries n up to n + runs, and the first `count`, over a buffer
-module _ (n runs count : ℕ) (s x : List ℤ) (in-scratch : n + runs ≤ length s) (in_Buffer : runs ≤ length x) (few : count ≤ runs)
-    {x₁ : List ℤ} (e : x₁ ≡ over (take (n + runs - n) (drop n s)) x) where
-  again : x₁ ≡ over (take runs (drop n s)) x
-  again = let m : n + runs - n ≡ runs = omega arith in rw m at e
-
-  pub put_room : length (take count s) ≤ length x₁
-  put_room =
-      let k : length (take runs (drop n s)) ≡ runs = length-take-le runs (drop n s) (rw length-drop (omega arith)) in
-      rw (again, length_over (take runs (drop n s)) x (rw k in_Buffer))
-      (rw (length-take-le count s (let h : count ≤ length s = omega arith in h)) (omega arith))
-
-  pub put_back : {x₂ : List ℤ} → x₂ ≡ over (take count s) x₁ → x₂ ≡ over (take count s) (over (take runs (drop n s)) x)
-  put_back e₂ = e₂ ∙ ap (over (take count s)) again
 
 -- x₀ and s₀ at first, s₁ with the entries put aside; x and s then, as far as is known
 module _ (n runs : ℕ) (x₀ x s₀ s₁ s : List ℤ) (low : runs ≤ n) (in_Buffer : runs ≤ length x₀) (in-scratch : 2 * n ≤ length s₀)
@@ -99,23 +77,20 @@ module _ (ks os : List ℕ) (es vs : List ℤ) (nk : List ℕ) (first : ℕ) {to
     long_values : length t₁ ≡ length t
     long_values = aside_long (length es) runs v v t t₁ t low aside_room.1.0 q.scratch_values av
 
-    pub aside_kept : FoldRoom (batch ks os es vs) nk first e v s₁ t₁
-    aside_kept = room-kept ks os es vs nk first q refl refl long_ends long_values
-
     module _ (op : ℤ → ℤ → ℤ) (f : ℤ) {e₂ v₂ s₂ t₂ : List ℤ} {r : ℕ}
-        (d : Folded (collapse_runs op (Value f) (members (renamed (batch ks os es vs) nk) (get_or nk first 0))) (length es)
+        (d : Folded (collapse_runs op (Some f) (members (renamed (batch ks os es vs) nk) (get_or nk first 0))) (length es)
         (member_runs (renamed (batch ks os es vs) nk) (get_or nk first 0)) e e₂ v v₂ s₁ s₂ t₁ t₂ r) where
       pub back-room : ((length es + runs ≤ length s₂) × (runs ≤ length e₂) × (r ≤ runs)) × ((length es + runs ≤ length t₂) ×
           (runs ≤ length v₂) × (r ≤ runs))
       back-room =
-          let few : r ≤ runs = omega (arith, d.count, er, group_few ks os es vs nk g op (Value f) (get_or nk first 0)) in (
+          let few : r ≤ runs = omega (arith, d.count, er, group_few ks os es vs nk g op (Some f) (get_or nk first 0)) in (
             (omega (arith, aside_room.0.1, d.long_scratch_ends, long_ends), omega (arith, aside_room.0.0, d.long_ends), few),
             (omega (arith, aside_room.1.1, d.long_scratch_values, long_values), omega (arith, aside_room.1.0, d.long_values), few),
           )
 
       pub group-filled : {e₃ v₃ : List ℤ} → e₃ ≡ over (take r s₂) (over (take runs (drop (length es) s₂)) e₂)
           → v₃ ≡ over (take r t₂) (over (take runs (drop (length es) t₂)) v₂)
-          → FilledGroup (collapse_runs op (Value f) (members (renamed (batch ks os es vs) nk) (get_or nk first 0))) (2 * length es) e e₃ v v₃ s s₂ t t₂ r
+          → FilledGroup (collapse_runs op (Some f) (members (renamed (batch ks os es vs) nk) (get_or nk first 0))) (2 * length es) e e₃ v v₃ s s₂ t t₂ r
       group-filled be bv =
           let re : drop runs e₂ ≡ drop runs e = rw er d.rest_ends in
           let rv : drop runs v₂ ≡ drop runs v = rw er d.rest_values in

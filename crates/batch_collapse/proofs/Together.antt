@@ -8,14 +8,13 @@ use native.Mathlib.Omega.{arith}
 use lib.Dec.{eqb, ltb}
 use lib.ListN.{length, get_or, take}
 use lib.Seq.{length-take-le}
-use borrow.Author.Count.{below_more}
-use borrow.Author.Tests.{eqb-true, eqb-false, ne_eqb}
+use borrow.Author.Tests.{eqb-true, eqb-false}
 use Rattle.num.proofs.Tests.{by-test}
 use Rattle.column.specs.Lists.{any}
 use Rattle.batch_index.specs.Calls.{lowest}
-use Rattle.batch_index.specs.Workers.{doubled, FirstDouble}
+use Rattle.batch_index.specs.Workers.{doubled}
 use Rattle.batch_index.proofs.Lowest.{lowest-any}
-use Rattle.batch_index.proofs.Doubles.{among_not, among_none, among_at}
+use Rattle.batch_index.proofs.Doubles.{among_none, among_at}
 use Rattle.batch_collapse.specs.Workers.{Together}
 
 -- ---- keys that never fall: those before n
@@ -25,12 +24,6 @@ pub record Level (ks : List ℕ) (n : ℕ) : Type 0 where
   pub level : (i : ℕ) → i < n → 0 < i → get_or ks (i - 1) 0 ≤ get_or ks i 0
 
 module _ (ks : List ℕ) where
-  pub level_start : Level ks 1
-  level_start = record { past = omega arith; level = λ i h k. let z : ⊥ = omega arith in absurd z }
-
-  pub level_next : (n : ℕ) → Level ks n → get_or ks (n - 1) 0 ≤ get_or ks n 0 → Level ks (n + 1)
-  level_next n s h = record { past = omega arith; level = below_more (λ i. 0 < i → get_or ks (i - 1) 0 ≤ get_or ks i 0) n s.level (λ k. h) }
-
   -- a key is not above one after it
   rises : (n : ℕ) → Level ks n → (i d : ℕ) → i + d < n → get_or ks i 0 ≤ get_or ks (i + d) 0
   rises n s i zero h = let e : i + 0 ≡ i = omega arith in rw e (omega arith)
@@ -48,12 +41,6 @@ module _ (ks : List ℕ) where
       let r : get_or ks j 0 ≤ get_or ks (i - 1) 0 = rw d at (rises n s j (i - 1 - j) (omega arith)) in
       eqb-false (get_or ks i 0) (get_or ks (i - 1) 0) t (omega (arith, s.level i (omega arith) p)))
       ∙ sym t)
-
-  -- keys none of which is given twice
-  pub single_together : {r : ℕ} → FirstDouble ks r → r ≡ length ks → Together ks
-  single_together f e i p h =
-      let n = f.before i (omega arith) in
-      n ∙ sym (ne_eqb (get_or ks i 0) (get_or ks (i - 1) 0) (λ k. among_not (get_or ks i 0) ks i (i - 1) n (omega arith) (omega arith) k))
 
   -- ---- does the key at i stand before it too
 

@@ -1,7 +1,6 @@
 // Workers that assume what the calls have asked.
 ghost use Rattle.std.specs.Prelude.{◌+◌, ◌*◌, ◌≤◌, ◌<◌, ◌^◌, true, false, ◌++◌, map, ◌≡◌, leb, length, get_or, take, drop};
 ghost use Rattle.num.specs.Numbers.{operation};
-ghost use Rattle.column.specs.declared.answer.Fill.TheVariants.{Value, Missing};
 ghost use Rattle.column.specs.Asking.{shown_asked};
 ghost use Rattle.column.specs.Combine.{combined};
 ghost use Rattle.column.specs.Runs.{sequence, over};
@@ -16,7 +15,8 @@ ghost use Rattle.batch_collapse.specs.Workers.{FoldedMember, FoldRoom, Folded, F
 use batch::inner::{copy, part_at};
 use batch_index::inner::links;
 use batch_index::inner::links::{Links, Member};
-use column::answer::{Asked, Fill, RleBatch};
+use column::answer::RleBatch;
+use column::error::Refusal;
 use column::sequence;
 
 // A group, as it is found: its first member, and the links by which the others are.
@@ -30,14 +30,12 @@ pub struct Group {
 fn never_fall(keys: &[u32]) -> bool
     ensures { result ≡ true → Together keys.now }
 {
-    let mut i: usize = 1;
-    while i < keys.len() {
+    for i in 1..keys.len() {
         let before = keys[i - 1];
         let key = keys[i];
         if key < before {
             return false;
         }
-        i += 1;
     }
     true
 }
@@ -113,16 +111,14 @@ fn next_group(
     ensures { NextGroup keys.now from result.first.at × AtGroup keys.now first.new next.new positions.new result }
 {
     let mut links = links;
-    let mut i = from;
-    while i < keys.len() {
+    for i in from..keys.len() {
         links = links::link(keys, links, i, &mut *first, &mut *next, &mut *positions);
         let entry = links::first_entry(links, &*first, i);
         if !is_again(keys, together, links, entry, i) {
             return group_at(links, i, entry);
         }
-        i += 1;
     }
-    group_at(links, i, links::CAPACITY)
+    group_at(links, keys.len(), links::CAPACITY)
 }
 
 // The next position of the key at `last`, after that.
@@ -178,12 +174,12 @@ fn ask_group(
     next: &[u16],
     positions: &[u32],
     code: u8,
-) -> Asked
+) -> Result<(), Refusal>
     requires { Grouped (batch keys.now offsets.now ends.now values.now) new_keys.now together
         × (group.first.at < length new_keys.now) × (doubled new_keys.now group.first.at ≡ false)
         × Chained new_keys.now next.now positions.now group }
     ensures { shown_asked result ≡ filled_group (operation code)
-        Missing (members (renamed (batch keys.now offsets.now ends.now values.now) new_keys.now) (get_or new_keys.now group.first.at 0)) }
+        None (members (renamed (batch keys.now offsets.now ends.now values.now) new_keys.now) (get_or new_keys.now group.first.at 0)) }
 {
     let links = group.links;
     let first = group.first.at;
@@ -192,14 +188,10 @@ fn ask_group(
     while member.at < new_keys.len() {
         let at = member.at;
         let other = sequence::length(part_at(offsets, ends, at));
-        let asked = questions::ask_fills(length, other, Fill::Missing, Fill::Missing);
-        match asked {
-            Asked::Yes => {}
-            Asked::No(r) => return Asked::No(r),
-        }
+        questions::ask_fills(length, other, None, None)?;
         member = next_member(new_keys, together, links, next, positions, member);
     }
-    Asked::Yes
+    Ok(())
 }
 
 // 10 of each group, where no fill is given.
@@ -214,11 +206,11 @@ fn ask_all_groups(
     next: &mut [u16],
     positions: &mut [u32],
     code: u8,
-) -> Asked
+) -> Result<(), Refusal>
     requires { Grouped (batch keys.now offsets.now ends.now values.now) new_keys.now together
         × LinkLent new_keys.now first.old next.old positions.old }
     ensures { shown_asked result ≡ filled_groups
-        (operation code) Missing (renamed (batch keys.now offsets.now ends.now values.now) new_keys.now) (once new_keys.now) }
+        (operation code) None (renamed (batch keys.now offsets.now ends.now values.now) new_keys.now) (once new_keys.now) }
 {
     let mut n: usize = 0;
     let mut group = next_group(
@@ -243,11 +235,7 @@ fn ask_all_groups(
             &*positions,
             code,
         );
-        let asked = questions::in_key(filled, n);
-        match asked {
-            Asked::Yes => {}
-            Asked::No(r) => return Asked::No(r),
-        }
+        questions::in_key(filled, n)?;
         n += 1;
         group = next_group(
             new_keys,
@@ -259,7 +247,7 @@ fn ask_all_groups(
             &mut *positions,
         );
     }
-    Asked::Yes
+    Ok(())
 }
 
 // 10
@@ -273,17 +261,17 @@ pub fn ask_groups(
     first: &mut [u16],
     next: &mut [u16],
     positions: &mut [u32],
-    fill: Fill,
+    fill: Option<i64>,
     code: u8,
-) -> Asked
+) -> Result<(), Refusal>
     requires { Grouped (batch keys.now offsets.now ends.now values.now) new_keys.now together
         × LinkLent new_keys.now first.old next.old positions.old }
     ensures { shown_asked result ≡
         filled_groups (operation code) fill (renamed (batch keys.now offsets.now ends.now values.now) new_keys.now) (once new_keys.now) }
 {
     match fill {
-        Fill::Value(_) => Asked::Yes,
-        Fill::Missing => ask_all_groups(
+        Some(_) => Ok(()),
+        None => ask_all_groups(
             keys, offsets, ends, values, new_keys, together, first, next, positions, code,
         ),
     }
@@ -334,8 +322,8 @@ fn fold_member(
         (sequence ends.now values.now) count out_ends.old out_values.old scratch_ends.old scratch_values.old }
     ensures { FoldedMember
         (combined (operation code)
-        (sides (sequence (take count scratch_ends.old) (take count scratch_values.old)) (sequence ends.now values.now) (Value fill)
-        (Value fill))) out_ends.old out_ends.new out_values.old
+        (sides (sequence (take count scratch_ends.old) (take count scratch_values.old)) (sequence ends.now values.now) (Some fill)
+        (Some fill))) out_ends.old out_ends.new out_values.old
         out_values.new scratch_ends.old scratch_ends.new scratch_values.old scratch_values.new result }
 {
     let runs = ops::inner::zip_with(
@@ -377,7 +365,7 @@ fn fold_group(
         new_keys.now group.first.at out_ends.old out_values.old scratch_ends.old scratch_values.old
         × Chained new_keys.now next.now positions.now group }
     ensures { Folded
-        (collapse_runs (operation code) (Value fill)
+        (collapse_runs (operation code) (Some fill)
         (members (renamed (batch keys.now offsets.now ends.now values.now) new_keys.now) (get_or new_keys.now group.first.at 0)))
         (length ends.now)
         (member_runs (renamed (batch keys.now offsets.now ends.now values.now) new_keys.now) (get_or new_keys.now group.first.at 0)) out_ends.old
@@ -451,7 +439,7 @@ fn collapse_group(
         new_keys.now group.first.at out_ends.old out_values.old scratch_ends.old scratch_values.old
         × Chained new_keys.now next.now positions.now group }
     ensures { FilledGroup
-        (collapse_runs (operation code) (Value fill)
+        (collapse_runs (operation code) (Some fill)
         (members (renamed (batch keys.now offsets.now ends.now values.now) new_keys.now) (get_or new_keys.now group.first.at 0)))
         (2 * length ends.now) out_ends.old out_ends.new out_values.old
         out_values.new scratch_ends.old scratch_ends.new scratch_values.old scratch_values.new result }
@@ -526,7 +514,7 @@ pub fn collapse(
         out_keys.old out_offsets.old out_ends.old out_values.old scratch_ends.old scratch_values.old
         × LinkLent new_keys.now first.old next.old positions.old }
     ensures { FilledGroups
-        (map (collapse_key (operation code) (Value fill) (renamed (batch keys.now offsets.now ends.now values.now) new_keys.now))
+        (map (collapse_key (operation code) (Some fill) (renamed (batch keys.now offsets.now ends.now values.now) new_keys.now))
         (once new_keys.now)) (2 * length ends.now) out_keys.old out_keys.new out_offsets.old
         out_offsets.new out_ends.old out_ends.new out_values.old
         out_values.new scratch_ends.old scratch_ends.new scratch_values.old scratch_values.new result }

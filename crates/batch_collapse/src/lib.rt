@@ -3,8 +3,7 @@
 // collapse of a batch.
 pub mod inner;
 
-ghost use Rattle.std.specs.Prelude.{◌*◌, true, [], ◌∷◌, ◌++◌, ◌≡◌, length};
-ghost use Rattle.std.proofs.Math.Option.{none};
+ghost use Rattle.std.specs.Prelude.{◌*◌, true, [], ◌∷◌, ◌++◌, ◌≡◌, length, None};
 ghost use Rattle.column.specs.Asking.{shown_asked};
 ghost use Rattle.column.specs.Questions.{room, both};
 ghost use Rattle.batch_index.specs.Workers.{LinkLent};
@@ -14,8 +13,10 @@ ghost use Rattle.batch_collapse.specs.Calls as calls;
 ghost use Rattle.batch_collapse.specs.Workers.{Together};
 
 use batch_index::inner::links;
-use column::answer::{Asked, Batched, Fill};
+use column::answer::RleBatch;
+use column::error::Refusal;
 
+#[tactic(auto, using(plan::proofs::InTurn::in_turn), unfolding(crate::specs::Calls::collapse_asked))]
 fn collapse_asks(
     keys: &[u32],
     offsets: &[usize],
@@ -23,13 +24,13 @@ fn collapse_asks(
     values: &[i64],
     new_keys: &[u32],
     code: u8,
-) -> Asked
+) -> Result<(), Refusal>
     ensures { shown_asked result ≡ calls.collapse_asked (batch keys.now offsets.now ends.now values.now) new_keys.now code }
 {
-    questions::ask_code(0, 9, code)
-        .and(batch::ask_lengths(keys, offsets, ends, values))
-        .and(questions::ask_lengths(4, new_keys.len(), keys.len()))
-        .and(batch::ask_content(keys, offsets, ends, values))
+    questions::ask_code(0, 9, code)?;
+    batch::ask_lengths(keys, offsets, ends, values)?;
+    questions::ask_lengths(4, new_keys.len(), keys.len())?;
+    batch::ask_content(keys, offsets, ends, values)
 }
 
 // 12, of the buffers for a batch and of a scratch pair.
@@ -44,7 +45,7 @@ fn ask_room(
     out_values: usize,
     scratch_ends: usize,
     scratch_values: usize,
-) -> Asked
+) -> Result<(), Refusal>
     ensures { shown_asked result ≡ room ((keys ∷ offsets ∷ both runs) ++ both scratch)
         (out_keys ∷ out_offsets ∷ out_ends ∷ out_values ∷ scratch_ends ∷ scratch_values ∷ []) }
 {
@@ -56,9 +57,9 @@ fn ask_room(
         out_offsets,
         out_ends,
         out_values,
-    )
-    .and(questions::ask_room(4, scratch, scratch_ends))
-    .and(questions::ask_room(5, scratch, scratch_values))
+    )?;
+    questions::ask_room(4, scratch, scratch_ends)?;
+    questions::ask_room(5, scratch, scratch_values)
 }
 
 // The groups, after the questions but 10 and 12. Links of the new keys go through three buffers, if these have room for them.
@@ -72,7 +73,7 @@ fn collapse_by(
     first: &mut [u16],
     next: &mut [u16],
     positions: &mut [u32],
-    fill: Fill,
+    fill: Option<i64>,
     code: u8,
     out_keys: &mut [u32],
     out_offsets: &mut [usize],
@@ -80,13 +81,13 @@ fn collapse_by(
     out_values: &mut [i64],
     scratch_ends: &mut [i64],
     scratch_values: &mut [i64],
-) -> Batched
-    requires { (calls.collapse_asked (batch keys.now offsets.now ends.now values.now) new_keys.now code ≡ none)
+) -> Result<RleBatch, Refusal>
+    requires { (calls.collapse_asked (batch keys.now offsets.now ends.now values.now) new_keys.now code ≡ None)
         × (together ≡ true → Together new_keys.now) × LinkLent new_keys.now first.old next.old positions.old }
     ensures { WritesCollapse (calls.collapse (batch keys.now offsets.now ends.now values.now) new_keys.now fill code)
         (2 * length ends.now) out_keys out_offsets out_ends out_values scratch_ends scratch_values result }
 {
-    let fits = inner::ask_groups(
+    inner::ask_groups(
         keys,
         offsets,
         ends,
@@ -98,8 +99,8 @@ fn collapse_by(
         &mut *positions,
         fill,
         code,
-    )
-    .and(ask_room(
+    )?;
+    ask_room(
         keys.len(),
         keys.len() + 1,
         ends.len(),
@@ -110,32 +111,27 @@ fn collapse_by(
         out_values.len(),
         scratch_ends.len(),
         scratch_values.len(),
-    ));
-    match fits {
-        Asked::Yes => {
-            let counts = inner::collapse(
-                keys,
-                offsets,
-                ends,
-                values,
-                new_keys,
-                together,
-                first,
-                next,
-                positions,
-                fill.value(),
-                code,
-                out_keys,
-                out_offsets,
-                out_ends,
-                out_values,
-                scratch_ends,
-                scratch_values,
-            );
-            Batched::Batch(counts)
-        }
-        Asked::No(r) => Batched::Refused(r),
-    }
+    )?;
+    let counts = inner::collapse(
+        keys,
+        offsets,
+        ends,
+        values,
+        new_keys,
+        together,
+        first,
+        next,
+        positions,
+        fill.unwrap_or(0),
+        code,
+        out_keys,
+        out_offsets,
+        out_ends,
+        out_values,
+        scratch_ends,
+        scratch_values,
+    );
+    Ok(counts)
 }
 
 // The sequences of a batch gathered under new keys: those of one new key are combined one after another.
@@ -145,7 +141,7 @@ pub fn collapse(
     ends: &[i64],
     values: &[i64],
     new_keys: &[u32],
-    fill: Fill,
+    fill: Option<i64>,
     code: u8,
     out_keys: &mut [u32],
     out_offsets: &mut [usize],
@@ -153,15 +149,11 @@ pub fn collapse(
     out_values: &mut [i64],
     scratch_ends: &mut [i64],
     scratch_values: &mut [i64],
-) -> Batched
+) -> Result<RleBatch, Refusal>
     ensures { WritesCollapse (calls.collapse (batch keys.now offsets.now ends.now values.now) new_keys.now fill code)
         (2 * length ends.now) out_keys out_offsets out_ends out_values scratch_ends scratch_values result }
 {
-    let asked = collapse_asks(keys, offsets, ends, values, new_keys, code);
-    match asked {
-        Asked::Yes => {}
-        Asked::No(r) => return Batched::Refused(r),
-    }
+    collapse_asks(keys, offsets, ends, values, new_keys, code)?;
     let together = inner::stand_together(new_keys);
     if inner::links_pay(new_keys, together) {
         let mut first = [0u16; links::BLOCK];

@@ -1,7 +1,7 @@
 -- The loop that writes the sequences of the keys, joined, one after another.
 -- Assumes nothing.
 use Prim.Native.Nat.{ℕ, zero, suc, ◌+◌, ◌-◌, ◌≤◌, ◌<◌}
-use mathlib.Core.Option.{none}
+use Rattle.std.specs.Prelude.{Option, Some, None}
 use mathlib.Core.List.{List, [], ◌∷◌, ◌++◌, map}
 use mathlib.Core.Path.{◌≡◌, refl, ap, ap₂, sym, ◌∙◌}
 use native.Mathlib.Numerals.{add-one}
@@ -19,18 +19,18 @@ use Rattle.column.proofs.Told.{fits_told}
 use Rattle.transform.specs.Calls.{shown}
 use Rattle.batch.specs.declared.two.Joined.{Joined}
 use Rattle.batch.specs.Batch.{Entry, batch, entries, columns_of, find}
-use Rattle.batch.specs.Workers.{ValidBatch, FilledCounts, NextKept}
+use Rattle.batch.specs.Workers.{ValidBatch, FilledCounts}
 use Rattle.batch.proofs.Entries.{entries-columns, columns-total, part-valid, parts-paired}
 use Rattle.batch.proofs.Getting.{found, found-count}
 use Rattle.batch.proofs.Laying.{no_entry, LayingBatch, batch-start, batch-next, batch-end}
 use Rattle.batch_keys.specs.Calls.{once}
 use Rattle.batch_concat.specs.Calls.{concat_key, fit_keys}
-use Rattle.batch_concat.specs.Workers.{key_at, ConcatRoom}
+use Rattle.batch_concat.specs.Workers.{ConcatRoom}
 use Rattle.transform.specs.Workers.{JoinableTwo}
 use Rattle.batch_concat.proofs.Asking.{found-valid, fit_key}
 use Rattle.transform.proofs.JoiningTwo.{joined-few}
 use Rattle.batch_concat.proofs.Keys.{runs_for, once_runs}
-use Rattle.batch_concat.proofs.Once.{once-short, Following, follow-start, follow-within, follow-key, follow-a, follow-b, follow-b-within, follow-next}
+use Rattle.batch_concat.proofs.Once.{once-short, NextKey, Following, follow-start, follow-within, follow-key, follow-a, follow-b, follow-b-within, follow-next}
 use Rattle.batch_concat.proofs.Once.{follow-end}
 
 map_at : {A B : Type 0} (f : A → B) (xs : List A) (i : ℕ) (d : A) (c : B) → i < length xs → get_or (map f xs) i c ≡ f (get_or xs i d)
@@ -57,12 +57,12 @@ module _ (ka oa : List ℕ) (ea va : List ℤ) (kb ob : List ℕ) (eb vb : List 
   abbrev pub result : List Entry
   result = map (concat_key l r) ks
 
-  -- the first n keys' sequences are written, and j is where the next key stands
-  pub record Writing (k₀ k x₀ x : List ℕ) (e₀ e v₀ v : List ℤ) (used n : ℕ) (j : Joined) : Type 0 where
+  -- the first n keys' sequences are written, and o is where the next key stands, if there is one
+  pub record Writing (k₀ k x₀ x : List ℕ) (e₀ e v₀ v : List ℤ) (used n : ℕ) (o : Option Joined) : Type 0 where
     pub laying : LayingBatch result k₀ k x₀ x e₀ e v₀ v used n
-    pub follows : Following ka kb j n
+    pub follows : Following ka kb o n
     pub room : used + (runs_for l (drop n ks) + runs_for r (drop n ks)) ≤ length ea + length eb
-    pub fitting : each_from (fit_key l r) n (drop n ks) ≡ none
+    pub fitting : each_from (fit_key l r) n (drop n ks) ≡ None
 
   module _ {k₀ x₀ : List ℕ} {e₀ v₀ : List ℤ} (p : ConcatRoom (batch ka oa ea va) (batch kb ob eb vb) k₀ x₀ e₀ v₀) where
     -- the joined sequences have no more runs than both batches
@@ -79,7 +79,7 @@ module _ (ka oa : List ℕ) (ea va : List ℤ) (kb ob : List ℕ) (eb vb : List 
     many : length result ≤ length ka + length kb
     many = rw length-map (once-short ka kb)
 
-    pub write_start : {j : Joined} → NextKept (key_at ka kb) (length ka + length kb) 0 j → Writing k₀ k₀ (set x₀ 0 0) (set x₀ 0 0) e₀ e₀ v₀ v₀ 0 0 j
+    pub write_start : {o : Option Joined} → NextKey ka kb 0 o → Writing k₀ k₀ (set x₀ 0 0) (set x₀ 0 0) e₀ e₀ v₀ v₀ 0 0 o
     unfolding fit_keys
     write_start k = record {
       laying = batch-start result k₀ x₀ e₀ v₀ (omega (arith, p.room_offsets));
@@ -88,8 +88,8 @@ module _ (ka oa : List ℕ) (ea va : List ℤ) (kb ob : List ℕ) (eb vb : List 
       fitting = p.fitting;
     }
 
-    module _ {k x : List ℕ} {e v : List ℤ} {used n : ℕ} {j : Joined} (s : Writing k₀ k (set x₀ 0 0) x e₀ e v₀ v used n j) where
-      module _ (h : j.at < length ka + length kb) where
+    module _ {k x : List ℕ} {e v : List ℤ} {used n : ℕ} {o : Option Joined} (s : Writing k₀ k (set x₀ 0 0) x e₀ e v₀ v used n o) where
+      module _ {j : Joined} (h : o ≡ Some j) where
         abbrev key : ℕ
         key = get_or ks n 0
 
@@ -97,8 +97,13 @@ module _ (ka oa : List ℕ) (ea va : List ℤ) (kb ob : List ℕ) (eb vb : List 
         within = follow-within ka kb s.follows h
 
         -- there is room for the key and the offset after it
-        pub write-within : (n < length k₀) × (n + 1 < length x₀)
-        write-within = (omega (arith, within, once-short ka kb, p.room_keys), omega (arith, within, once-short ka kb, p.room_offsets))
+        pub write-within : (n < length k) × (n + 1 < length x) × (n < length k₀) × (n + 1 < length x₀)
+        write-within = (
+          omega (arith, within, once-short ka kb, p.room_keys, s.laying.keys.long),
+          omega (arith, within, once-short ka kb, p.room_offsets, s.laying.laying.long_offsets, length-set x₀ 0 0),
+          omega (arith, within, once-short ka kb, p.room_keys),
+          omega (arith, within, once-short ka kb, p.room_offsets),
+        )
 
         -- the key's position in the second, or that of its end
         pub write-b : j.b ≤ length kb
@@ -112,7 +117,7 @@ module _ (ka oa : List ℕ) (ea va : List ℤ) (kb ob : List ℕ) (eb vb : List 
             let d : drop n ks ≡ key ∷ drop (n + 1) ks = rw (add-one n) (drop-cons ks n 0 within) in
             omega (arith, rw d at s.room)
 
-        next-fitting : (fit_key l r n key ≡ none) × (each_from (fit_key l r) (n + 1) (drop (n + 1) ks) ≡ none)
+        next-fitting : (fit_key l r n key ≡ None) × (each_from (fit_key l r) (n + 1) (drop (n + 1) ks) ≡ None)
         unfolding each_from
         next-fitting =
             let y = all_yes (fit_key l r n key ∷ each_from (fit_key l r) (suc n) (drop (suc n) ks) ∷ []) (rw (drop-cons ks n 0 within) at s.fitting) in
@@ -156,15 +161,18 @@ module _ (ka oa : List ℕ) (ea va : List ℤ) (kb ob : List ℕ) (eb vb : List 
             runs_at_lem : encode (shown (runs_of pa qa ∷ runs_of pb qb ∷ [])) ≡ (get_or result n no_entry).runs
             runs_at_lem = ap₂ (λ (x y : Runs). encode (shown (x ∷ y ∷ []))) (sym found-a) (sym found-b) ∙ ap (λ (t : Entry). t.runs) (sym entry)
 
-            pub write-used : m ≤ length pa + length pb
-            write-used =
+            fewer : m ≤ length pa + length pb
+            fewer =
                 let same = ap₂ (λ (x y : Runs). encode (shown (x ∷ y ∷ []))) (sym found-a) (sym found-b) in
                 let few = joined-few (find key l) (find key r) (found-valid ka oa ea va p.first key) (found-valid kb ob eb vb p.second key) in
                 omega (arith, f.count, ap length same, few, count-a, count-b)
 
-            pub write_next : {j' : Joined} → NextKept (key_at ka kb) (length ka + length kb) (j.at + 1) j'
+            pub write-used : used + m ≤ length e₀
+            write-used = omega (arith, fewer, write-room.0, s.laying.laying.long_ends)
+
+            pub write_next : {o' : Option Joined} → NextKey ka kb (j.at + 1) o'
                 → Writing k₀ (set k n j.key) (set x₀ 0 0) (set x (n + 1) (used + m)) e₀ (put_mid used (length e - used) e e₂)
-                v₀ (put_mid used (length v - used) v v₂) (used + m) (n + 1) j'
+                v₀ (put_mid used (length v - used) v v₂) (used + m) (n + 1) o'
             write_next k = record {
               laying = batch-next s.laying (rw length-map within) (follow-key ka kb s.follows h ∙ ap (λ (t : Entry). t.key) (sym entry))
                   (rw runs_at_lem at f)
@@ -172,11 +180,11 @@ module _ (ka oa : List ℕ) (ea va : List ℤ) (kb ob : List ℕ) (eb vb : List 
                   (rw (length-set x₀ 0 0) (omega (arith, many, p.room_offsets)))
                   (omega (arith, many, p.room_keys));
               follows = follow-next ka kb s.follows h k;
-              room = omega (arith, next-room, write-used, count-a, count-b);
+              room = omega (arith, next-room, fewer, count-a, count-b);
               fitting = next-fitting.1;
             }
 
-      pub write-end : length ka + length kb ≤ j.at → FilledCounts result k₀ k x₀ x e₀ e v₀ v (record { keys = n; runs = used })
+      pub write-end : o ≡ None → FilledCounts result k₀ k x₀ x e₀ e v₀ v (record { keys = n; runs = used })
       write-end h =
           let z = follow-end ka kb s.follows h in
           let m : length result ≡ length ks = length-map ks (concat_key l r) in

@@ -1,6 +1,6 @@
 -- Worked examples of getitems of a batch, computed from its definition: an absent key, and key 5, which shows 7, 7, 4.
 -- Assumes nothing.
-use mathlib.Core.Option.{none}
+use Rattle.std.specs.Prelude.{None}
 use mathlib.Core.List.{List, [], ◌∷◌, map}
 use mathlib.Core.Path.{refl}
 use lib.IntN.{pos}
@@ -25,7 +25,7 @@ abbrev rows : List Row
 rows =
     row (as_flat (getitems a (9 ∷ 5 ∷ []) (pos 0 ∷ pos 1 ∷ []) (pos 3 ∷ pos 3 ∷ []) (3 ∷ 2 ∷ 2 ∷ [])))
     (answers ((pos 0 ∷ pos 0 ∷ pos 2 ∷ []) ∷ (pos 1 ∷ pos 2 ∷ []) ∷ (pos 7 ∷ pos 4 ∷ []) ∷ []))
-    ∷ row (as_flat (getitems a (5 ∷ []) (pos 0 ∷ pos 2 ∷ []) (pos 1 ∷ pos 1 ∷ []) (0 ∷ 0 ∷ 0 ∷ []))) (refused 9 (pos 1 ∷ pos 2 ∷ pos 1 ∷ []) none)
+    ∷ row (as_flat (getitems a (5 ∷ []) (pos 0 ∷ pos 2 ∷ []) (pos 1 ∷ pos 1 ∷ []) (0 ∷ 0 ∷ 0 ∷ []))) (refused 9 (pos 1 ∷ pos 2 ∷ pos 1 ∷ []) None)
     ∷ []
 
 pub examples : Hold rows

@@ -2,7 +2,7 @@
 -- Assumes nothing.
 use Prim.Native.Nat.{ℕ, ◌+◌, ◌-◌, ◌≤◌, ◌<◌, ◌^◌}
 use mathlib.Core.List.{List, [], map}
-use mathlib.Core.Option.{none}
+use Rattle.std.specs.Prelude.{None}
 use mathlib.Core.Path.{◌≡◌, refl, ap, sym, ◌∙◌}
 use native.Mathlib.Numerals.{add-one}
 use native.Mathlib.Omega.{arith}
@@ -36,11 +36,11 @@ module _ {ks os : List ℕ} {es vs : List ℤ} {gs : List ℕ} {ss ts : List ℤ
 
   module _ {i : ℕ} (h : i < length ss) {x y : ℤ} (ex : x ≡ get_or ss i (pos 0)) (ey : y ≡ get_or ts i (pos 0))
       {key at : ℕ} (ek : key ≡ get_or gs i 0) (ea : at ≡ lowest key ks) {pe : List ℤ} (ee : pe ≡ get_or (parts os es) at []) where
-    ends-valid : ends_valid pe ≡ none
+    ends-valid : ends_valid pe ≡ None
     ends-valid = (item-asked q h ex ey ek ea ee refl).0
 
     -- the runs that it touches there
-    module _ {t : TouchedRuns} (et : ends_valid pe ≡ none → t ≡ touched_by x y pe) where
+    module _ {t : TouchedRuns} (et : ends_valid pe ≡ None → t ≡ touched_by x y pe) where
       pub item_count : t.count ≡ length (get_or items i [])
       item_count =
           ap (λ (r : TouchedRuns). r.count) (et ends-valid)
@@ -80,29 +80,58 @@ module _ {cs : List Runs} {n i : ℕ} (c : Counting cs n i) where
 
 -- ---- the slices laid flat: the first i of them are written
 
+pub record Placing (cs : List Runs) (x₀ x : List ℕ) (e₀ e v₀ v : List ℤ) (used i : ℕ) : Type 0 where
+  pub laying : Laying cs x₀ x e₀ e v₀ v used i
+  pub fits_ends : used ≤ length e
+  pub fits_values : used ≤ length v
+
 module _ {ks os : List ℕ} {es vs : List ℤ} {gs : List ℕ} {ss ts : List ℤ} {x : List ℕ} {e₀ v₀ : List ℤ} (q : Gettable (batch ks os es vs) gs ss ts x e₀ v₀)
   where
-    abbrev Laid : List ℕ → List ℤ → List ℤ → ℕ → ℕ → Type 0
-    Laid y e v used i = Laying (item_runs gs ss ts (entries (batch ks os es vs))) (set x 0 0) y e₀ e v₀ v used i
+    abbrev slices : List Runs
+    slices = item_runs gs ss ts (entries (batch ks os es vs))
 
-    pub laid_start : Laid (set x 0 0) e₀ v₀ 0 0
-    laid_start = laying_start x (omega (arith, q.room_offsets)) (item_runs gs ss ts (entries (batch ks os es vs))) e₀ v₀
+    pub placing_start : Placing slices (set x 0 0) (set x 0 0) e₀ e₀ v₀ v₀ 0 0
+    placing_start = record {
+      laying = laying_start x (omega (arith, q.room_offsets)) slices e₀ v₀;
+      fits_ends = omega arith;
+      fits_values = omega arith;
+    }
 
-    module _ {y : List ℕ} {e v : List ℤ} {used i : ℕ} (s : Laid y e v used i) where
-      module _ (h : i < length ss) where
-        in-items : i < length (item_runs gs ss ts (entries (batch ks os es vs)))
-        in-items = rw (items-many q.intervals) h
+    module _ {y : List ℕ} {e v : List ℤ} {used i : ℕ} (s : Placing slices (set x 0 0) y e₀ e v₀ v used i) where
+      pub placing_end : length ss ≤ i → FilledFlat slices x y e₀ e v₀ v used
+      placing_end h = laying_end x (omega (arith, q.room_offsets)) s.laying (rw (items-many q.intervals) h)
+
+      -- of the interval at i: its start and end, its key and where that stands, and the runs that it touches there
+      module _ (h : i < length ss) {a b : ℤ} (ea : a ≡ get_or ss i (pos 0)) (eb : b ≡ get_or ts i (pos 0)) {at : ℕ} (el : at ≡ lowest (get_or gs i 0) ks)
+          {pe pv : List ℤ} (ee : pe ≡ get_or (parts os es) at []) (ev : pv ≡ get_or (parts os vs) at [])
+          {t : TouchedRuns} (et : ends_valid pe ≡ None → t ≡ touched_by a b pe) where
+        in-slices : i < length slices
+        in-slices = rw (items-many q.intervals) h
 
         -- there is room for the next
-        pub laid-room : (used + length (get_or (item_runs gs ss ts (entries (batch ks os es vs))) i []) ≤ length e)
-            × (used + length (get_or (item_runs gs ss ts (entries (batch ks os es vs))) i []) ≤ length v)
-        laid-room = let r = laying-room s in-items in (rw s.long_ends (r (length e₀) q.room_ends), rw s.long_values (r (length v₀) q.room_values))
+        room : (used + length (get_or slices i []) ≤ length e) × (used + length (get_or slices i []) ≤ length v)
+        room =
+            let r = laying-room s.laying in-slices in
+            (rw s.laying.long_ends (r (length e₀) q.room_ends), rw s.laying.long_values (r (length v₀) q.room_values))
 
-        pub laid_next : {e₂ v₂ : List ℤ} {n : ℕ}
-            → Filled (get_or (item_runs gs ss ts (entries (batch ks os es vs))) i []) (take (length e - used) (drop used e))
-            e₂ (take (length v - used) (drop used v)) v₂ n
-            → Laid (set y (i + 1) (used + n)) (put_mid used (length e - used) e e₂) (put_mid used (length v - used) v v₂) (used + n) (i + 1)
-        laid_next f = laying-next s in-items f q.room_ends q.room_values (rw (items-many q.intervals, length-set) (omega (arith, q.room_offsets)))
+        pub placing_touches : Touches t pe pv (take (length e - used) (drop used e)) (take (length v - used) (drop used v))
+        placing_touches = item-touches q.intervals h ea eb refl el ee et ev e v used room.0 room.1
 
-      pub laid_end : length ss ≤ i → FilledFlat (item_runs gs ss ts (entries (batch ks os es vs))) x y e₀ e v₀ v used
-      laid_end h = laying_end x (omega (arith, q.room_offsets)) s (rw (items-many q.intervals) h)
+        module _ {e₂ v₂ : List ℤ} {n : ℕ}
+            (f : Filled (cut_runs t (runs_of pe pv)) (take (length e - used) (drop used e)) e₂ (take (length v - used) (drop used v)) v₂ n) where
+          filled : Filled (get_or slices i []) (take (length e - used) (drop used e)) e₂ (take (length v - used) (drop used v)) v₂ n
+          filled = item-filled q.intervals h ea eb refl el ee et ev f
+
+          pub placing_fits : used + n ≤ length e
+          placing_fits = omega (arith, room.0, filled.count)
+
+          pub placing_next : Placing slices (set x 0 0) (set y (i + 1) (used + n)) e₀ (put_mid used (length e - used) e e₂)
+              v₀ (put_mid used (length v - used) v v₂) (used + n) (i + 1)
+          placing_next =
+              let l = laying-next s.laying in-slices filled q.room_ends q.room_values
+              (rw (items-many q.intervals, length-set) (omega (arith, q.room_offsets))) in
+              record {
+                laying = l;
+                fits_ends = omega (arith, placing_fits, s.laying.long_ends, l.long_ends);
+                fits_values = omega (arith, room.1, filled.count, s.laying.long_values, l.long_values);
+              }

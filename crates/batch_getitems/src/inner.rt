@@ -33,14 +33,10 @@ fn count_items_by(
 {
     let mut total: usize = 0;
     let mut at: usize = 0;
-    let mut i: usize = 0;
-    while i < starts.len() {
-        let start = starts[i];
-        let stop = stops[i];
+    for i in 0..starts.len() {
         at = batch_keys::inner::find_next(keys, order, at, get_keys, i, indexed, &mut *block);
-        let touched = search::touched(part_at(offsets, ends, at), start, stop);
+        let touched = search::touched(part_at(offsets, ends, at), starts[i], stops[i]);
         total = num::saturating_add(total, touched.count);
-        i += 1;
     }
     total
 }
@@ -98,13 +94,10 @@ fn getitems_by(
     out_offsets[0] = 0;
     let mut used: usize = 0;
     let mut at: usize = 0;
-    let mut i: usize = 0;
-    while i < starts.len() {
-        let start = starts[i];
-        let stop = stops[i];
+    for i in 0..starts.len() {
         at = batch_keys::inner::find_next(keys, order, at, get_keys, i, indexed, &mut *block);
         let part = part_at(offsets, ends, at);
-        let touched = search::touched(part, start, stop);
+        let touched = search::touched(part, starts[i], stops[i]);
         used += slice::inner::slice(
             part,
             part_at(offsets, values, at),
@@ -112,8 +105,7 @@ fn getitems_by(
             &mut out_ends[used..],
             &mut out_values[used..],
         );
-        i += 1;
-        out_offsets[i] = used;
+        out_offsets[i + 1] = used;
     }
     used
 }

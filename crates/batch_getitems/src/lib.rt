@@ -9,9 +9,11 @@ ghost use Rattle.column.specs.Flat.{WritesFlat};
 ghost use Rattle.batch.specs.Batch.{batch};
 ghost use Rattle.batch_getitems.specs.Calls as calls;
 
-use column::answer::{Asked, Batched, RleBatch};
+use column::answer::RleBatch;
+use column::error::Refusal;
 
 // The batch's own questions, and at the place of 9 what 8 of 2, 9 and what 7 of 2.
+#[tactic(auto, using(column::proofs::FirstNo::ends_at, column::proofs::FirstNo::goes_on, column::proofs::FirstNo::alone), unfolding(crate::specs::Calls::getitems_asked))]
 fn getitems_asks(
     keys: &[u32],
     offsets: &[usize],
@@ -20,13 +22,13 @@ fn getitems_asks(
     get_keys: &[u32],
     starts: &[i64],
     stops: &[i64],
-) -> Asked
+) -> Result<(), Refusal>
     ensures { shown_asked result ≡ calls.getitems_asked (batch keys.now offsets.now ends.now values.now) get_keys.now starts.now stops.now }
 {
-    batch::ask_batch(keys, offsets, ends, values)
-        .and(questions::ask_lengths(8, starts.len(), stops.len()))
-        .and(questions::ask_intervals(starts, stops))
-        .and(questions::ask_lengths(7, get_keys.len(), starts.len()))
+    batch::ask_batch(keys, offsets, ends, values)?;
+    questions::ask_lengths(8, starts.len(), stops.len())?;
+    questions::ask_intervals(starts, stops)?;
+    questions::ask_lengths(7, get_keys.len(), starts.len())
 }
 
 // The slices of intervals, each of a key's sequence, laid flat.
@@ -41,44 +43,35 @@ pub fn getitems(
     out_offsets: &mut [usize],
     out_ends: &mut [i64],
     out_values: &mut [i64],
-) -> Batched
+) -> Result<RleBatch, Refusal>
     ensures { WritesFlat (calls.getitems (batch keys.now offsets.now ends.now values.now) get_keys.now starts.now stops.now)
         out_offsets out_ends out_values result }
 {
-    let asked = getitems_asks(keys, offsets, ends, values, get_keys, starts, stops);
-    match asked {
-        Asked::Yes => {}
-        Asked::No(r) => return Batched::Refused(r),
-    }
+    getitems_asks(keys, offsets, ends, values, get_keys, starts, stops)?;
     let order = batch_keys::inner::quick_order(keys);
     let needed = inner::count_items(keys, offsets, ends, values, order, get_keys, starts, stops);
-    let room = questions::ask_flat_room(
+    questions::ask_flat_room(
         starts.len() + 1,
         needed,
         out_offsets.len(),
         out_ends.len(),
         out_values.len(),
+    )?;
+    let runs = inner::getitems(
+        keys,
+        offsets,
+        ends,
+        values,
+        order,
+        get_keys,
+        starts,
+        stops,
+        out_offsets,
+        out_ends,
+        out_values,
     );
-    match room {
-        Asked::Yes => {
-            let runs = inner::getitems(
-                keys,
-                offsets,
-                ends,
-                values,
-                order,
-                get_keys,
-                starts,
-                stops,
-                out_offsets,
-                out_ends,
-                out_values,
-            );
-            Batched::Batch(RleBatch {
-                keys: starts.len(),
-                runs,
-            })
-        }
-        Asked::No(r) => Batched::Refused(r),
-    }
+    Ok(RleBatch {
+        keys: starts.len(),
+        runs,
+    })
 }

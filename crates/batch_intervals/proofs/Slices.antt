@@ -2,7 +2,7 @@
 -- Assumes nothing.
 use Prim.Native.Nat.{ℕ, zero, suc, ◌<◌}
 use mathlib.Core.List.{List, [], ◌∷◌}
-use mathlib.Core.Option.{none}
+use Rattle.std.specs.Prelude.{None}
 use mathlib.Core.Path.{◌≡◌, refl, ap, ap₂, sym, ◌∙◌}
 use native.Mathlib.Omega.{arith}
 use lib.IntN.{ℤ, pos}
@@ -46,14 +46,14 @@ module _ {ks os : List ℕ} {es vs : List ℤ} {gs : List ℕ} {ss ts : List ℤ
 
   module _ {i : ℕ} (h : i < length ss) {x y : ℤ} (ex : x ≡ get_or ss i (pos 0)) (ey : y ≡ get_or ts i (pos 0))
       {key at : ℕ} (ek : key ≡ get_or gs i 0) (ea : at ≡ lowest key ks) {pe : List ℤ} (ee : pe ≡ get_or (parts os es) at []) where
-    ends-valid : ends_valid pe ≡ none
+    ends-valid : ends_valid pe ≡ None
     ends-valid = rw ee (part-valid ks os es vs q.batch at)
 
     module _ {pv : List ℤ} (ev : pv ≡ get_or (parts os vs) at []) where
       ends-paired : length pe ≡ length pv
       ends-paired = rw (ee, ev) (parts-paired ks os es vs q.batch at)
 
-      pub item-asked : (ends_valid pe ≡ none) × (length pe ≡ length pv)
+      pub item-asked : (ends_valid pe ≡ None) × (length pe ≡ length pv)
       item-asked = (ends-valid, ends-paired)
 
       pub item_is : slice_runs x y (runs_of pe pv) ≡ get_or items i []

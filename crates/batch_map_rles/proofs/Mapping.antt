@@ -2,14 +2,13 @@
 -- Assumes nothing.
 use Prim.Native.Nat.{ℕ, zero, suc, ◌+◌, ◌-◌, ◌*◌, ◌≤◌, ◌<◌}
 use mathlib.Core.List.{List, [], ◌∷◌, map}
-use mathlib.Core.Option.{none}
+use Rattle.std.specs.Prelude.{None, Ok}
 use mathlib.Core.Path.{◌≡◌, refl, ap, sym, ◌∙◌}
 use native.Mathlib.Nat.{mul-suc}
 use native.Mathlib.Omega.{arith}
 use borrow.Rule.Slice.PartMut.{put_mid}
 use lib.IntN.{ℤ}
 use lib.ListN.{length, get_or, take, drop, set, length-map, length-set, get_or-map}
-use Rattle.column.specs.declared.answer.Batched.{Batched}
 use Rattle.column.specs.Asking.{◌otherwise◌}
 use Rattle.column.specs.Flat.{flat, columns}
 use Rattle.column.specs.Lists.{total, parts}
@@ -55,8 +54,8 @@ mapped-few Reversed rs v = omega (arith, reverse-count rs)
 mapped-few (Slice start end) rs v = omega (arith, slice-few start end rs v)
 
 -- there is room for the runs that a slice touches where there is for all
-pub slice_touches : (start end : ℤ) (es vs e v : List ℤ) {t : TouchedRuns} → (ends_valid es ≡ none → t ≡ touched_by start end es)
-    → ends_valid es ≡ none → length es ≡ length vs → length es ≤ length e → length es ≤ length v → Touches t es vs e v
+pub slice_touches : (start end : ℤ) (es vs e v : List ℤ) {t : TouchedRuns} → (ends_valid es ≡ None → t ≡ touched_by start end es)
+    → ends_valid es ≡ None → length es ≡ length vs → length es ≤ length e → length es ≤ length v → Touches t es vs e v
 slice_touches start end es vs e v et valid l re rv =
     let i = touched_inside start end es valid in
     rw (et valid) (touches start end es vs e v valid l (omega arith) (omega arith))
@@ -119,12 +118,18 @@ module _ (m : Mapping) (ks os : List ℕ) (es vs : List ℤ) (w : ValidBatch (ba
 
 -- ---- the loop: the new sequences of the first n keys are written
 
-module _ {m : Mapping} {ks os : List ℕ} {es vs : List ℤ} {k₀ x : List ℕ} {e₀ v₀ : List ℤ} (q : Mappable m (batch ks os es vs) k₀ x e₀ v₀) where
-  abbrev Mapped : List ℕ → List ℕ → List ℤ → List ℤ → ℕ → ℕ → Type 0
-  Mapped k y e v used n = LayingBatch (results m (batch ks os es vs)) k₀ k (set x 0 0) y e₀ e v₀ v used n
+pub record Mapped (m : Mapping) (b : Batch) (k₀ k x₀ x : List ℕ) (e₀ e v₀ v : List ℤ) (used n : ℕ) : Type 0 where
+  pub laid : LayingBatch (results m b) k₀ k x₀ x e₀ e v₀ v used n
+  pub fits_ends : used ≤ length e
+  pub fits_values : used ≤ length v
 
-  pub map-start : Mapped k₀ (set x 0 0) e₀ v₀ 0 0
-  map-start = batch-start (results m (batch ks os es vs)) k₀ x e₀ v₀ (omega (arith, q.room_offsets))
+module _ {m : Mapping} {ks os : List ℕ} {es vs : List ℤ} {k₀ x : List ℕ} {e₀ v₀ : List ℤ} (q : Mappable m (batch ks os es vs) k₀ x e₀ v₀) where
+  pub map_start : Mapped m (batch ks os es vs) k₀ k₀ (set x 0 0) (set x 0 0) e₀ e₀ v₀ v₀ 0 0
+  map_start = record {
+    laid = batch-start (results m (batch ks os es vs)) k₀ x e₀ v₀ (omega (arith, q.room_offsets));
+    fits_ends = omega arith;
+    fits_values = omega arith;
+  }
 
   all-ends : total (map length (columns_of (results m (batch ks os es vs)))) ≤ length e₀
   all-ends = omega (arith, made-total m ks os es vs q.batch, q.room_ends)
@@ -132,7 +137,7 @@ module _ {m : Mapping} {ks os : List ℕ} {es vs : List ℤ} {k₀ x : List ℕ}
   all-values : total (map length (columns_of (results m (batch ks os es vs)))) ≤ length v₀
   all-values = omega (arith, made-total m ks os es vs q.batch, q.room_values)
 
-  module _ {k y : List ℕ} {e v : List ℤ} {used n : ℕ} (s : Mapped k y e v used n) where
+  module _ {k y : List ℕ} {e v : List ℤ} {used n : ℕ} (s : Mapped m (batch ks os es vs) k₀ k (set x 0 0) y e₀ e v₀ v used n) where
     module _ (h : n < length ks) where
       in-results : n < length (results m (batch ks os es vs))
       in-results = rw (results_many m ks os es vs q.batch) h
@@ -142,42 +147,46 @@ module _ {m : Mapping} {ks os : List ℕ} {es vs : List ℤ} {k₀ x : List ℕ}
       next-room =
           let cs = columns (flat os es vs) in
           let u : used ≡ total (map length (take n (map (mapped m) cs))) =
-          s.laying.filled.count
+          s.laid.laying.filled.count
           ∙ length-all (take n (columns_of (results m (batch ks os es vs))))
           ∙ ap (λ (ds : List Runs). total (map length (take n ds))) (made-columns m ks os es vs q.batch) in
           let f = front-room m cs n (columns_are ks os es vs q.batch) (omega (arith, columns-many ks os es vs q.batch)) in
           rw (u, sym (column-count ks os es vs q.batch n)) (rw (columns-total ks os es vs q.batch, columns-many ks os es vs q.batch) at f)
 
-      pub map-room : (used + (length (get_or (parts os es) n []) + more m) ≤ length e) × (used + (length (get_or (parts os es) n []) + more m) ≤ length v)
-      map-room = (omega (arith, next-room, q.room_ends, s.laying.long_ends), omega (arith, next-room, q.room_values, s.laying.long_values))
+      module _ {pe pv : List ℤ} (ee : pe ≡ get_or (parts os es) n []) (ev : pv ≡ get_or (parts os vs) n []) where
+        pub map_asked : (ends_valid pe ≡ None) × (length pe ≡ length pv)
+            × (length pe + more m ≤ length (take (length e - used) (drop used e))) × (length pe + more m ≤ length (take (length v - used) (drop used v)))
+        map_asked =
+            let re : length pe + more m ≤ length (take (length e - used) (drop used e)) =
+            rw (rest-length, ee) (omega (arith, next-room, q.room_ends, s.laid.laying.long_ends)) in
+            let rv : length pe + more m ≤ length (take (length v - used) (drop used v)) =
+            rw (rest-length, ee) (omega (arith, next-room, q.room_values, s.laid.laying.long_values)) in
+            (rw ee (part-valid ks os es vs q.batch n), rw (ee, ev) (parts-paired ks os es vs q.batch n), re, rv)
 
-      pub map-asked : {pe pv : List ℤ} → pe ≡ get_or (parts os es) n [] → pv ≡ get_or (parts os vs) n []
-          → (ends_valid pe ≡ none) × (length pe ≡ length pv)
-          × (length pe + more m ≤ length (take (length e - used) (drop used e))) × (length pe + more m ≤ length (take (length v - used) (drop used v)))
-      map-asked ee ev =
-          let pe = get_or (parts os es) n [] in
-          let re : length pe + more m ≤ length (take (length e - used) (drop used e)) = rw rest-length (omega (arith, map-room.0)) in
-          let rv : length pe + more m ≤ length (take (length v - used) (drop used v)) = rw rest-length (omega (arith, map-room.1)) in
-          rw (ee, ev) (part-valid ks os es vs q.batch n, parts-paired ks os es vs q.batch n, re, rv)
+        module _ {e₂ v₂ : List ℤ} {r : ℕ}
+            (f : Filled (mapped m (runs_of pe pv)) (take (length e - used) (drop used e)) e₂ (take (length v - used) (drop used v)) v₂ r) where
+          wrote : Filled (get_or (results m (batch ks os es vs)) n no_entry).runs (take (length e - used) (drop used e)) e₂
+              (take (length v - used) (drop used v)) v₂ r
+          wrote = rw (ee, ev, made-runs m ks os es vs q.batch n h) at f
 
-      module _ {pe pv e₂ v₂ : List ℤ} {r : ℕ} (ee : pe ≡ get_or (parts os es) n []) (ev : pv ≡ get_or (parts os vs) n [])
-          (f : Filled (mapped m (runs_of pe pv)) (take (length e - used) (drop used e)) e₂ (take (length v - used) (drop used v)) v₂ r) where
-        wrote : Filled (get_or (results m (batch ks os es vs)) n no_entry).runs (take (length e - used) (drop used e)) e₂ (take (length v - used) (drop used v))
-            v₂ r
-        wrote = rw (ee, ev, made-runs m ks os es vs q.batch n h) at f
+          pub map_used : used + r ≤ length e
+          map_used = omega (arith, wrote.count, batch-next-room s.laid in-results (length e₀) all-ends, s.laid.laying.long_ends)
 
-        pub map-used : used + r ≤ length e
-        map-used = omega (arith, wrote.count, batch-next-room s in-results (length e₀) all-ends, s.laying.long_ends)
+          pub map_next : Mapped m (batch ks os es vs) k₀ (set k n (get_or ks n 0)) (set x 0 0) (set y (n + 1) (used + r))
+              e₀ (put_mid used (length e - used) e e₂) v₀ (put_mid used (length v - used) v v₂) (used + r) (n + 1)
+          map_next =
+              let l = results_many m ks os es vs q.batch in
+              let laid = batch-next s.laid in-results (made-key m ks os es vs q.batch n) wrote all-ends all-values
+              (rw (l, length-set) (omega (arith, q.room_offsets))) (rw l q.room_keys) in
+              record {
+                laid = laid;
+                fits_ends = omega (arith, map_used, s.laid.laying.long_ends, laid.laying.long_ends);
+                fits_values =
+                    omega (arith, wrote.count, batch-next-room s.laid in-results (length v₀) all-values, laid.laying.long_values);
+              }
 
-        pub map_next : {key : ℕ} → key ≡ get_or ks n 0
-            → Mapped (set k n key) (set y (n + 1) (used + r)) (put_mid used (length e - used) e e₂) (put_mid used (length v - used) v v₂) (used + r) (n + 1)
-        map_next ek =
-            let l = results_many m ks os es vs q.batch in
-            batch-next s in-results (ek ∙ made-key m ks os es vs q.batch n) wrote all-ends all-values
-            (rw (l, length-set) (omega (arith, q.room_offsets))) (rw l q.room_keys)
-
-    pub map-end : length ks ≤ n → FilledBatch (results m (batch ks os es vs)) k₀ k x y e₀ e v₀ v used
-    map-end h = batch-end (omega (arith, q.room_offsets)) s (rw (results_many m ks os es vs q.batch) h)
+    pub map_end : length ks ≤ n → FilledBatch (results m (batch ks os es vs)) k₀ k x y e₀ e v₀ v used
+    map_end h = batch-end (omega (arith, q.room_offsets)) s.laid (rw (results_many m ks os es vs q.batch) h)
 
 -- ---- the calls
 
@@ -200,7 +209,7 @@ slice-each start end b buffers =
     ap (λ (runs : ℕ). each_asked b runs buffers otherwise on_each (slice_runs start end) (entries b)) n
 
 module _ (m : Mapping) (ks os : List ℕ) (es vs : List ℤ) (k x : List ℕ) (e v : List ℤ)
-    (yes : each_asked (batch ks os es vs) (length es + more m * length ks) (length k ∷ length x ∷ length e ∷ length v ∷ []) ≡ none) where
+    (yes : each_asked (batch ks os es vs) (length es + more m * length ks) (length k ∷ length x ∷ length e ∷ length v ∷ []) ≡ None) where
   told : ValidBatch (batch ks os es vs) × Room (length ks) (length es + more m * length ks) (length k) (length x) (length e) (length v)
   unfolding each_asked
   told =
@@ -219,6 +228,6 @@ module _ (m : Mapping) (ks os : List ℕ) (es vs : List ℤ) (k x : List ℕ) (e
 
   pub each-written : {k' x' : List ℕ} {e' v' : List ℤ} {n : ℕ} → FilledBatch (results m (batch ks os es vs)) k k' x x' e e' v v' n
       → WrittenBatch (map_each m (batch ks os es vs) (length k ∷ length x ∷ length e ∷ length v ∷ []))
-      (Batched.Batch (record { keys = length ks; runs = n })) k k' x x' e e' v v'
+      (Ok (record { keys = length ks; runs = n })) k k' x x' e e' v v'
   unfolding map_each
   each-written f = batch-written (results m (batch ks os es vs)) yes (sym (results_many m ks os es vs told.0)) f

@@ -1,6 +1,5 @@
 // Workers that assume what the calls have asked.
-ghost use Rattle.std.specs.Prelude.{◌+◌, ◌≤◌, ◌≡◌, length};
-ghost use Rattle.std.proofs.Math.Option.{none};
+ghost use Rattle.std.specs.Prelude.{◌+◌, ◌≤◌, ◌≡◌, length, None};
 ghost use Rattle.column.specs.Questions.{ends_valid};
 ghost use Rattle.column.specs.Runs.{runs_of, Fills};
 ghost use Rattle.batch.specs.Batch.{batch, entries};
@@ -25,7 +24,7 @@ fn map_runs(
     out_ends: &mut [i64],
     out_values: &mut [i64],
 ) -> usize
-    requires { (ends_valid ends.now ≡ none) × (length ends.now ≡ length values.now)
+    requires { (ends_valid ends.now ≡ None) × (length ends.now ≡ length values.now)
         × (length ends.now + more mapping ≤ length out_ends.old) × (length ends.now + more mapping ≤ length out_values.old) }
     ensures { Fills (mapped mapping (runs_of ends.now values.now)) out_ends out_values result }
 {
@@ -60,10 +59,8 @@ pub fn map_rles(
 {
     out_offsets[0] = 0;
     let mut used: usize = 0;
-    let mut k: usize = 0;
-    while k < keys.len() {
-        let key = keys[k];
-        out_keys[k] = key;
+    for k in 0..keys.len() {
+        out_keys[k] = keys[k];
         used += map_runs(
             mapping,
             part_at(offsets, ends, k),
@@ -71,8 +68,7 @@ pub fn map_rles(
             &mut out_ends[used..],
             &mut out_values[used..],
         );
-        k += 1;
-        out_offsets[k] = used;
+        out_offsets[k + 1] = used;
     }
     used
 }

@@ -10,7 +10,8 @@ ghost use Rattle.batch_map_rles.specs.Calls as calls;
 ghost use Rattle.batch_map_rles.specs.Workers.{more, map_each};
 
 use crate::inner::Mapping;
-use column::answer::{Asked, Batched, RleBatch};
+use column::answer::RleBatch;
+use column::error::Refusal;
 
 // 2, 3, 4, and 12 for the same keys and so many runs.
 fn each_asks(
@@ -23,11 +24,12 @@ fn each_asks(
     out_offsets: usize,
     out_ends: usize,
     out_values: usize,
-) -> Asked
+) -> Result<(), Refusal>
     ensures { shown_asked
         result ≡ calls.each_asked (batch keys.now offsets.now ends.now values.now) runs (out_keys ∷ out_offsets ∷ out_ends ∷ out_values ∷ []) }
 {
-    batch::ask_batch(keys, offsets, ends, values).and(batch::ask_room(
+    batch::ask_batch(keys, offsets, ends, values)?;
+    batch::ask_room(
         keys.len(),
         keys.len() + 1,
         runs,
@@ -35,7 +37,7 @@ fn each_asks(
         out_offsets,
         out_ends,
         out_values,
-    ))
+    )
 }
 
 // So many runs are left at most.
@@ -60,10 +62,10 @@ fn map_each(
     out_offsets: &mut [usize],
     out_ends: &mut [i64],
     out_values: &mut [i64],
-) -> Batched
+) -> Result<RleBatch, Refusal>
     ensures { WritesBatch (map_each mapping (batch keys.now offsets.now ends.now values.now)) out_keys out_offsets out_ends out_values result }
 {
-    let asked = each_asks(
+    each_asks(
         keys,
         offsets,
         ends,
@@ -73,27 +75,22 @@ fn map_each(
         out_offsets.len(),
         out_ends.len(),
         out_values.len(),
+    )?;
+    let runs = inner::map_rles(
+        keys,
+        offsets,
+        ends,
+        values,
+        mapping,
+        out_keys,
+        out_offsets,
+        out_ends,
+        out_values,
     );
-    match asked {
-        Asked::Yes => {
-            let runs = inner::map_rles(
-                keys,
-                offsets,
-                ends,
-                values,
-                mapping,
-                out_keys,
-                out_offsets,
-                out_ends,
-                out_values,
-            );
-            Batched::Batch(RleBatch {
-                keys: keys.len(),
-                runs,
-            })
-        }
-        Asked::No(r) => Batched::Refused(r),
-    }
+    Ok(RleBatch {
+        keys: keys.len(),
+        runs,
+    })
 }
 
 // The sequence of each key moved by a distance.
@@ -108,7 +105,7 @@ pub fn shift(
     out_offsets: &mut [usize],
     out_ends: &mut [i64],
     out_values: &mut [i64],
-) -> Batched
+) -> Result<RleBatch, Refusal>
     ensures { WritesBatch (calls.shift (batch keys.now offsets.now ends.now values.now) distance fill) out_keys out_offsets out_ends out_values result }
 {
     map_each(
@@ -134,7 +131,7 @@ pub fn reversed(
     out_offsets: &mut [usize],
     out_ends: &mut [i64],
     out_values: &mut [i64],
-) -> Batched
+) -> Result<RleBatch, Refusal>
     ensures { WritesBatch (calls.reversed (batch keys.now offsets.now ends.now values.now)) out_keys out_offsets out_ends out_values result }
 {
     map_each(
@@ -162,7 +159,7 @@ pub fn map_rles_slice(
     out_offsets: &mut [usize],
     out_ends: &mut [i64],
     out_values: &mut [i64],
-) -> Batched
+) -> Result<RleBatch, Refusal>
     ensures { WritesBatch
         (calls.map_rles_slice (batch keys.now offsets.now ends.now values.now) start end) out_keys out_offsets out_ends out_values result }
 {

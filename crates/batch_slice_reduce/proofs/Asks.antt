@@ -2,7 +2,7 @@
 -- Assumes nothing.
 use Prim.Native.Nat.{ℕ}
 use mathlib.Core.List.{List, [], ◌∷◌}
-use mathlib.Core.Option.{none}
+use Rattle.std.specs.Prelude.{None}
 use mathlib.Core.Path.{◌≡◌}
 use lib.IntN.{ℤ}
 use lib.ListN.{length}
@@ -22,7 +22,7 @@ module _ (ks os : List ℕ) (es vs : List ℤ) (gs : List ℕ) (ss ts : List ℤ
   abbrev last : ℕ → ℕ → Question
   last k w = room (both (length ss)) (k ∷ w ∷ [])
 
-  pub reduce-told : (k w : List ℕ) → slice_reduce_asked b gs ss ts code (length k ∷ length w ∷ []) ≡ none → Reducible b gs ss ts k w
+  pub reduce-told : (k w : List ℕ) → slice_reduce_asked b gs ss ts code (length k ∷ length w ∷ []) ≡ None → Reducible b gs ss ts k w
   unfolding slice_reduce_asked
   reduce-told k w h =
       let y = all_yes (listed 0 2 code ∷ first_no (lengths_asked b) ∷ agree 7 (length gs) (length ss) ∷ agree 8 (length ss) (length ts) ∷ first_no (content_asked b)

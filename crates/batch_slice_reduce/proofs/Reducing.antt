@@ -3,6 +3,7 @@
 use Prim.Native.Nat.{ℕ, ◌<◌}
 use mathlib.Core.List.{List, [], map}
 use mathlib.Core.Path.{◌≡◌, ap, sym, ◌∙◌}
+use native.Mathlib.Omega.{arith}
 use lib.IntN.{ℤ, pos}
 use lib.ListN.{length, get_or, length-map, get_or-map}
 use Rattle.column.specs.Lists.{parts}
@@ -11,6 +12,8 @@ use Rattle.batch_index.specs.Calls.{lowest}
 use Rattle.slice.specs.Calls.{slice_runs}
 use Rattle.reduce.specs.declared.Reduction.{Reduction}
 use Rattle.reduce.specs.Calls.{reduction}
+use Rattle.reduce.specs.Workers.{FilledReductions}
+use Rattle.reduce.proofs.Intervals.{Filling, filling_end}
 use Rattle.batch.specs.Batch.{batch, entries}
 use Rattle.batch_intervals.specs.Calls.{item_runs}
 use Rattle.batch_intervals.specs.Workers.{Intervals}
@@ -31,3 +34,7 @@ module _ {ks os : List ℕ} {es vs : List ℤ} {gs : List ℕ} {ss ts : List ℤ
 
   pub reductions-many : (code : ℕ) (ddof : ℤ) → length (map (reduction code ddof) items) ≡ length ss
   reductions-many code ddof = rw length-map (items-many q)
+
+  pub reduced_end : (code : ℕ) (ddof : ℤ) {k₀ k b₀ b : List ℕ} {i : ℕ} → Filling (map (reduction code ddof) items) k₀ k b₀ b i → i ≡ length ss
+      → FilledReductions (map (reduction code ddof) items) k₀ k b₀ b (length ss)
+  reduced_end code ddof s e = rw e at (filling_end s (omega (arith, reductions-many code ddof)))

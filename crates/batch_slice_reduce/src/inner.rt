@@ -35,24 +35,20 @@ fn slice_reduce_by(
         out_kinds.old out_kinds.new out_bits.old out_bits.new result }
 {
     let mut at: usize = 0;
-    let mut i: usize = 0;
-    while i < starts.len() {
-        let start = starts[i];
-        let stop = stops[i];
+    for i in 0..starts.len() {
         at = batch_keys::inner::find_next(keys, order, at, get_keys, i, indexed, &mut *block);
         let reduction = reduce::inner::reduce_slice(
             part_at(offsets, ends, at),
             part_at(offsets, values, at),
-            start,
-            stop,
+            starts[i],
+            stops[i],
             code,
             ddof,
         );
         out_kinds[i] = reduce::inner::kind(reduction);
         out_bits[i] = reduce::inner::bits(reduction);
-        i += 1;
     }
-    i
+    starts.len()
 }
 
 // With a block for the positions of wanted keys, where an index of the keys pays.

@@ -9,8 +9,9 @@ ghost use Rattle.reduce.specs.Calls.{WritesReductions};
 ghost use Rattle.batch.specs.Batch.{batch};
 ghost use Rattle.batch_slice_reduce.specs.Calls as calls;
 
-use column::answer::{Asked, Counted};
+use column::error::Refusal;
 
+#[tactic(auto, using(column::proofs::FirstNo::ends_at, column::proofs::FirstNo::goes_on, column::proofs::FirstNo::alone), unfolding(crate::specs::Calls::slice_reduce_asked))]
 fn slice_reduce_asks(
     keys: &[u32],
     offsets: &[usize],
@@ -22,17 +23,17 @@ fn slice_reduce_asks(
     code: u8,
     out_kinds: usize,
     out_bits: usize,
-) -> Asked
+) -> Result<(), Refusal>
     ensures { shown_asked result ≡ calls.slice_reduce_asked
         (batch keys.now offsets.now ends.now values.now) get_keys.now starts.now stops.now code (out_kinds ∷ out_bits ∷ []) }
 {
-    questions::ask_code(0, 2, code)
-        .and(batch::ask_lengths(keys, offsets, ends, values))
-        .and(questions::ask_lengths(7, get_keys.len(), starts.len()))
-        .and(questions::ask_lengths(8, starts.len(), stops.len()))
-        .and(batch::ask_content(keys, offsets, ends, values))
-        .and(questions::ask_intervals(starts, stops))
-        .and(questions::ask_both(starts.len(), out_kinds, out_bits))
+    questions::ask_code(0, 2, code)?;
+    batch::ask_lengths(keys, offsets, ends, values)?;
+    questions::ask_lengths(7, get_keys.len(), starts.len())?;
+    questions::ask_lengths(8, starts.len(), stops.len())?;
+    batch::ask_content(keys, offsets, ends, values)?;
+    questions::ask_intervals(starts, stops)?;
+    questions::ask_both(starts.len(), out_kinds, out_bits)
 }
 
 // The reductions of the slices of intervals, each of a key's sequence.
@@ -48,12 +49,12 @@ pub fn slice_reduce(
     ddof: i64,
     out_kinds: &mut [u8],
     out_bits: &mut [u64],
-) -> Counted
+) -> Result<usize, Refusal>
     ensures { WritesReductions
         (calls.slice_reduce (batch keys.now offsets.now ends.now values.now) get_keys.now starts.now stops.now code ddof)
         out_kinds out_bits result }
 {
-    let asked = slice_reduce_asks(
+    slice_reduce_asks(
         keys,
         offsets,
         ends,
@@ -64,16 +65,10 @@ pub fn slice_reduce(
         code,
         out_kinds.len(),
         out_bits.len(),
-    );
-    match asked {
-        Asked::Yes => {
-            let order = batch_keys::inner::quick_order(keys);
-            let n = inner::slice_reduce(
-                keys, offsets, ends, values, order, get_keys, starts, stops, code, ddof, out_kinds,
-                out_bits,
-            );
-            Counted::Count(n)
-        }
-        Asked::No(r) => Counted::Refused(r),
-    }
+    )?;
+    let order = batch_keys::inner::quick_order(keys);
+    Ok(inner::slice_reduce(
+        keys, offsets, ends, values, order, get_keys, starts, stops, code, ddof, out_kinds,
+        out_bits,
+    ))
 }

@@ -1,33 +1,45 @@
 -- The questions of zip_with of two batches, as the code joins them, and what a "yes" to all of them tells.
 -- Assumes nothing.
 use Prim.Native.Nat.{ℕ, ◌+◌, ◌<◌, ◌^◌}
-use mathlib.Core.Option.{none, some}
+use Rattle.std.specs.Prelude.{Some, None, Option, Ok}
 use mathlib.Core.List.{List, [], ◌∷◌, map}
-use mathlib.Core.Path.{◌≡◌, ap, ◌∙◌}
+use mathlib.Core.Path.{◌≡◌, refl, ap, sym, ◌∙◌}
 use lib.IntN.{ℤ}
 use lib.ListN.{length}
 use Rattle.num.specs.Numbers.{saturated, operation}
-use Rattle.column.specs.declared.answer.Batched.{Batched}
-use Rattle.column.specs.declared.answer.Fill.{Fill}
-use Rattle.column.specs.declared.answer.Fill.TheVariants.{Value}
 use Rattle.column.specs.declared.answer.RleBatch.{RleBatch}
-use Rattle.column.specs.Asking.{Question, first_no}
+use Rattle.column.specs.Asking.{Question, first_no, ◌otherwise◌}
 use Rattle.column.specs.Combine.{value_of, combined, table, greatest_length, row_at, value_at}
 use Rattle.column.specs.Lists.{total}
-use Rattle.column.specs.Paper.{PaperRefusal}
+use Rattle.column.specs.Paper.{PaperRefusal, Outcome, answers, refuses}
 use Rattle.column.specs.Questions.{listed, room}
-use Rattle.column.proofs.FirstNo.{all_yes, asked-last}
+use Rattle.column.proofs.FirstNo.{all_yes, alone, goes_on}
 use Rattle.batch.specs.Batch.{Batch, batch_needs, WrittenBatch, both_valid}
 use Rattle.batch.specs.Workers.{ValidBatch, FilledCounts}
-use Rattle.batch.proofs.Asks.{both_told, batch-room, saturated-room}
+use Rattle.batch.proofs.Asks.{both_told, first-refused, batch-room, saturated-room}
 use Rattle.batch.proofs.Laying.{batch-written}
 use Rattle.batch_zip_with.specs.Calls.{pair_runs, filled_pairs, zip_needs, zip_pair, zip_asked, zip_with}
 use Rattle.batch_zip_with.specs.Workers.{ZipRoom}
 use Rattle.batch_zip_with.proofs.Pairs.{all_pairs}
 
+-- ---- an outcome, read back
+
+module _ {X : Type 0} where
+  abbrev question_of : Outcome X → Question
+  question_of (answers x) = None
+  question_of (refuses r) = Some r
+
+  abbrev answer_of : X → Outcome X → X
+  answer_of y (answers x) = x
+  answer_of y (refuses r) = y
+
+  asked_of : (q : Question) (x : X) → question_of (q otherwise x) ≡ q
+  asked_of None x = refl
+  asked_of (Some r) x = refl
+
 module _ (a b : Batch) (how code : ℕ) where
   -- both batches are valid
-  pub zip-valid : zip_asked a b how code ≡ none → ValidBatch a × ValidBatch b
+  pub zip-valid : zip_asked a b how code ≡ None → ValidBatch a × ValidBatch b
   unfolding zip_asked
   zip-valid h =
       both_told a.keys a.flat.offsets a.flat.ends a.flat.values b.keys b.flat.offsets b.flat.ends b.flat.values
@@ -35,23 +47,27 @@ module _ (a b : Batch) (how code : ℕ) where
 
   -- ---- with 10 and 12
 
-  module _ (fa fb : Fill) where
+  module _ (fa fb : Option ℤ) where
     abbrev pub every_asked : List ℕ → Question
     every_asked buffers = first_no (zip_asked a b how code ∷ filled_pairs fa fb (all_pairs how a b) ∷ room (zip_needs a b (all_pairs how a b)) buffers ∷ [])
 
-    pub refused-first : {r : PaperRefusal} (buffers : List ℕ) → zip_asked a b how code ≡ some r → every_asked buffers ≡ some r
-    refused-first buffers h = rw h
+    module _ (yes : zip_asked a b how code ≡ None) (k x e v : ℕ) where
+      -- a "no" to 10 of a pair
+      pub pairs-refused : {r : PaperRefusal} (n : ℕ) → refuses r ≡ filled_pairs fa fb (all_pairs how a b) otherwise n → Some r ≡ every_asked (k ∷ x ∷ e ∷ v ∷ [])
+      pairs-refused n h = rw yes (first-refused (room (zip_needs a b (all_pairs how a b)) (k ∷ x ∷ e ∷ v ∷ []) ∷ []) (ap question_of h ∙ asked_of _ _))
 
-    module _ (yes : zip_asked a b how code ≡ none) (k x e v : ℕ) where
-      pub all_asked : {r p q : Question} {n : ℕ} → e < 2 ^ 63 → v < 2 ^ 63 → r ≡ first_no (p ∷ q ∷ [])
-          → p ≡ filled_pairs fa fb (all_pairs how a b) → n ≡ saturated (total (map pair_runs (all_pairs how a b)))
-          → q ≡ room (batch_needs (length a.keys + length b.keys) n) (k ∷ x ∷ e ∷ v ∷ []) → r ≡ every_asked (k ∷ x ∷ e ∷ v ∷ [])
-      all_asked he hv hr hp en hq =
-          rw yes (asked-last (filled_pairs fa fb (all_pairs how a b)) hr hp
-          (λ y. hq ∙ ap (λ (m : ℕ). room (batch_needs (length a.keys + length b.keys) m) (k ∷ x ∷ e ∷ v ∷ [])) en
-          ∙ saturated-room (length a.keys + length b.keys) (total (map pair_runs (all_pairs how a b))) k x e v he hv))
+      -- 12, after a "yes" to 10 of every pair
+      pub all_asked : {q : Question} {n : ℕ} → e < 2 ^ 63 → v < 2 ^ 63
+          → answers n ≡ filled_pairs fa fb (all_pairs how a b) otherwise saturated (total (map pair_runs (all_pairs how a b)))
+          → q ≡ room (batch_needs (length a.keys + length b.keys) n) (k ∷ x ∷ e ∷ v ∷ []) → q ≡ every_asked (k ∷ x ∷ e ∷ v ∷ [])
+      all_asked {n = n} he hv h hq =
+          let filled : None ≡ filled_pairs fa fb (all_pairs how a b) = ap question_of h ∙ asked_of _ _ in
+          let en : n ≡ saturated (total (map pair_runs (all_pairs how a b))) = ap (answer_of n) (rw (sym filled) at h) in
+          rw yes (goes_on _ filled (hq
+          ∙ ap (λ (m : ℕ). room (batch_needs (length a.keys + length b.keys) m) (k ∷ x ∷ e ∷ v ∷ [])) en
+          ∙ saturated-room (length a.keys + length b.keys) (total (map pair_runs (all_pairs how a b))) k x e v he hv ∙ sym (alone _)))
 
-    pub zip-room : (k x : List ℕ) (e v : List ℤ) → every_asked (length k ∷ length x ∷ length e ∷ length v ∷ []) ≡ none → ZipRoom a b (all_pairs how a b) k x e v
+    pub zip-room : (k x : List ℕ) (e v : List ℤ) → every_asked (length k ∷ length x ∷ length e ∷ length v ∷ []) ≡ None → ZipRoom a b (all_pairs how a b) k x e v
     zip-room k x e v h =
         let y = all_yes (zip_asked a b how code ∷ filled_pairs fa fb (all_pairs how a b) ∷ room (zip_needs a b (all_pairs how a b))
         (length k ∷ length x ∷ length e ∷ length v ∷ []) ∷ []) h in
@@ -62,9 +78,9 @@ module _ (a b : Batch) (how code : ℕ) where
 
     -- a fill that is missing shows nowhere: the result is that of its value
     pub zip-written : {x y : ℤ} → x ≡ value_of fa → y ≡ value_of fb → {k k' o o' : List ℕ} {e e' v v' : List ℤ} {r : RleBatch}
-        → every_asked (length k ∷ length o ∷ length e ∷ length v ∷ []) ≡ none
-        → FilledCounts (map (zip_pair (operation code) (Value x) (Value y)) (all_pairs how a b)) k k' o o' e e' v v' r
-        → WrittenBatch (zip_with a b how fa fb code (length k ∷ length o ∷ length e ∷ length v ∷ [])) (Batched.Batch r) k k' o o' e e' v v'
+        → every_asked (length k ∷ length o ∷ length e ∷ length v ∷ []) ≡ None
+        → FilledCounts (map (zip_pair (operation code) (Some x) (Some y)) (all_pairs how a b)) k k' o o' e e' v v' r
+        → WrittenBatch (zip_with a b how fa fb code (length k ∷ length o ∷ length e ∷ length v ∷ [])) (Ok r) k k' o o' e e' v v'
     unfolding zip_with combined table greatest_length row_at value_at
     zip-written ex ey {k} {k'} {o} {o'} {e} {e'} {v} {v'} {r} h f =
         let g : FilledCounts (map (zip_pair (operation code) fa fb) (all_pairs how a b)) k k' o o' e e' v v' r = rw (ex, ey) at f in

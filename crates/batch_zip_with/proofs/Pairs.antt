@@ -1,5 +1,6 @@
 -- The pairs of a join, by places: those that the places from n on give; and a loop that takes one after the other.
 -- Assumes nothing.
+use Rattle.std.specs.Prelude.{Option, Some, None, IfSome}
 use Prim.Native.Nat.{ℕ, zero, suc, ◌+◌, ◌-◌, ◌≤◌, ◌<◌}
 use mathlib.Core.Bool.{Bool, true, false, cond, not, ◌&&◌, ◌||◌}
 use mathlib.Core.List.{List, [], ◌∷◌, ◌++◌, map}
@@ -16,44 +17,44 @@ use Rattle.column.specs.Runs.{Runs}
 use Rattle.batch_index.specs.Calls.{lowest}
 use Rattle.batch.specs.declared.two.Joined.{Joined}
 use Rattle.batch.specs.Batch.{Batch, Entry, entries, has, find}
-use Rattle.batch.specs.Workers.{ValidBatch, NextKept}
+use Rattle.batch.specs.Workers.{place_of, ValidBatch, NextKept}
 use Rattle.batch.proofs.Entries.{column_at, columns-many, entries-keys, entries-columns, entries-many, find_is, has_is}
 use Rattle.batch.proofs.Laying.{no_entry}
 use Rattle.batch_zip_with.specs.Calls.{keep, keeps_left, keeps_right, Pair, with_right, right_only, pairs}
-use Rattle.batch_zip_with.specs.Workers.{places_of, pair_at}
+use Rattle.batch_zip_with.specs.Workers.{places_of, pair_at, pair_kept}
 use Rattle.batch_zip_with.proofs.Places.{places-few}
 
--- ---- f tells what is at each place, g what pair that is
+-- ---- f tells what is at each place, k whether it is kept, g what pair that is
 
-module _ (f : ℕ → Joined) (g : Joined → Pair) where
+module _ (f : ℕ → Joined) (k : ℕ → Bool) (g : Joined → Pair) where
   -- the pairs that c places from n on give
   unfoldable pub pairs_from : ℕ → ℕ → List Pair
   pairs_from zero n = []
-  pairs_from (suc c) n = cond (f n).kept (g (f n) ∷ pairs_from c (suc n)) (pairs_from c (suc n))
+  pairs_from (suc c) n = cond (k n) (g (f n) ∷ pairs_from c (suc n)) (pairs_from c (suc n))
 
   from-none : (n : ℕ) → pairs_from 0 n ≡ []
   unfolding pairs_from
   from-none n = refl
 
-  from-kept : (c n : ℕ) → (f n).kept ≡ true → pairs_from (suc c) n ≡ g (f n) ∷ pairs_from c (suc n)
+  from-kept : (c n : ℕ) → k n ≡ true → pairs_from (suc c) n ≡ g (f n) ∷ pairs_from c (suc n)
   unfolding pairs_from
   from-kept c n t = rw t
 
-  from-passed : (c n : ℕ) → (f n).kept ≡ false → pairs_from (suc c) n ≡ pairs_from c (suc n)
+  from-passed : (c n : ℕ) → k n ≡ false → pairs_from (suc c) n ≡ pairs_from c (suc n)
   unfolding pairs_from
   from-passed c n t = rw t
 
   from-few : (c n : ℕ) → length (pairs_from c n) ≤ c
   unfolding pairs_from
   from-few zero n = omega arith
-  from-few (suc c) n = by-test (f n).kept (λ t. rw t (omega (arith, from-few c (suc n)))) (λ t. rw t (omega (arith, from-few c (suc n))))
+  from-few (suc c) n = by-test (k n) (λ t. rw t (omega (arith, from-few c (suc n)))) (λ t. rw t (omega (arith, from-few c (suc n))))
 
   -- where of each pair one number is at most another, so are the totals
   pub from-total : (w v : Pair → ℕ) → ((j : Joined) → w (g j) ≤ v (g j)) → (c n : ℕ) → total (map w (pairs_from c n)) ≤ total (map v (pairs_from c n))
   from-total w v h zero n = rw (from-none n) (omega arith)
   from-total w v h (suc c) n =
       let r = from-total w v h c (suc n) in
-      by-test (f n).kept (λ t. rw (from-kept c n t) (omega (arith, h (f n)))) (λ t. rw (from-passed c n t) r)
+      by-test (k n) (λ t. rw (from-kept c n t) (omega (arith, h (f n)))) (λ t. rw (from-passed c n t) r)
 
   from-both : (c d n : ℕ) → pairs_from (c + d) n ≡ pairs_from c n ++ pairs_from d (n + c)
   unfolding pairs_from
@@ -64,20 +65,20 @@ module _ (f : ℕ → Joined) (g : Joined → Pair) where
       let r : pairs_from (c + d) (suc n) ≡ pairs_from c (suc n) ++ pairs_from d (n + suc c) = from-both c d (suc n)
       ∙ ap (λ (i : ℕ). pairs_from c (suc n) ++ pairs_from d i) m in
       ap (λ (i : ℕ). pairs_from i n) s
-      ∙ by-test (f n).kept
+      ∙ by-test (k n)
       (λ t. from-kept (c + d) n t ∙ ap {B = List Pair} (λ l. g (f n) ∷ l) r ∙ ap (λ (l : List Pair). l ++ pairs_from d (n + suc c)) (sym (from-kept c n t)))
       (λ t. from-passed (c + d) n t ∙ r ∙ ap (λ (l : List Pair). l ++ pairs_from d (n + suc c)) (sym (from-passed c n t)))
 
   -- the entries of a list, at the places from n on
   from_entries : (t : Entry → Bool) (h : Entry → Pair) (es : List Entry) (n : ℕ)
-      → ((i : ℕ) → i < length es → ((f (n + i)).kept ≡ t (get_or es i no_entry)) × ((f (n + i)).kept ≡ true → g (f (n + i)) ≡ h (get_or es i no_entry)))
+      → ((i : ℕ) → i < length es → (k (n + i) ≡ t (get_or es i no_entry)) × (k (n + i) ≡ true → g (f (n + i)) ≡ h (get_or es i no_entry)))
       → pairs_from (length es) n ≡ map h (keep t es)
   unfolding pairs_from
   from_entries t h [] n w = refl
   from_entries t h (e ∷ es) n w =
       let z : n + 0 ≡ n = omega arith in
-      let first : ((f (n + 0)).kept ≡ t e) × ((f (n + 0)).kept ≡ true → g (f (n + 0)) ≡ h e) = w 0 (omega arith) in
-      let here : ((f n).kept ≡ t e) × ((f n).kept ≡ true → g (f n) ≡ h e) = rw z at first in
+      let first : (k (n + 0) ≡ t e) × (k (n + 0) ≡ true → g (f (n + 0)) ≡ h e) = w 0 (omega arith) in
+      let here : (k n ≡ t e) × (k n ≡ true → g (f n) ≡ h e) = rw z at first in
       let r = from_entries t h es (suc n) (λ i l. let m : n + suc i ≡ suc n + i = omega arith in rw (← m) (w (suc i) (omega arith))) in
       by-test (t e)
       (λ u. from-kept (length es) n (here.0 ∙ u) ∙ ap₂ (λ (p : Pair) (l : List Pair). p ∷ l) (here.1 (here.0 ∙ u)) r ∙ rw u)
@@ -88,45 +89,50 @@ module _ (f : ℕ → Joined) (g : Joined → Pair) where
     abbrev pub rest : ℕ → List Pair
     rest n = pairs_from (places - n) n
 
-    rest-kept : (n : ℕ) → n < places → (f n).kept ≡ true → rest n ≡ g (f n) ∷ rest (suc n)
+    rest-kept : (n : ℕ) → n < places → k n ≡ true → rest n ≡ g (f n) ∷ rest (suc n)
     rest-kept n h t = let e : places - n ≡ suc (places - suc n) = omega arith in rw e (from-kept (places - suc n) n t)
 
-    rest-passed : (n : ℕ) → n < places → (f n).kept ≡ false → rest n ≡ rest (suc n)
+    rest-passed : (n : ℕ) → n < places → k n ≡ false → rest n ≡ rest (suc n)
     rest-passed n h t = let e : places - n ≡ suc (places - suc n) = omega arith in rw e (from-passed (places - suc n) n t)
 
     rest_end : (n : ℕ) → places ≤ n → rest n ≡ []
     rest_end n h = let e : places - n ≡ 0 = omega arith in rw e (from-none n)
 
-    rest-next : (d n m : ℕ) → n + d ≡ m → m ≤ places → ((i : ℕ) → n ≤ i → i < m → (f i).kept ≡ false) → rest n ≡ rest m
+    rest-next : (d n m : ℕ) → n + d ≡ m → m ≤ places → ((i : ℕ) → n ≤ i → i < m → k i ≡ false) → rest n ≡ rest m
     rest-next zero n m e h b = ap rest (let z : n ≡ m = omega arith in z)
     rest-next (suc d) n m e h b = rest-passed n (omega arith) (b n (omega arith) (omega arith))
         ∙ rest-next d (suc n) m (omega arith) h (λ i k l. b i (omega arith) l)
 
-    -- ---- a loop: n pairs are taken, and j is the place of the next
+    -- ---- a loop: n pairs are taken, and o is the place of the next, if there is one
 
     module _ (ps : List Pair) where
-      pub record Standing (n : ℕ) (j : Joined) : Type 0 where
-        pub within : j.at ≤ places
-        pub here : j.at < places → (j ≡ f j.at) × ((f j.at).kept ≡ true)
-        pub left : drop n ps ≡ rest j.at
+      pub record Standing (n : ℕ) (o : Option Joined) : Type 0 where
+        pub here : IfSome o (λ (j : Joined). (j.at < places) × (j ≡ f j.at) × (k j.at ≡ true))
+        pub left : drop n ps ≡ rest (place_of places o)
 
-      stands : {n k : ℕ} {j : Joined} → drop n ps ≡ rest k → NextKept f places k j → Standing n j
-      stands {k = k} {j} e s = record {
-        within = s.within;
+      stands : {n i : ℕ} {o : Option Joined} → drop n ps ≡ rest i → NextKept f k places i o → Standing n o
+      stands {i = i} {o} e s = record {
         here = s.here;
-        left = e ∙ rest-next (j.at - k) k j.at (omega (arith, s.after)) s.within s.before;
+        left = e ∙ rest-next (place_of places o - i) i (place_of places o) (omega (arith, s.after)) s.within s.before;
       }
 
-      pub standing-start : {j : Joined} → ps ≡ rest 0 → NextKept f places 0 j → Standing 0 j
+      pub standing-start : {o : Option Joined} → ps ≡ rest 0 → NextKept f k places 0 o → Standing 0 o
       standing-start e s = stands e s
 
-      module _ {n : ℕ} {j : Joined} (s : Standing n j) where
-        pub standing-end : places ≤ j.at → drop n ps ≡ []
-        standing-end h = s.left ∙ rest_end j.at h
+      module _ {n : ℕ} {o : Option Joined} (s : Standing n o) where
+        pub standing-end : o ≡ None → drop n ps ≡ []
+        standing-end h = rw h at s.left ∙ rest_end places (omega arith)
 
-        module _ (h : j.at < places) where
+        module _ {j : Joined} (h : o ≡ Some j) where
+          there : (j.at < places) × (j ≡ f j.at) × (k j.at ≡ true)
+          there = rw h at s.here
+
           ahead : drop n ps ≡ g j ∷ rest (suc j.at)
-          ahead = s.left ∙ rest-kept j.at h (s.here h).1 ∙ ap (λ (i : Joined). g i ∷ rest (suc j.at)) (sym (s.here h).0)
+          ahead =
+              s.left
+              ∙ ap (λ (p : Option Joined). rest (place_of places p)) h
+              ∙ rest-kept j.at there.0 there.2
+              ∙ ap (λ (i : Joined). g i ∷ rest (suc j.at)) (sym there.1)
 
           behind : drop (n + 1) ps ≡ rest (suc j.at)
           behind = sym (drop-drop 1 n ps) ∙ ap (drop 1) ahead
@@ -138,7 +144,7 @@ module _ (f : ℕ → Joined) (g : Joined → Pair) where
           pub standing-few : n < length ps
           standing-few = omega (arith, length-drop n ps, ap length standing-pair)
 
-          pub standing-next : {k : ℕ} {j' : Joined} → k ≡ j.at + 1 → NextKept f places k j' → Standing (n + 1) j'
+          pub standing-next : {i : ℕ} {o' : Option Joined} → i ≡ j.at + 1 → NextKept f k places i o' → Standing (n + 1) o'
           standing-next e t = stands (behind ∙ ap rest (let z : suc j.at ≡ j.at + 1 = omega arith in z ∙ sym e)) t
 
 -- ---- the pairs of two batches
@@ -186,16 +192,23 @@ module _ (how : ℕ) (a b : Batch) where
   places_in = places_of how (length a.keys) (length b.keys)
 
   abbrev pub place_in : ℕ → Joined
-  place_in = pair_at how a.keys b.keys
+  place_in = pair_at a.keys b.keys
+
+  abbrev pub kept_in : ℕ → Bool
+  kept_in = pair_kept how a.keys b.keys
+
+  -- the next pair from a place on
+  abbrev pub NextPair : ℕ → Option Joined → Type 0
+  NextPair = NextKept place_in kept_in places_in
 
   -- a loop over them
-  abbrev pub Stands : ℕ → Joined → Type 0
-  Stands = Standing place_in (pair_of a b) places_in all_pairs
+  abbrev pub Stands : ℕ → Option Joined → Type 0
+  Stands = Standing place_in kept_in (pair_of a b) places_in all_pairs
 
   module _ (va : ValidBatch a) (vb : ValidBatch b) where
     left-place : (i : ℕ) → i < length a.keys
-        → ((place_in i).kept ≡ keeps_left how || has (get_or (entries a) i no_entry).key (entries b))
-        × ((place_in i).kept ≡ true → pair_of a b (place_in i) ≡ with_right (entries b) (get_or (entries a) i no_entry))
+        → (kept_in i ≡ keeps_left how || has (get_or (entries a) i no_entry).key (entries b))
+        × (kept_in i ≡ true → pair_of a b (place_in i) ≡ with_right (entries b) (get_or (entries a) i no_entry))
     left-place i h =
         let e = entry_at a va i in
         rw (lt-ltb i (length a.keys) h, ← e.0) (
@@ -204,8 +217,8 @@ module _ (how : ℕ) (a b : Batch) where
         )
 
     right-place : keeps_right how ≡ true → (i : ℕ) → i < length b.keys
-        → ((place_in (length a.keys + i)).kept ≡ keeps_right how && not (has (get_or (entries b) i no_entry).key (entries a)))
-        × ((place_in (length a.keys + i)).kept ≡ true → pair_of a b (place_in (length a.keys + i)) ≡ right_only (get_or (entries b) i no_entry))
+        → (kept_in (length a.keys + i) ≡ keeps_right how && not (has (get_or (entries b) i no_entry).key (entries a)))
+        × (kept_in (length a.keys + i) ≡ true → pair_of a b (place_in (length a.keys + i)) ≡ right_only (get_or (entries b) i no_entry))
     right-place u i h =
         let e = entry_at b vb i in
         let m : length a.keys + i - length a.keys ≡ i = omega arith in
@@ -215,33 +228,33 @@ module _ (how : ℕ) (a b : Batch) where
               (ltb-false (lowest (get_or (entries b) i no_entry).key a.keys) (length a.keys) (not-true _ k))) (sym e.1),
         )
 
-    right-pairs : pairs_from place_in (pair_of a b) (cond (keeps_right how) (length b.keys) 0) (length a.keys)
+    right-pairs : pairs_from place_in kept_in (pair_of a b) (cond (keeps_right how) (length b.keys) 0) (length a.keys)
         ≡ map right_only (keep (λ (e : Entry). keeps_right how && not (has e.key (entries a))) (entries b))
     right-pairs =
         by-test (keeps_right how)
-        (λ u. rw u (ap (λ (c : ℕ). pairs_from place_in (pair_of a b) c (length a.keys)) (sym (many_in b vb))
-        ∙ from_entries place_in (pair_of a b) (λ (e : Entry). keeps_right how && not (has e.key (entries a))) right_only (entries b) (length a.keys)
+        (λ u. rw u (ap (λ (c : ℕ). pairs_from place_in kept_in (pair_of a b) c (length a.keys)) (sym (many_in b vb))
+        ∙ from_entries place_in kept_in (pair_of a b) (λ (e : Entry). keeps_right how && not (has e.key (entries a))) right_only (entries b) (length a.keys)
         (λ i l. right-place u i (omega (arith, many_in b vb)))
         ∙ rw u))
         (λ u. rw u
-        (from-none place_in (pair_of a b) (length a.keys)
+        (from-none place_in kept_in (pair_of a b) (length a.keys)
         ∙ sym (ap (map right_only) (keep-none (λ (e : Entry). false && not (has e.key (entries a))) (λ e. refl) (entries b)))))
 
-    pub pairs-rest : all_pairs ≡ rest place_in (pair_of a b) places_in 0
+    pub pairs-rest : all_pairs ≡ rest place_in kept_in (pair_of a b) places_in 0
     unfolding pairs
     pairs-rest =
         let z : places_in - 0 ≡ places_in = omega arith in
         let y : 0 + length a.keys ≡ length a.keys = omega arith in
-        let l : pairs_from place_in (pair_of a b) (length a.keys) 0 ≡ map (with_right (entries b))
+        let l : pairs_from place_in kept_in (pair_of a b) (length a.keys) 0 ≡ map (with_right (entries b))
         (keep (λ (e : Entry). keeps_left how || has e.key (entries b)) (entries a)) =
-        ap (λ (c : ℕ). pairs_from place_in (pair_of a b) c 0) (sym (many_in a va))
-        ∙ from_entries place_in (pair_of a b) (λ (e : Entry). keeps_left how || has e.key (entries b)) (with_right (entries b)) (entries a) 0
+        ap (λ (c : ℕ). pairs_from place_in kept_in (pair_of a b) c 0) (sym (many_in a va))
+        ∙ from_entries place_in kept_in (pair_of a b) (λ (e : Entry). keeps_left how || has e.key (entries b)) (with_right (entries b)) (entries a) 0
         (λ i h. let x : 0 + i ≡ i = omega arith in rw x (left-place i (omega (arith, many_in a va)))) in
-        sym (rw z (from-both place_in (pair_of a b) (length a.keys) (cond (keeps_right how) (length b.keys) 0) 0 ∙ rw (y, l, right-pairs)))
+        sym (rw z (from-both place_in kept_in (pair_of a b) (length a.keys) (cond (keeps_right how) (length b.keys) 0) 0 ∙ rw (y, l, right-pairs)))
 
     pub pairs-few : length all_pairs ≤ length a.keys + length b.keys
-    pairs-few = rw pairs-rest (omega (arith, from-few place_in (pair_of a b) (places_in - 0) 0, places-few how (length a.keys) (length b.keys)))
+    pairs-few = rw pairs-rest (omega (arith, from-few place_in kept_in (pair_of a b) (places_in - 0) 0, places-few how (length a.keys) (length b.keys)))
 
     -- a loop over them goes on
-    pub stands-few : {n : ℕ} {j : Joined} → Stands n j → j.at < places_in → n < length a.keys + length b.keys
-    stands-few s h = omega (arith, standing-few place_in (pair_of a b) places_in all_pairs s h, pairs-few)
+    pub stands-few : {n : ℕ} {o : Option Joined} {j : Joined} → Stands n o → o ≡ Some j → n < length a.keys + length b.keys
+    stands-few s h = omega (arith, standing-few place_in kept_in (pair_of a b) places_in all_pairs s h, pairs-few)

@@ -1,5 +1,6 @@
--- The loop that writes each pair of a join combined: n of them are written, and j is the place of the next.
+-- The loop that writes each pair of a join combined: n of them are written, and o is the place of the next, if there is one.
 -- Assumes nothing.
+use Rattle.std.specs.Prelude.{Option, Some, None}
 use Prim.Native.Nat.{ℕ, zero, suc, ◌+◌, ◌-◌, ◌≤◌, ◌<◌}
 use mathlib.Core.List.{List, [], ◌∷◌, map, map-map}
 use mathlib.Core.Path.{◌≡◌, refl, ap, sym, ◌∙◌}
@@ -8,7 +9,6 @@ use borrow.Rule.Slice.PartMut.{put_mid}
 use lib.IntN.{ℤ}
 use lib.ListN.{length, get_or, take, drop, set, length-set, length-map, length-drop}
 use lib.Seq.{get_or-drop}
-use Rattle.column.specs.declared.answer.Fill.TheVariants.{Value}
 use Rattle.column.specs.Combine.{combined}
 use Rattle.column.specs.Lists.{total, parts}
 use Rattle.column.specs.Runs.{sequence, Filled}
@@ -18,12 +18,12 @@ use Rattle.ops.specs.Calls.{sides}
 use Rattle.ops.specs.Workers.{Zippable}
 use Rattle.batch.specs.declared.two.Joined.{Joined}
 use Rattle.batch.specs.Batch.{Batch, Entry, columns_of}
-use Rattle.batch.specs.Workers.{FilledCounts, NextKept}
+use Rattle.batch.specs.Workers.{FilledCounts}
 use Rattle.batch.proofs.Entries.{column_at, column_is, column-count, part-valid, parts-paired, column-valid}
 use Rattle.batch.proofs.Laying.{no_entry, LayingBatch, batch-start, batch-next, batch-end}
 use Rattle.batch_zip_with.specs.Calls.{Pair, pair_runs, zip_pair}
 use Rattle.batch_zip_with.specs.Workers.{ZipRoom}
-use Rattle.batch_zip_with.proofs.Pairs.{pair_of, all_pairs, places_in, place_in, Stands, pairs-rest, pairs-few, from-total, standing-start, standing-pair}
+use Rattle.batch_zip_with.proofs.Pairs.{pair_of, all_pairs, places_in, place_in, kept_in, NextPair, Stands, pairs-rest, pairs-few, from-total, standing-start, standing-pair}
 use Rattle.batch_zip_with.proofs.Pairs.{standing-few, standing-next, standing-end}
 
 drop-map : {A B : Type 0} (f : A → B) (n : ℕ) (xs : List A) → drop n (map f xs) ≡ map f (drop n xs)
@@ -33,19 +33,19 @@ drop-map f (suc n) (x ∷ xs) = drop-map f n xs
 
 module _ (how : ℕ) (a b : Batch) (op : ℤ → ℤ → ℤ) (fa fb : ℤ) where
   abbrev zip : Pair → Entry
-  zip p = zip_pair op (Value fa) (Value fb) p
+  zip p = zip_pair op (Some fa) (Some fb) p
 
   abbrev pub zipped : List Entry
   zipped = map zip (all_pairs how a b)
 
-  pub record Zipping (k₀ k x₀ x : List ℕ) (e₀ e v₀ v : List ℤ) (used n : ℕ) (j : Joined) : Type 0 where
-    pub stands : Stands how a b n j
+  pub record Zipping (k₀ k x₀ x : List ℕ) (e₀ e v₀ v : List ℤ) (used n : ℕ) (o : Option Joined) : Type 0 where
+    pub stands : Stands how a b n o
     pub laying : LayingBatch zipped k₀ k x₀ x e₀ e v₀ v used n
     pub left : used + total (map pair_runs (drop n (all_pairs how a b))) ≤ total (map pair_runs (all_pairs how a b))
 
   module _ {k₀ y : List ℕ} {e₀ v₀ : List ℤ} (z : ZipRoom a b (all_pairs how a b) k₀ y e₀ v₀) where
     few : (j : Joined) → length (zip (pair_of a b j)).runs ≤ pair_runs (pair_of a b j)
-    few j = two-few op (Value fa) (Value fb) (column_at a j.a) (column_at b j.b)
+    few j = two-few op (Some fa) (Some fb) (column_at a j.a) (column_at b j.b)
         (column-valid a.keys a.flat.offsets a.flat.ends a.flat.values z.first j.a)
         (column-valid b.keys b.flat.offsets b.flat.ends b.flat.values z.second j.b)
 
@@ -54,31 +54,31 @@ module _ (how : ℕ) (a b : Batch) (op : ℤ → ℤ → ℤ) (fa fb : ℤ) wher
     all_few =
         let e : map length (columns_of zipped) ≡ map (λ (p : Pair). length (zip p).runs) (all_pairs how a b) = simp map-map in
         rw (e, pairs-rest how a b z.first z.second)
-        (from-total (place_in how a b) (pair_of a b) (λ (p : Pair). length (zip p).runs) pair_runs few (places_in how a b - 0) 0)
+        (from-total (place_in how a b) (kept_in how a b) (pair_of a b) (λ (p : Pair). length (zip p).runs) pair_runs few (places_in how a b - 0) 0)
 
-    pub zipping_start : {j : Joined} → NextKept (place_in how a b) (places_in how a b) 0 j → Zipping k₀ k₀ (set y 0 0) (set y 0 0) e₀ e₀ v₀ v₀ 0 0 j
+    pub zipping_start : {o : Option Joined} → NextPair how a b 0 o → Zipping k₀ k₀ (set y 0 0) (set y 0 0) e₀ e₀ v₀ v₀ 0 0 o
     zipping_start s = record {
-      stands = standing-start (place_in how a b) (pair_of a b) (places_in how a b) (all_pairs how a b) (pairs-rest how a b z.first z.second) s;
+      stands = standing-start (place_in how a b) (kept_in how a b) (pair_of a b) (places_in how a b) (all_pairs how a b) (pairs-rest how a b z.first z.second) s;
       laying = batch-start zipped k₀ y e₀ v₀ (omega (arith, z.room_offsets));
       left = omega arith;
     }
 
-    module _ {k x : List ℕ} {e v : List ℤ} {used n : ℕ} {j : Joined} (s : Zipping k₀ k (set y 0 0) x e₀ e v₀ v used n j) where
-      pub zipping-end : places_in how a b ≤ j.at → FilledCounts zipped k₀ k y x e₀ e v₀ v (record { keys = n; runs = used })
+    module _ {k x : List ℕ} {e v : List ℤ} {used n : ℕ} {o : Option Joined} (s : Zipping k₀ k (set y 0 0) x e₀ e v₀ v used n o) where
+      pub zipping-end : o ≡ None → FilledCounts zipped k₀ k y x e₀ e v₀ v (record { keys = n; runs = used })
       zipping-end h =
-          let d = ap length (standing-end (place_in how a b) (pair_of a b) (places_in how a b) (all_pairs how a b) s.stands h) in
+          let d = ap length (standing-end (place_in how a b) (kept_in how a b) (pair_of a b) (places_in how a b) (all_pairs how a b) s.stands h) in
           let l : length zipped ≤ n = omega (arith, d, length-drop n (all_pairs how a b), length-map (all_pairs how a b) zip) in
           record {
             filled = batch-end (omega (arith, z.room_offsets)) s.laying l;
             many = omega (arith, s.laying.laying.within, length-map zipped (λ (e : Entry). e.runs));
           }
 
-      module _ (h : j.at < places_in how a b) where
+      module _ {j : Joined} (h : o ≡ Some j) where
         next : drop n (all_pairs how a b) ≡ pair_of a b j ∷ drop (n + 1) (all_pairs how a b)
-        next = standing-pair (place_in how a b) (pair_of a b) (places_in how a b) (all_pairs how a b) s.stands h
+        next = standing-pair (place_in how a b) (kept_in how a b) (pair_of a b) (places_in how a b) (all_pairs how a b) s.stands h
 
         in-zipped : n < length zipped
-        in-zipped = rw length-map (standing-few (place_in how a b) (pair_of a b) (places_in how a b) (all_pairs how a b) s.stands h)
+        in-zipped = rw length-map (standing-few (place_in how a b) (kept_in how a b) (pair_of a b) (places_in how a b) (all_pairs how a b) s.stands h)
 
         all_in : length zipped ≤ length a.keys + length b.keys
         all_in = rw length-map (pairs-few how a b z.first z.second)
@@ -100,10 +100,12 @@ module _ (how : ℕ) (a b : Batch) (op : ℤ → ℤ → ℤ) (fa fb : ℤ) wher
           omega (arith, left-next, z.room_values, s.laying.laying.long_values),
         )
 
-        pub zipping-places : (n < length k) × (n + 1 < length x)
+        pub zipping-places : (n < length k) × (n + 1 < length x) × (n < length k₀) × (n + 1 < length y)
         zipping-places = (
           omega (arith, in-zipped, all_in, z.room_keys, s.laying.keys.long),
           omega (arith, in-zipped, all_in, z.room_offsets, s.laying.laying.long_offsets, length-set y 0 0),
+          omega (arith, in-zipped, all_in, z.room_keys),
+          omega (arith, in-zipped, all_in, z.room_offsets),
         )
 
         -- the sequences of the next pair, as the code reads them
@@ -127,7 +129,7 @@ module _ (how : ℕ) (a b : Batch) (op : ℤ → ℤ → ℤ) (fa fb : ℤ) wher
           }
 
           module _ {m : ℕ} {e₂ v₂ : List ℤ}
-              (f : Filled (combined op (sides (sequence ae av) (sequence be bv) (Value fa) (Value fb))) (take (length e - used) (drop used e))
+              (f : Filled (combined op (sides (sequence ae av) (sequence be bv) (Some fa) (Some fb))) (take (length e - used) (drop used e))
               e₂ (take (length v - used) (drop used v)) v₂ m) where
             filled : Filled (get_or zipped n no_entry).runs (take (length e - used) (drop used e)) e₂ (take (length v - used) (drop used v)) v₂ m
             filled =
@@ -135,14 +137,14 @@ module _ (how : ℕ) (a b : Batch) (op : ℤ → ℤ → ℤ) (fa fb : ℤ) wher
                 let cb = column_is b.keys b.flat.offsets b.flat.ends b.flat.values z.second j.b in
                 rw (entry, ca, cb) (rw (ea, ew, eb, eu) at f)
 
-            pub zipping-used : used + m ≤ length e
-            zipping-used = omega (arith, zipping-room.0, few j, filled.count, ap (λ (i : Entry). length i.runs) entry)
+            pub zipping-used : used + m ≤ length e₀
+            zipping-used = omega (arith, zipping-room.0, s.laying.laying.long_ends, few j, filled.count, ap (λ (i : Entry). length i.runs) entry)
 
-            pub zipping-next : {key i : ℕ} {j' : Joined} → key ≡ j.key → i ≡ j.at + 1 → NextKept (place_in how a b) (places_in how a b) i j'
+            pub zipping-next : {key i : ℕ} {o' : Option Joined} → key ≡ j.key → i ≡ j.at + 1 → NextPair how a b i o'
                 → Zipping k₀ (set k n key) (set y 0 0) (set x (n + 1) (used + m)) e₀ (put_mid used (length e - used) e e₂)
-                v₀ (put_mid used (length v - used) v v₂) (used + m) (n + 1) j'
+                v₀ (put_mid used (length v - used) v v₂) (used + m) (n + 1) o'
             zipping-next ek ei t = record {
-              stands = standing-next (place_in how a b) (pair_of a b) (places_in how a b) (all_pairs how a b) s.stands h ei t;
+              stands = standing-next (place_in how a b) (kept_in how a b) (pair_of a b) (places_in how a b) (all_pairs how a b) s.stands h ei t;
               laying = batch-next s.laying in-zipped (ek ∙ ap (λ (i : Entry). i.key) (sym entry)) filled (omega (arith, all_few, z.room_ends))
                   (omega (arith, all_few, z.room_values))
                   (omega (arith, all_in, z.room_offsets, length-set y 0 0)) (omega (arith, all_in, z.room_keys));

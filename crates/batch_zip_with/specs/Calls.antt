@@ -1,7 +1,6 @@
 -- batch.rs: zip_with of two batches.
-use Rattle.std.specs.Prelude.{ℕ, ◌+◌, Bool, cond, not, ◌&&◌, ◌||◌, List, [], ◌∷◌, ◌++◌, map, ℤ, length, eqb}
+use Rattle.std.specs.Prelude.{ℕ, ◌+◌, Bool, cond, not, ◌&&◌, ◌||◌, List, [], ◌∷◌, ◌++◌, map, ℤ, length, eqb, Option}
 use Rattle.num.specs.Numbers.{operation}
-use Rattle.column.specs.declared.answer.Fill.{Fill}
 use Rattle.column.specs.Asking.{Question, first_no, ◌otherwise◌, each, refused_in_key}
 use Rattle.column.specs.Combine.{two, all_filled, combined}
 use Rattle.column.specs.Lists.{total}
@@ -43,11 +42,11 @@ pairs how l r =
     ++ map right_only (keep (λ (e : Entry). keeps_right how && not (has e.key l)) r)
 
 -- 10 of a pair
-abbrev pub filled_pair : Fill → Fill → Pair → Question
+abbrev pub filled_pair : Option ℤ → Option ℤ → Pair → Question
 filled_pair fa fb p = all_filled (length_of p.first) (length_of p.second) (two fa fb p.first p.second)
 
 -- "inside a batch", "counted among the result's keys"
-unfoldable pub filled_pairs : Fill → Fill → List Pair → Question
+unfoldable pub filled_pairs : Option ℤ → Option ℤ → List Pair → Question
 filled_pairs fa fb ps = each (λ n p. refused_in_key n (filled_pair fa fb p)) ps
 
 -- "`zip_with` needs the runs of both sides, summed over the joined pairs"
@@ -58,14 +57,14 @@ abbrev pub zip_needs : Batch → Batch → List Pair → List ℕ
 zip_needs a b ps = batch_needs (length a.keys + length b.keys) (total (map pair_runs ps))
 
 -- for each pair of the join what `zip_with` gives
-abbrev pub zip_pair : (ℤ → ℤ → ℤ) → Fill → Fill → Pair → Entry
+abbrev pub zip_pair : (ℤ → ℤ → ℤ) → Option ℤ → Option ℤ → Pair → Entry
 zip_pair op fa fb p = record { key = p.key; runs = combined op (two fa fb p.first p.second) }
 
 -- the questions but 10 and 12
 unfoldable pub zip_asked : Batch → Batch → ℕ → ℕ → Question
 zip_asked a b how code = first_no (listed 0 3 how ∷ listed 0 9 code ∷ both_valid a b ∷ [])
 
-unfoldable pub zip_with : Batch → Batch → ℕ → Fill → Fill → ℕ → List ℕ → Outcome (List Entry)
+unfoldable pub zip_with : Batch → Batch → ℕ → Option ℤ → Option ℤ → ℕ → List ℕ → Outcome (List Entry)
 zip_with a b how fa fb code buffers =
     let ps = pairs how (entries a) (entries b) in
     first_no (zip_asked a b how code ∷ filled_pairs fa fb ps ∷ room (zip_needs a b ps) buffers ∷ [])

@@ -1,17 +1,17 @@
 // Workers that assume what the calls have asked.
-ghost use Rattle.std.specs.Prelude.{◌+◌, ◌≤◌, ◌<◌, ◌^◌, true, ◌||◌, map, ◌≡◌, length};
+ghost use Rattle.std.specs.Prelude.{◌+◌, ◌≤◌, ◌<◌, ◌^◌, true, ◌||◌, map, ◌≡◌, length, IfSome};
 ghost use Rattle.num.specs.Numbers.{operation};
-ghost use Rattle.column.specs.declared.answer.Fill.TheVariants.{Value};
 ghost use Rattle.batch_keys.specs.Workers.{block_size};
 ghost use Rattle.batch.specs.Batch.{batch, entries};
 ghost use Rattle.batch.specs.Workers.{ValidBatch, NextKept, KnownKeys, KeptOther, FillsCounts};
 ghost use Rattle.batch_zip_with.specs.Calls.{keeps_left, keeps_right, pairs, zip_pair};
-ghost use Rattle.batch_zip_with.specs.Workers.{places_of, pair_at, AsksPairs, ZipRoom};
+ghost use Rattle.batch_zip_with.specs.Workers.{places_of, pair_at, pair_kept, AsksPairs, ZipRoom};
 
 use batch::inner::lookup::{Lookup, find_other};
 use batch::inner::part_at;
 use batch::two::Joined;
-use column::answer::{Asked, Fill, RleBatch};
+use column::answer::RleBatch;
+use column::error::Refusal;
 use column::sequence;
 
 fn keeps_left(how: u8) -> bool
@@ -52,7 +52,7 @@ fn places(how: u8, a_keys: usize, b_keys: usize) -> usize
     a_keys
 }
 
-// The other batch's key is looked for at `near` first.
+// What is at a place, and whether it is kept. The other batch's key is looked for at `near` first.
 fn pair_at(
     a_keys: &[u32],
     b_keys: &[u32],
@@ -61,34 +61,34 @@ fn pair_at(
     at: usize,
     near: usize,
     block: &mut [u32],
-) -> Joined
+) -> (Joined, bool)
     requires { KnownKeys a_keys.now b_keys.now lookup × (at < length a_keys.now + length b_keys.now)
         × KeptOther a_keys.now b_keys.now lookup.indexed block.old at }
-    ensures { (result ≡ pair_at how a_keys.now b_keys.now at)
+    ensures { (result ≡ (pair_at a_keys.now b_keys.now at, pair_kept how a_keys.now b_keys.now at))
         × KeptOther a_keys.now b_keys.now lookup.indexed block.new (at + 1) }
 {
     let other = find_other(a_keys, b_keys, lookup, at, near, block);
     if at < a_keys.len() {
         let key = a_keys[at];
         let found = other < b_keys.len();
-        return Joined {
+        let pair = Joined {
             at,
-            kept: either(keeps_left(how), found),
             key,
             a: at,
             b: other,
         };
+        return (pair, either(keeps_left(how), found));
     }
     let b = at - a_keys.len();
     let key = b_keys[b];
     let found = other < a_keys.len();
-    Joined {
+    let pair = Joined {
         at,
-        kept: !found,
         key,
         a: other,
         b,
-    }
+    };
+    (pair, !found)
 }
 
 // After a position of the other batch, or `near` where it is past the last.
@@ -109,7 +109,7 @@ fn near_after(pair: Joined, a_keys: usize, b_keys: usize, near: usize) -> usize 
     next_after(a, a_keys, near)
 }
 
-// The next pair of the join, from a place on; at the number of places where there is none.
+// The next pair of the join, from a place on.
 fn next_pair(
     a_keys: &[u32],
     b_keys: &[u32],
@@ -118,41 +118,26 @@ fn next_pair(
     from: usize,
     first_near: usize,
     block: &mut [u32],
-) -> Joined
+) -> Option<Joined>
     requires { KnownKeys a_keys.now b_keys.now lookup × (from ≤ places_of how (length a_keys.now) (length b_keys.now))
         × KeptOther a_keys.now b_keys.now lookup.indexed block.old from }
-    ensures { NextKept (pair_at how a_keys.now b_keys.now)
-        (places_of how (length a_keys.now) (length b_keys.now)) from result ×
-        (result.at < places_of how (length a_keys.now)
-        (length b_keys.now) → KeptOther a_keys.now b_keys.now lookup.indexed block.new (result.at + 1)) }
+    ensures { NextKept (pair_at a_keys.now b_keys.now) (pair_kept how a_keys.now b_keys.now)
+        (places_of how (length a_keys.now) (length b_keys.now)) from result
+        × IfSome result (λ pair. KeptOther a_keys.now b_keys.now lookup.indexed block.new (pair.at + 1)) }
 {
     let places = places(how, a_keys.len(), b_keys.len());
     let mut near = first_near;
-    let mut at = from;
-    while at < places {
-        let pair = pair_at(a_keys, b_keys, lookup, how, at, near, &mut *block);
-        if pair.kept {
-            return pair;
+    for at in from..places {
+        let (pair, kept) = pair_at(a_keys, b_keys, lookup, how, at, near, &mut *block);
+        if kept {
+            return Some(pair);
         }
         near = near_after(pair, a_keys.len(), b_keys.len(), near);
-        at += 1;
     }
-    Joined {
-        at: places,
-        kept: false,
-        key: 0,
-        a: 0,
-        b: 0,
-    }
+    None
 }
 
 // 10 of all pairs, and how many runs they have, saturating at usize::MAX.
-#[derive(Clone, Copy)]
-pub struct PairsAsked {
-    pub asked: Asked,
-    pub runs: usize,
-}
-
 pub fn ask_pairs(
     a_keys: &[u32],
     a_offsets: &[usize],
@@ -164,10 +149,10 @@ pub fn ask_pairs(
     b_values: &[i64],
     lookup: Lookup,
     how: u8,
-    fill_a: Fill,
-    fill_b: Fill,
+    fill_a: Option<i64>,
+    fill_b: Option<i64>,
     block: &mut [u32],
-) -> PairsAsked
+) -> Result<usize, Refusal>
     requires { ValidBatch (batch a_keys.now a_offsets.now a_ends.now a_values.now)
         × ValidBatch (batch b_keys.now b_offsets.now b_ends.now b_values.now)
         × KnownKeys a_keys.now b_keys.now lookup × (lookup.indexed ≡ true → length block.old ≡ block_size) }
@@ -175,13 +160,11 @@ pub fn ask_pairs(
         (pairs how (entries (batch a_keys.now a_offsets.now a_ends.now a_values.now))
         (entries (batch b_keys.now b_offsets.now b_ends.now b_values.now))) result }
 {
-    let places = places(how, a_keys.len(), b_keys.len());
-    let mut asked = Asked::Yes;
     let mut runs: usize = 0;
     let mut n: usize = 0;
     let mut near: usize = 0;
-    let mut pair = next_pair(a_keys, b_keys, lookup, how, 0, 0, &mut *block);
-    while pair.at < places {
+    let mut next = next_pair(a_keys, b_keys, lookup, how, 0, 0, &mut *block);
+    while let Some(pair) = next {
         let at = pair.at;
         let left = part_at(a_offsets, a_ends, pair.a);
         let right = part_at(b_offsets, b_ends, pair.b);
@@ -191,13 +174,13 @@ pub fn ask_pairs(
             fill_a,
             fill_b,
         );
-        asked = asked.and(questions::in_key(filled, n));
+        questions::in_key(filled, n)?;
         runs = num::saturating_add(runs, left.len() + right.len());
         n += 1;
         near = near_after(pair, a_keys.len(), b_keys.len(), near);
-        pair = next_pair(a_keys, b_keys, lookup, how, at + 1, near, &mut *block);
+        next = next_pair(a_keys, b_keys, lookup, how, at + 1, near, &mut *block);
     }
-    PairsAsked { asked, runs }
+    Ok(runs)
 }
 
 // Each pair of the join combined, after those before it.
@@ -228,17 +211,16 @@ pub fn zip_pairs(
         out_keys.old out_offsets.old out_ends.old out_values.old
         × KnownKeys a_keys.now b_keys.now lookup × (lookup.indexed ≡ true → length block.old ≡ block_size) }
     ensures { FillsCounts
-        (map (zip_pair (operation code) (Value fill_a) (Value fill_b))
+        (map (zip_pair (operation code) (Some fill_a) (Some fill_b))
         (pairs how (entries (batch a_keys.now a_offsets.now a_ends.now a_values.now))
         (entries (batch b_keys.now b_offsets.now b_ends.now b_values.now)))) out_keys out_offsets out_ends out_values result }
 {
-    let places = places(how, a_keys.len(), b_keys.len());
     out_offsets[0] = 0;
     let mut used: usize = 0;
     let mut n: usize = 0;
     let mut near: usize = 0;
-    let mut pair = next_pair(a_keys, b_keys, lookup, how, 0, 0, &mut *block);
-    while pair.at < places {
+    let mut next = next_pair(a_keys, b_keys, lookup, how, 0, 0, &mut *block);
+    while let Some(pair) = next {
         let at = pair.at;
         let key = pair.key;
         let a = pair.a;
@@ -258,7 +240,7 @@ pub fn zip_pairs(
         n += 1;
         out_offsets[n] = used;
         near = near_after(pair, a_keys.len(), b_keys.len(), near);
-        pair = next_pair(a_keys, b_keys, lookup, how, at + 1, near, &mut *block);
+        next = next_pair(a_keys, b_keys, lookup, how, at + 1, near, &mut *block);
     }
     RleBatch {
         keys: n,

@@ -3,8 +3,7 @@
 // zip_with of two batches.
 pub mod inner;
 
-ghost use Rattle.std.specs.Prelude.{true, ◌≡◌, length};
-ghost use Rattle.std.proofs.Math.Option.{none};
+ghost use Rattle.std.specs.Prelude.{true, ◌≡◌, length, None};
 ghost use Rattle.column.specs.Asking.{shown_asked};
 ghost use Rattle.batch_keys.specs.Workers.{block_size};
 ghost use Rattle.batch.specs.Batch.{batch, WritesBatch};
@@ -12,8 +11,10 @@ ghost use Rattle.batch.specs.Workers.{KnownKeys};
 ghost use Rattle.batch_zip_with.specs.Calls as calls;
 
 use batch::inner::lookup::{Lookup, lookup_of};
-use column::answer::{Asked, Batched, Fill};
+use column::answer::RleBatch;
+use column::error::Refusal;
 
+#[tactic(auto, using(plan::proofs::InTurn::in_turn), unfolding(crate::specs::Calls::zip_asked))]
 fn zip_asks(
     a_keys: &[u32],
     a_offsets: &[usize],
@@ -25,15 +26,15 @@ fn zip_asks(
     b_values: &[i64],
     how: u8,
     code: u8,
-) -> Asked
+) -> Result<(), Refusal>
     ensures { shown_asked result ≡ calls.zip_asked
         (batch a_keys.now a_offsets.now a_ends.now a_values.now) (batch b_keys.now b_offsets.now b_ends.now b_values.now) how code }
 {
-    questions::ask_code(0, 3, how)
-        .and(questions::ask_code(0, 9, code))
-        .and(batch::two::ask_batches(
-            a_keys, a_offsets, a_ends, a_values, b_keys, b_offsets, b_ends, b_values,
-        ))
+    questions::ask_code(0, 3, how)?;
+    questions::ask_code(0, 9, code)?;
+    batch::two::ask_batches(
+        a_keys, a_offsets, a_ends, a_values, b_keys, b_offsets, b_ends, b_values,
+    )
 }
 
 // With what is known of the keys, and a block for the positions of those that are indexed.
@@ -47,8 +48,8 @@ fn zip_with_by(
     b_ends: &[i64],
     b_values: &[i64],
     how: u8,
-    fill_a: Fill,
-    fill_b: Fill,
+    fill_a: Option<i64>,
+    fill_b: Option<i64>,
     code: u8,
     lookup: Lookup,
     block: &mut [u32],
@@ -56,15 +57,15 @@ fn zip_with_by(
     out_offsets: &mut [usize],
     out_ends: &mut [i64],
     out_values: &mut [i64],
-) -> Batched
+) -> Result<RleBatch, Refusal>
     requires { (calls.zip_asked (batch a_keys.now a_offsets.now a_ends.now a_values.now)
-        (batch b_keys.now b_offsets.now b_ends.now b_values.now) how code ≡ none)
+        (batch b_keys.now b_offsets.now b_ends.now b_values.now) how code ≡ None)
         × KnownKeys a_keys.now b_keys.now lookup × (lookup.indexed ≡ true → length block.old ≡ block_size) }
     ensures { WritesBatch
         (calls.zip_with (batch a_keys.now a_offsets.now a_ends.now a_values.now) (batch b_keys.now b_offsets.now b_ends.now b_values.now)
         how fill_a fill_b code) out_keys out_offsets out_ends out_values result }
 {
-    let pairs = inner::ask_pairs(
+    let runs = inner::ask_pairs(
         a_keys,
         a_offsets,
         a_ends,
@@ -78,44 +79,38 @@ fn zip_with_by(
         fill_a,
         fill_b,
         &mut *block,
-    );
+    )?;
     let keys = a_keys.len() + b_keys.len();
-    let filled = pairs.asked;
-    let fits = filled.and(batch::ask_room(
+    batch::ask_room(
         keys,
         keys + 1,
-        pairs.runs,
+        runs,
         out_keys.len(),
         out_offsets.len(),
         out_ends.len(),
         out_values.len(),
-    ));
-    match fits {
-        Asked::Yes => {
-            let joined = inner::zip_pairs(
-                a_keys,
-                a_offsets,
-                a_ends,
-                a_values,
-                b_keys,
-                b_offsets,
-                b_ends,
-                b_values,
-                lookup,
-                how,
-                fill_a.value(),
-                fill_b.value(),
-                code,
-                block,
-                out_keys,
-                out_offsets,
-                out_ends,
-                out_values,
-            );
-            Batched::Batch(joined)
-        }
-        Asked::No(r) => Batched::Refused(r),
-    }
+    )?;
+    let joined = inner::zip_pairs(
+        a_keys,
+        a_offsets,
+        a_ends,
+        a_values,
+        b_keys,
+        b_offsets,
+        b_ends,
+        b_values,
+        lookup,
+        how,
+        fill_a.unwrap_or(0),
+        fill_b.unwrap_or(0),
+        code,
+        block,
+        out_keys,
+        out_offsets,
+        out_ends,
+        out_values,
+    );
+    Ok(joined)
 }
 
 // The sequences of two batches combined, key by key.
@@ -129,25 +124,21 @@ pub fn zip_with(
     b_ends: &[i64],
     b_values: &[i64],
     how: u8,
-    fill_a: Fill,
-    fill_b: Fill,
+    fill_a: Option<i64>,
+    fill_b: Option<i64>,
     code: u8,
     out_keys: &mut [u32],
     out_offsets: &mut [usize],
     out_ends: &mut [i64],
     out_values: &mut [i64],
-) -> Batched
+) -> Result<RleBatch, Refusal>
     ensures { WritesBatch
         (calls.zip_with (batch a_keys.now a_offsets.now a_ends.now a_values.now) (batch b_keys.now b_offsets.now b_ends.now b_values.now)
         how fill_a fill_b code) out_keys out_offsets out_ends out_values result }
 {
-    let asked = zip_asks(
+    zip_asks(
         a_keys, a_offsets, a_ends, a_values, b_keys, b_offsets, b_ends, b_values, how, code,
-    );
-    match asked {
-        Asked::Yes => {}
-        Asked::No(r) => return Batched::Refused(r),
-    }
+    )?;
     let lookup = lookup_of(a_keys, b_keys);
     if lookup.indexed {
         let mut block = [0u32; batch_keys::inner::BLOCK];

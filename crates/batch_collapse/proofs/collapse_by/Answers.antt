@@ -1,11 +1,10 @@
-use mathlib.Core.Path.{◌≡◌, ◌∙◌}
+use mathlib.Core.Path.{◌∙◌, sym}
 use Rattle.num.proofs.Bits.{back}
-use Rattle.column.specs.Asking.{shown_asked}
-use Rattle.column.proofs.Promised.{asked-yes, asked_no}
-use Rattle.batch_collapse.proofs.Asks.{every_asked, all_asked, grouped, all_room}
-use Rattle.batch_collapse.proofs.Collapsing.{collapse-written, collapse-refused}
-use native.Mathlib.Omega.{arith}
+use Rattle.plan.proofs.Fills.{unwrapped}
 use Rattle.batch_index.proofs.Links.{lent_same}
+use Rattle.batch_collapse.proofs.Asks.{grouped, groups-refused, all_asked, all_room}
+use Rattle.batch_collapse.proofs.Collapsing.{collapse-written, collapse-refused}
+use borrow.Author.Rules.{rules}
 use Rattle.batch_collapse.proofs.collapse_by.Goals as goal
 
 pub ask_groups-requires : goal.ask_groups-requires
@@ -13,74 +12,27 @@ ask_groups-requires c =
     let pre = c.requires in
     (grouped _ _ _ _ _ _ pre.0 pre.1, pre.2)
 
+pub returns-in_err-ask_groups : goal.returns-in_err-ask_groups
+returns-in_err-ask_groups c =
+    collapse-refused _ _ _ _ _ _ _ _ _ _ _ _ _ _ _ c.from_residual.ensures.1
+    (groups-refused _ _ _ _ _ _ _ _ _ _ _ _ _ c.requires.0 c.in_err-ask_groups.ensures)
+
+pub returns-in_err-ask_room : goal.returns-in_err-ask_room
+returns-in_err-ask_room c =
+    collapse-refused _ _ _ _ _ _ _ _ _ _ _ _ _ _ _ c.from_residual-in_err-ask_room.ensures.1
+    (all_asked _ _ _ _ _ _ _ _ _ _ _ _ _ c.requires.0 c.in_ok-ask_groups.ensures c.in_err-ask_room.ensures)
+
 pub collapse-counts-requires : goal.collapse-counts-requires
 collapse-counts-requires c =
-    let asked : (let a = c.args in
-    shown_asked c.and-fits.result ≡ every_asked a.keys.now a.offsets.now a.ends.now a.values.now a.new_keys.now a.fill
-    a.code
-    a.out_keys.now a.out_offsets.now a.out_ends.now a.out_values.now a.scratch_ends.now a.scratch_values.now) = let a = c.args in
-    all_asked a.keys.now a.offsets.now a.ends.now a.values.now a.new_keys.now a.fill a.code
-    a.out_keys.now a.out_offsets.now a.out_ends.now a.out_values.now a.scratch_ends.now a.scratch_values.now
-    c.requires.0 c.and-fits.ensures c.ask_groups.ensures c.ask_room.ensures in
     let pre = c.requires in (
       grouped _ _ _ _ _ _ pre.0 pre.1,
-      all_room _ _ _ _ _ _ _ _ _ _ _ _ _ pre.0 (asked-yes (asked)
-          c.in-Yes.is),
-      lent_same pre.2 (omega (
-        arith,
-        c.first-1.given,
-      )) (omega (
-        arith,
-        c.next-1.given,
-      )) (omega (
-        arith,
-        c.positions-1.given,
-      )),
+      all_room _ _ _ _ _ _ _ _ _ _ c.in_ok-ask_room.ensures,
+      lent_same pre.2 (search rules) (search rules) (search rules),
     )
 
-pub shape_of-first-in-Yes : goal.shape_of-first-in-Yes
-shape_of-first-in-Yes c =
-    omega (
-      arith,
-      c.first-in-Yes-1.given,
-      c.first-1.given,
-    )
-
-pub shape_of-next-in-Yes : goal.shape_of-next-in-Yes
-shape_of-next-in-Yes c =
-    omega (
-      arith,
-      c.next-in-Yes-1.given,
-      c.next-1.given,
-    )
-
-pub shape_of-positions-in-Yes : goal.shape_of-positions-in-Yes
-shape_of-positions-in-Yes c =
-    omega (
-      arith,
-      c.positions-in-Yes-1.given,
-      c.positions-1.given,
-    )
-
-pub returns-in-Yes : goal.returns-in-Yes
-returns-in-Yes c =
-    let asked : (let a = c.args in
-    shown_asked c.and-fits.result ≡ every_asked a.keys.now a.offsets.now a.ends.now a.values.now a.new_keys.now a.fill
-    a.code
-    a.out_keys.now a.out_offsets.now a.out_ends.now a.out_values.now a.scratch_ends.now a.scratch_values.now) = let a = c.args in
-    all_asked a.keys.now a.offsets.now a.ends.now a.values.now a.new_keys.now a.fill a.code
-    a.out_keys.now a.out_offsets.now a.out_ends.now a.out_values.now a.scratch_ends.now a.scratch_values.now
-    c.requires.0 c.and-fits.ensures c.ask_groups.ensures c.ask_room.ensures in
-    collapse-written _ _ _ _ _ _ _ _ _ _ _ _ _ (asked-yes (asked) c.in-Yes.is) (back _ c.value.type_inv ∙ c.value.ensures)
-    c.collapse-counts.ensures
-
-pub returns-in-No : goal.returns-in-No
-returns-in-No c =
-    let asked : (let a = c.args in
-    shown_asked c.and-fits.result ≡ every_asked a.keys.now a.offsets.now a.ends.now a.values.now a.new_keys.now a.fill
-    a.code
-    a.out_keys.now a.out_offsets.now a.out_ends.now a.out_values.now a.scratch_ends.now a.scratch_values.now) = let a = c.args in
-    all_asked a.keys.now a.offsets.now a.ends.now a.values.now a.new_keys.now a.fill a.code
-    a.out_keys.now a.out_offsets.now a.out_ends.now a.out_values.now a.scratch_ends.now a.scratch_values.now
-    c.requires.0 c.and-fits.ensures c.ask_groups.ensures c.ask_room.ensures in
-    collapse-refused _ _ _ _ _ _ _ _ _ _ _ _ _ (asked_no _ (asked) c.in-No.is)
+pub returns : goal.returns
+returns c =
+    let a = c.args in
+    collapse-written _ _ _ _ _ _ _ _ _ _ _ _ _
+    (sym (all_asked _ _ _ _ _ _ _ _ _ _ _ _ _ c.requires.0 c.in_ok-ask_groups.ensures c.in_ok-ask_room.ensures))
+    (back _ c.unwrap_or.type_inv ∙ c.unwrap_or.ensures ∙ unwrapped a.fill) c.collapse-counts.ensures

@@ -1,62 +1,38 @@
-use mathlib.Core.Option.{none}
-use mathlib.Core.Path.{◌≡◌, sym}
+use mathlib.Core.Path.{sym}
 use native.Mathlib.Omega.{arith}
-use lib.ListN.{length}
-use Rattle.column.specs.Asking.{shown_asked}
-use Rattle.column.proofs.Promised.{asked-yes, asked_no}
 use Rattle.column.proofs.Laying.{flat-written, flat-refused}
-use Rattle.batch.specs.Batch.{batch}
+use Rattle.batch.proofs.Asks.{first-refused}
 use Rattle.batch_intervals.proofs.Slices.{items-many}
-use Rattle.batch_getitems.specs.Calls.{getitems_asked, getitems}
-use Rattle.batch_getitems.proofs.Asks.{items-told, room_asked, room-asked, first-refused, then-room, gettable}
+use Rattle.batch_getitems.specs.Calls.{getitems}
+use Rattle.batch_getitems.proofs.Asks.{items-told, room-asked, gettable}
 use Rattle.batch_getitems.proofs.getitems.Goals as goal
 
-pub returns-in-No : goal.returns-in-No
+pub returns-in_err-getitems_asks : goal.returns-in_err-getitems_asks
 unfolding getitems
-returns-in-No c =
-    let a = c.args in
-    flat-refused _ (first-refused _ _ _ _ _ _ _ a.out_offsets.now a.out_ends.now a.out_values.now
-    (asked_no _ c.getitems_asks-asked.ensures c.in-No.is))
+returns-in_err-getitems_asks c = flat-refused _ _ _ c.from_residual.ensures.1 (first-refused _ c.in_err-getitems_asks.ensures)
 
 pub count_items-needed-requires : goal.count_items-needed-requires
-count_items-needed-requires c =
-    let yes : (let a = c.args in
-    getitems_asked (batch a.keys.now a.offsets.now a.ends.now a.values.now) a.get_keys.now a.starts.now a.stops.now ≡ none) = asked-yes c.getitems_asks-asked.ensures c.in-Yes.is in
-    (items-told _ _ _ _ _ _ _ yes, c.quick_order-order.ensures)
+count_items-needed-requires c = (items-told _ _ _ _ _ _ _ (sym c.in_ok-getitems_asks.ensures), c.quick_order-order.ensures)
+
+pub returns-in_err-ask_flat_room : goal.returns-in_err-ask_flat_room
+unfolding getitems
+returns-in_err-ask_flat_room c =
+    flat-refused _ _ _ c.from_residual-in_err-ask_flat_room.ensures.1
+    (room-asked _ _ _ _ _ _ _ _ _ _ c.in_ok-getitems_asks.ensures c.count_items-needed.ensures c.in_err-ask_flat_room.ensures
+    (omega (arith, c.well_formed)) (omega (arith, c.well_formed)))
 
 pub getitems-runs-requires : goal.getitems-runs-requires
-getitems-runs-requires c =
-    let yes : (let a = c.args in
-    getitems_asked (batch a.keys.now a.offsets.now a.ends.now a.values.now) a.get_keys.now a.starts.now a.stops.now ≡ none) = asked-yes c.getitems_asks-asked.ensures c.in-Yes.is in
-    let fits : (let a = c.args in
-    shown_asked c.ask_flat_room-room.result ≡ room_asked
-    a.keys.now a.offsets.now a.ends.now a.values.now a.get_keys.now a.starts.now a.stops.now
-    (length a.out_offsets.now) (length a.out_ends.now) (length a.out_values.now)) = room-asked _ _ _ _ _ _ _ _ _ _ (omega (arith, c.well_formed)) (omega (arith, c.well_formed)) c.count_items-needed.ensures c.ask_flat_room-room.ensures in
-    (gettable _ _ _ _ _ _ _ _ _ _ yes (asked-yes fits c.in-Yes-room.is), c.quick_order-order.ensures)
+getitems-runs-requires c = (
+  gettable _ _ _ _ _ _ _ _ _ _
+      (room-asked _ _ _ _ _ _ _ _ _ _ c.in_ok-getitems_asks.ensures c.count_items-needed.ensures c.in_ok-ask_flat_room.ensures
+      (omega (arith, c.well_formed)) (omega (arith, c.well_formed))),
+  c.quick_order-order.ensures,
+)
 
-pub returns-in-Yes-room : goal.returns-in-Yes-room
+pub returns : goal.returns
 unfolding getitems
-returns-in-Yes-room c =
-    let yes : (let a = c.args in
-    getitems_asked (batch a.keys.now a.offsets.now a.ends.now a.values.now) a.get_keys.now a.starts.now a.stops.now ≡ none) = asked-yes c.getitems_asks-asked.ensures c.in-Yes.is in
-    let fits : (let a = c.args in
-    shown_asked c.ask_flat_room-room.result ≡ room_asked
-    a.keys.now a.offsets.now a.ends.now a.values.now a.get_keys.now a.starts.now a.stops.now
-    (length a.out_offsets.now) (length a.out_ends.now) (length a.out_values.now)) = room-asked _ _ _ _ _ _ _ _ _ _ (omega (arith, c.well_formed)) (omega (arith, c.well_formed)) c.count_items-needed.ensures c.ask_flat_room-room.ensures in
-    let a = c.args in
-    let y = yes in
-    flat-written _ (then-room _ _ _ _ _ _ _ a.out_offsets.now a.out_ends.now a.out_values.now
-    y (asked-yes fits c.in-Yes-room.is)) (sym (items-many (items-told _ _ _ _ _ _ _ y))) c.getitems-runs.ensures
-
-pub returns-in-No-room : goal.returns-in-No-room
-unfolding getitems
-returns-in-No-room c =
-    let yes : (let a = c.args in
-    getitems_asked (batch a.keys.now a.offsets.now a.ends.now a.values.now) a.get_keys.now a.starts.now a.stops.now ≡ none) = asked-yes c.getitems_asks-asked.ensures c.in-Yes.is in
-    let fits : (let a = c.args in
-    shown_asked c.ask_flat_room-room.result ≡ room_asked
-    a.keys.now a.offsets.now a.ends.now a.values.now a.get_keys.now a.starts.now a.stops.now
-    (length a.out_offsets.now) (length a.out_ends.now) (length a.out_values.now)) = room-asked _ _ _ _ _ _ _ _ _ _ (omega (arith, c.well_formed)) (omega (arith, c.well_formed)) c.count_items-needed.ensures c.ask_flat_room-room.ensures in
-    let a = c.args in
-    flat-refused _ (then-room _ _ _ _ _ _ _ a.out_offsets.now a.out_ends.now a.out_values.now yes
-    (asked_no _ fits c.in-No-room.is))
+returns c =
+    flat-written _
+    (sym (room-asked _ _ _ _ _ _ _ _ _ _ c.in_ok-getitems_asks.ensures c.count_items-needed.ensures c.in_ok-ask_flat_room.ensures
+    (omega (arith, c.well_formed)) (omega (arith, c.well_formed))))
+    (sym (items-many (items-told _ _ _ _ _ _ _ (sym c.in_ok-getitems_asks.ensures)))) c.getitems-runs.ensures

@@ -1,11 +1,8 @@
 use native.Mathlib.Omega.{arith}
 use mir.Facts.{to_z-of_z}
 use Rattle.batch_collapse.proofs.Folding.{Part, part_read, first_out, alone-filled}
-use Rattle.batch_collapse.proofs.Restoring.{aside_room, aside_kept, back-room, group-filled}
+use Rattle.batch_collapse.proofs.Restoring.{aside_room, back-room, group-filled}
 use Rattle.batch_collapse.proofs.inner.collapse_group.Goals as goal
-
-pub next_member-second-requires : goal.next_member-second-requires
-next_member-second-requires c = (c.requires.0.known, c.requires.1.within, c.requires.2.chains, c.requires.2.listed)
 
 pub merged-requires : goal.merged-requires
 merged-requires c =
@@ -25,24 +22,11 @@ returns-then-second-new_keys c =
     c.next_member-second.ensures.0 (first) (omega (arith, c.if-second-new_keys.true))
     c.merged.ensures
 
-pub group_runs-runs-requires : goal.group_runs-runs-requires
-group_runs-runs-requires c = (c.requires.0, c.requires.1.within, c.requires.1.alone, c.requires.2)
-
 pub put_aside-requires : goal.put_aside-requires
 put_aside-requires c = (aside_room _ _ _ _ _ _ c.requires.0 c.requires.1 c.group_runs-runs.ensures).0
 
 pub put_aside-requires-2 : goal.put_aside-requires-2
 put_aside-requires-2 c = (aside_room _ _ _ _ _ _ c.requires.0 c.requires.1 c.group_runs-runs.ensures).1
-
-pub fold_group-count-requires : goal.fold_group-count-requires
-fold_group-count-requires c = (
-  c.requires.0,
-  aside_kept _ _ _ _ _ _ c.requires.0 c.requires.1
-      c.group_runs-runs.ensures
-      c.put_aside.ensures
-      c.put_aside-2.ensures,
-  c.requires.2,
-)
 
 pub put_back-requires : goal.put_back-requires
 put_back-requires c =

@@ -3,9 +3,6 @@ use Rattle.batch_collapse.proofs.Columns.{new_many, all_runs, part-runs}
 use Rattle.batch_collapse.proofs.Members.{summing_start, summing-room, summing-next, summing_end}
 use Rattle.batch_collapse.proofs.inner.group_runs.Goals as goal
 
-pub next_member-member-requires : goal.next_member-member-requires
-next_member-member-requires c = (c.requires.0.known, c.requires.1, c.requires.3.chains, c.requires.3.listed)
-
 pub loop-member-init : goal.loop-member-init
 loop-member-init c = (
   summing_start _ _ (new_many _ _ _ _ _ c.requires.0) _ c.requires.1 c.requires.2 c.next_member-member.ensures.0
@@ -18,12 +15,6 @@ overflow_add-runs c =
     let part = part-runs _ _ _ _ _ c.requires.0 _ c.part_at.ensures in
     let room = summing-room _ _ (new_many _ _ _ _ _ c.requires.0) _ _ c.loop-member.invariant.0 c.loop-member-test.true part in
     omega (arith, room, all_runs _ _ _ _ _ c.requires.0)
-
-pub next_member-member-requires-in-loop-member : goal.next_member-member-requires-in-loop-member
-next_member-member-requires-in-loop-member c = (c.requires.0.known, c.loop-member-test.true, c.requires.3.chains, c.loop-member.invariant.1)
-
-pub loop-member-smaller : goal.loop-member-smaller
-loop-member-smaller c = omega (arith, c.next_member-member-in-loop-member.ensures.0.after, c.next_member-member-in-loop-member.ensures.0.within, c.loop-member-test.true)
 
 pub loop-member-preserved : goal.loop-member-preserved
 loop-member-preserved c = (

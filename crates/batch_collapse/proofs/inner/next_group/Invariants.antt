@@ -1,4 +1,3 @@
-use Prim.Native.Nat.{◌-◌}
 use lib.ListN.{length}
 use Rattle.batch_collapse.proofs.Next.{PastGroup}
 use mathlib.Core.Path.{◌≡◌}
@@ -7,7 +6,10 @@ use Rattle.batch_index.specs.Workers.{Linked}
 use Rattle.batch_collapse.proofs.inner.next_group.Given as goal
 
 abbrev pub invariant-loop-i : goal.invariant-loop-i
-invariant-loop-i l = (length l.first ≡ length l.initial.first) × (length l.next ≡ length l.initial.next) × (length l.positions ≡ length l.initial.positions) × PastGroup l.keys l.from l.i × (l.links.from ≤ l.i) × Linked l.keys l.first l.next l.positions l.links
-
-abbrev pub decreases-loop-i : goal.decreases-loop-i
-decreases-loop-i l = length l.keys - l.i
+invariant-loop-i l =
+    (length l.first ≡ length l.initial.first)
+    × (length l.next ≡ length l.initial.next)
+    × (length l.positions ≡ length l.initial.positions)
+    × PastGroup l.keys l.from l.i
+    × (l.links.from ≤ l.i)
+    × Linked l.keys l.first l.next l.positions l.links

@@ -1,12 +1,19 @@
-use Prim.Native.Nat.{◌+◌, ◌-◌, ◌<◌}
+use Prim.Native.Nat.{◌+◌, ◌-◌}
 use mathlib.Core.Path.{◌≡◌}
 use lib.ListN.{length}
-use Rattle.batch.specs.Workers.{KeptOther}
+use Rattle.std.specs.Prelude.{IfSome}
+use Rattle.batch.specs.declared.two.Joined.{Joined}
+use Rattle.batch.specs.Workers.{place_of, KeptOther}
 use Rattle.batch_concat.proofs.Writing.{Writing}
 use Rattle.batch_concat.proofs.inner.concat_keys.Given as goal
 
-abbrev pub invariant-loop-joined : goal.invariant-loop-joined
-invariant-loop-joined l = Writing l.a_keys l.a_offsets l.a_ends l.a_values l.b_keys l.b_offsets l.b_ends l.b_values l.initial.out_keys l.out_keys l.initial.out_offsets l.out_offsets l.initial.out_ends l.out_ends l.initial.out_values l.out_values l.used l.n l.joined × (l.joined.at < length l.a_keys + length l.b_keys → KeptOther l.a_keys l.b_keys l.lookup.indexed l.block (l.joined.at + 1)) × (length l.block ≡ length l.initial.block)
+abbrev pub invariant-loop-next : goal.invariant-loop-next
+invariant-loop-next l =
+    let i = l.initial in
+    Writing l.a_keys l.a_offsets l.a_ends l.a_values l.b_keys l.b_offsets l.b_ends l.b_values i.out_keys l.out_keys i.out_offsets l.out_offsets i.out_ends
+    l.out_ends i.out_values l.out_values l.used l.n l.next
+    × IfSome l.next (λ (j : Joined). KeptOther l.a_keys l.b_keys l.lookup.indexed l.block (j.at + 1))
+    × (length l.block ≡ length l.initial.block)
 
-abbrev pub decreases-loop-joined : goal.decreases-loop-joined
-decreases-loop-joined l = length l.a_keys + length l.b_keys - l.joined.at
+abbrev pub decreases-loop-next : goal.decreases-loop-next
+decreases-loop-next l = length l.a_keys + length l.b_keys - place_of (length l.a_keys + length l.b_keys) l.next

@@ -1,14 +1,13 @@
-use Prim.Native.Nat.{◌-◌}
 use mathlib.Core.Path.{◌≡◌}
 use lib.ListN.{length}
 use Rattle.batch_keys.specs.Workers.{Kept}
-use Rattle.column.proofs.Laying.{Laying}
 use Rattle.batch.specs.Batch.{batch, entries}
 use Rattle.batch_intervals.specs.Calls.{item_runs}
+use Rattle.batch_getitems.proofs.Keyed.{Placing}
 use Rattle.batch_getitems.proofs.inner.getitems_by.Given as goal
 
 abbrev pub invariant-loop-i : goal.invariant-loop-i
-invariant-loop-i l = Laying (item_runs l.get_keys l.starts l.stops (entries (batch l.keys l.offsets l.ends l.values))) l.initial.out_offsets l.out_offsets l.initial.out_ends l.out_ends l.initial.out_values l.out_values l.used l.i × Kept l.keys l.get_keys l.indexed l.block l.i × (length l.block ≡ length l.initial.block)
-
-abbrev pub decreases-loop-i : goal.decreases-loop-i
-decreases-loop-i l = length l.starts - l.i
+invariant-loop-i l =
+    Placing (item_runs l.get_keys l.starts l.stops (entries (batch l.keys l.offsets l.ends l.values)))
+    l.initial.out_offsets l.out_offsets l.initial.out_ends l.out_ends l.initial.out_values l.out_values l.used l.i
+    × Kept l.keys l.get_keys l.indexed l.block l.i × (length l.block ≡ length l.initial.block)

@@ -8,9 +8,6 @@ use Rattle.batch_map_rles.proofs.Mapping.{slice_touches}
 use borrow.Author.Rules.{rules}
 use Rattle.batch_map_rles.proofs.inner.map_runs.Goals as goal
 
-pub shift-requires : goal.shift-requires
-shift-requires c = rw c.in-Shift.is at c.requires
-
 pub slice-requires : goal.slice-requires
 slice-requires c =
     let p = rw c.in-Slice.is at c.requires in
@@ -23,9 +20,6 @@ returns-in-Shift c =
     let distance-held : to_z w64 (of_z w64 c.in-Shift.distance) ≡ c.in-Shift.distance = search rules in
     let fill-held : to_z w64 (of_z w64 c.in-Shift.fill) ≡ c.in-Shift.fill = search rules in
     rw c.in-Shift.is (rw (distance-held, fill-held) at c.shift.ensures)
-
-pub returns-in-Reversed : goal.returns-in-Reversed
-returns-in-Reversed c = rw c.in-Reversed.is c.reversed.ensures
 
 pub returns-in-Slice : goal.returns-in-Slice
 returns-in-Slice c =
