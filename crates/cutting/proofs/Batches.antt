@@ -2,7 +2,7 @@
 -- Assumes nothing.
 use Prim.Native.Nat.{ℕ, zero, suc, ◌≤◌, ◌<◌, min, max}
 use mathlib.Core.Bool.{Bool, true, false, not, ◌&&◌, ◌||◌}
-use mathlib.Core.Option.{none, some}
+use Rattle.std.specs.Prelude.{Some, None, Option}
 use mathlib.Core.List.{List, [], ◌∷◌, ◌++◌, map, map-map, map-append}
 use mathlib.Core.Path.{◌≡◌, refl, ap, ap₂, sym, ◌∙◌}
 use native.Mathlib.Omega.{arith}
@@ -12,7 +12,6 @@ use lib.Dec.{eqb, ltb}
 use borrow.Author.Tests.{eq-eqb}
 use Rattle.num.specs.Numbers.{operation}
 use Rattle.num.proofs.Tests.{by-test}
-use Rattle.column.specs.declared.answer.Fill.{Fill}
 use Rattle.column.specs.Asking.{Question, first_no, ◌otherwise◌, each_from, refused_in_key}
 use Rattle.column.specs.Combine.{greatest_length, two}
 use Rattle.column.specs.Flat.{columns, paired_flat, offsets_flat, ends_flat}
@@ -134,18 +133,18 @@ valid-cut n z (e ∷ b) v = (valid-slice z.start z.end e.runs v.0.0, valid-cut n
 -- ---- 10, exactly where some pair lacks a fill
 
 no_in_key : (n p : ℕ) (q : Question) → no_with n (refused_in_key p q) ≡ no_with n q
-no_in_key n p none = refl
-no_in_key n p (some r) = refl
+no_in_key n p None = refl
+no_in_key n p (Some r) = refl
 
 -- the first of two questions that are answered "no" by 10 alone
 no_first : (q r : Question) (s t : Bool) → ((n : ℕ) → no_with n q ≡ s && eqb 10 n) → ((n : ℕ) → no_with n r ≡ t && eqb 10 n)
     → (n : ℕ) → no_with n (first_no (q ∷ r ∷ [])) ≡ (s || t) && eqb 10 n
-no_first none r true t h k n = absurd (let z : ◌≡◌ {A = ℕ} 0 1 = cc (h 10) in omega arith)
-no_first none r false t h k n = rw (alone r) (k n)
-no_first (some x) r true t h k n = h n
-no_first (some x) r false t h k n = absurd (let z : ◌≡◌ {A = ℕ} 0 1 = cc (h x.number, eq-eqb x.number x.number refl) in omega arith)
+no_first None r true t h k n = absurd (let z : ◌≡◌ {A = ℕ} 0 1 = cc (h 10) in omega arith)
+no_first None r false t h k n = rw (alone r) (k n)
+no_first (Some x) r true t h k n = h n
+no_first (Some x) r false t h k n = absurd (let z : ◌≡◌ {A = ℕ} 0 1 = cc (h x.number, eq-eqb x.number x.number refl) in omega arith)
 
-module _ (fa fb : Fill) where
+module _ (fa fb : Option ℤ) where
   abbrev lacks_pair : Pair → Bool
   lacks_pair x = lacks (two fa fb x.first x.second)
 
@@ -184,7 +183,7 @@ module _ (fa fb : Fill) where
       abbrev part : List Pair → Span → List Entry
       part xs z = map (zip_pair op fa fb) (map (cut_pair z) xs)
 
-      module _ (lent : List ℕ → List ℕ) (enough : (needed : List ℕ) → room needed (lent needed) ≡ none) where
+      module _ (lent : List ℕ → List ℕ) (enough : (needed : List ℕ) → room needed (lent needed) ≡ None) where
         joins_pair : (x : Pair) → PairWithin n x → JoinsUp lent (zip_pair op fa fb x).runs (map (λ z. (zip_pair op fa fb (cut_pair z x)).runs) (spans points))
         joins_pair x v = joins-columns lent enough op (two fa fb x.first x.second) (v.0.0, (v.1.0, tt)) points (reaches_pair x v)
 
@@ -205,7 +204,7 @@ module _ (fa fb : Fill) where
       same_keys xs [] = refl
       same_keys xs (z ∷ zs) = ap₂ (λ (ks : List ℕ) (kss : List (List ℕ)). ks ∷ kss) (keys-cut xs z) (same_keys xs zs)
 
-      module _ (lends : Call → List ℕ → List ℕ) (enough : (call : Call) (needed : List ℕ) → room needed (lends call needed) ≡ none) where
+      module _ (lends : Call → List ℕ → List ℕ) (enough : (call : Call) (needed : List ℕ) → room needed (lends call needed) ≡ None) where
         joins-pairs : (xs : List Pair) → All (PairWithin n) xs → JoinsUpByKey lends (map (zip_pair op fa fb) xs) (map (part xs) (spans points))
         joins-pairs xs v = record {
           keys = same_keys xs (spans points);
@@ -227,7 +226,7 @@ module _ (fa fb : Fill) where
 
 -- a batch that is asked nothing more
 abbrev Fine : Batch → Type 0
-Fine b = (keyed b ≡ none) × (paired_flat b.flat ≡ none) × (offsets_flat b.flat ≡ none) × (ends_flat b.flat ≡ none)
+Fine b = (keyed b ≡ None) × (paired_flat b.flat ≡ None) × (offsets_flat b.flat ≡ None) × (ends_flat b.flat ≡ None)
 
 fine_valid : (b : Batch) → ValidBatch b → Fine b
 unfolding batch_valid
@@ -240,16 +239,16 @@ fine_valid b v =
 fine_laid : (es : List Entry) → All Valid (columns_of es) → Fine (batch_of es)
 fine_laid es v = (keyed_laid es, paired-flat (columns_of es), offsets-flat (columns_of es), ends-flat (columns_of es) v)
 
-slice-answers : (b : Batch) (start end : ℤ) (given : List ℕ) → Fine b → room (batch_needs (length b.keys) (length b.flat.ends)) given ≡ none
+slice-answers : (b : Batch) (start end : ℤ) (given : List ℕ) → Fine b → room (batch_needs (length b.keys) (length b.flat.ends)) given ≡ None
     → map_rles_slice b start end given ≡ answers (on_each (slice_runs start end) (entries b))
 unfolding map_rles_slice each_asked batch_valid
 slice-answers b start end given h r = rw (h.0, h.1, h.2, h.3, r)
 
-both_fine : (a b : Batch) → Fine a → Fine b → both_valid a b ≡ none
+both_fine : (a b : Batch) → Fine a → Fine b → both_valid a b ≡ None
 unfolding both_valid
 both_fine a b h k = rw (h.0, k.0, h.1, k.1, h.2, k.2, h.3, k.3)
 
-module _ (how : ℕ) (fa fb : Fill) (code : ℕ) where
+module _ (how : ℕ) (fa fb : Option ℤ) (code : ℕ) where
   -- the questions before the fills
   abbrev before : Question
   before = first_no (listed 0 3 how ∷ listed 0 9 code ∷ [])
@@ -264,7 +263,7 @@ module _ (how : ℕ) (fa fb : Fill) (code : ℕ) where
       first-same (listed 0 3 how) (listed 0 9 code ∷ both_valid a b ∷ []) (listed 0 9 code ∷ [])
       (first-same (listed 0 9 code) (both_valid a b ∷ []) [] (rw (both_fine a b h k)))
 
-  zip_settles : (a b : Batch) (given : List ℕ) → Fine a → Fine b → room (zip_needs a b (pairs how (entries a) (entries b))) given ≡ none
+  zip_settles : (a b : Batch) (given : List ℕ) → Fine a → Fine b → room (zip_needs a b (pairs how (entries a) (entries b))) given ≡ None
       → zip_with a b how fa fb code given ≡ settled (pairs how (entries a) (entries b))
   unfolding zip_with
   zip_settles a b given h k r =
@@ -274,7 +273,7 @@ module _ (how : ℕ) (fa fb : Fill) (code : ℕ) where
       (ap (λ q. q otherwise map (zip_pair (operation code) fa fb) ps)
       (first-same before (fills ∷ room (zip_needs a b ps) given ∷ []) (fills ∷ []) (first-same fills (room (zip_needs a b ps) given ∷ []) [] (rw r))))
 
-  module _ (lends : Call → List ℕ → List ℕ) (enough : (call : Call) (needed : List ℕ) → room needed (lends call needed) ≡ none) where
+  module _ (lends : Call → List ℕ → List ℕ) (enough : (call : Call) (needed : List ℕ) → room needed (lends call needed) ≡ None) where
     zip_laid : (call : Call) (l r : List Entry) → All Valid (columns_of l) → All Valid (columns_of r)
         → zip_batches (lends call) how fa fb code (batch_of l) (batch_of r) ≡ settled (pairs how l r)
     zip_laid call l r v w =

@@ -2,7 +2,7 @@
 -- Assumes nothing.
 use Prim.Native.Nat.{ℕ, suc}
 use mathlib.Core.Bool.{true, ◌&&◌}
-use mathlib.Core.Option.{none, some}
+use Rattle.std.specs.Prelude.{Some, None}
 use mathlib.Core.List.{List, [], ◌∷◌, map}
 use mathlib.Core.Path.{◌≡◌, refl}
 use lib.IntN.{ℤ, pos}
@@ -35,8 +35,8 @@ numbered-same f g i (x ∷ xs) h = rw (h i x, numbered-same f g (suc i) xs h)
 
 -- a question of which the rest may be put in another way
 pub first-same : (q : Question) (qs qs' : List Question) → first_no qs ≡ first_no qs' → first_no (q ∷ qs) ≡ first_no (q ∷ qs')
-first-same none qs qs' e = e
-first-same (some r) qs qs' e = refl
+first-same None qs qs' e = e
+first-same (Some r) qs qs' e = refl
 
 -- ---- 10, exactly where a column lacks its fill
 
@@ -54,7 +54,7 @@ unfolding combined
 all_valid op cs [] = tt
 all_valid op cs (z ∷ zs) = (valid-encode (table op (map (sliced z) cs)), all_valid op cs zs)
 
-module _ (lent : List ℕ → List ℕ) (enough : (needed : List ℕ) → room needed (lent needed) ≡ none) where
+module _ (lent : List ℕ → List ℕ) (enough : (needed : List ℕ) → room needed (lent needed) ≡ None) where
   pub joins-columns : (op : ℤ → ℤ → ℤ) (cs : List Column) → All ValidColumn cs → (points : List ℤ) → cut_points (greatest_length cs) points ≡ true
       → JoinsUp lent (combined op cs) (map (λ z. combined op (map (sliced z) cs)) (spans points))
   unfolding combined table
@@ -78,6 +78,6 @@ module _ (lent : List ℕ → List ℕ) (enough : (needed : List ℕ) → room n
       (rw e at (joins-columns op cs v points t)) q)
 
   -- a cut of a valid column answers
-  pub cut-answers : (s : Sequence) (z : Span) → paired s ≡ none → ends_valid s.ends ≡ none → cut lent z s ≡ answers (piece z (runs s))
+  pub cut-answers : (s : Sequence) (z : Span) → paired s ≡ None → ends_valid s.ends ≡ None → cut lent z s ≡ answers (piece z (runs s))
   unfolding slice sequence_asked
   cut-answers s z p e = rw (p, e, enough (both (length (piece z (runs s)))))

@@ -1,7 +1,7 @@
 -- Demand 3: cutting a job never shows.
 -- Assumes nothing.
 use Prim.Native.Nat.{ℕ, suc}
-use mathlib.Core.Option.{none}
+use Rattle.std.specs.Prelude.{None}
 use mathlib.Core.List.{List, [], ◌∷◌}
 use mathlib.Core.Path.{◌≡◌, refl}
 use native.Mathlib.Omega.{arith}
@@ -22,12 +22,12 @@ demand_3 lends enough points = record {
 
 -- ---- in particular with every buffer exactly as long as document 01 asks
 
-room-from : (i : ℕ) (ns : List ℕ) → room_from i ns ns ≡ none
+room-from : (i : ℕ) (ns : List ℕ) → room_from i ns ns ≡ None
 unfolding room_from room_at
 room-from i [] = refl
 room-from i (n ∷ ns) = rw (le-leb n n (omega arith), room-from (suc i) ns)
 
-room-exact : (ns : List ℕ) → room ns ns ≡ none
+room-exact : (ns : List ℕ) → room ns ns ≡ None
 unfolding room
 room-exact ns = room-from 0 ns
 

@@ -1,13 +1,12 @@
 -- The claim's own words, as rows of a table, computed from its definitions: each row is one that a wrong reading would change.
 -- Assumes nothing.
+use Rattle.std.specs.Prelude.{Option, None}
 use Prim.Native.Nat.{ℕ, ◌^◌}
 use mathlib.Core.Bool.{Bool, true, false, cond}
 use mathlib.Core.List.{List, [], ◌∷◌, map}
 use mathlib.Core.Path.{refl}
 use lib.IntN.{ℤ, pos, negsuc}
 use Rattle.num.specs.Numbers.{wrap, operation}
-use Rattle.column.specs.declared.answer.Fill.{Fill}
-use Rattle.column.specs.declared.answer.Fill.TheVariants.{Missing}
 use Rattle.column.specs.Combine.{value_at, greatest_length, all_filled, row_at, each_position, table, combined}
 use Rattle.column.specs.Asking.{each_from}
 use Rattle.column.specs.Paper.{Outcome, answers, counts}
@@ -42,13 +41,13 @@ abbrev pub exactly : Call → List ℕ → List ℕ
 exactly call needed = needed
 
 -- two sequences combined, and their pieces, cut at 0, 4, 4, 12
-abbrev pub whole : Fill → Fill → ℕ → Sequence → Sequence → Outcome Runs
+abbrev pub whole : Option ℤ → Option ℤ → ℕ → Sequence → Sequence → Outcome Runs
 whole fa fb code a b = zip_with (exactly combines_whole) fa fb code a b
 
 abbrev pub points : List ℤ
 points = pos 0 ∷ pos 4 ∷ pos 4 ∷ pos 12 ∷ []
 
-abbrev pub pieces : Fill → Fill → ℕ → Sequence → Sequence → List (Outcome Runs)
+abbrev pub pieces : Option ℤ → Option ℤ → ℕ → Sequence → Sequence → List (Outcome Runs)
 pieces fa fb code a b = numbered (zip_pieces exactly fa fb code a b) 0 (spans points)
 
 abbrev pub join : List Runs → Outcome Runs
@@ -77,11 +76,11 @@ rows =
     ∷ row (as_test (cut_points 0 (pos 0 ∷ []))) (as_test false)
     ∷ row (as_test (cut_points 9 (pos 0 ∷ pos (2 ^ 63) ∷ []))) (as_test false)
     -- without fill some set of pieces is refused with 10, as the whole is; the first is not
-    ∷ row (as_test (some_refused_with 10 (pieces Missing Missing 0 A B))) (as_test (refused_with 10 (whole Missing Missing 0 A B)))
+    ∷ row (as_test (some_refused_with 10 (pieces None None 0 A B))) (as_test (refused_with 10 (whole None None 0 A B)))
     -- A less itself is a single run, and so is what its pieces join up to; raw, it has a run for each segment: "Raw results do not join up"
-    ∷ row (as_runs (whole Missing Missing 1 A A)) (answers ((pos 9 ∷ []) ∷ (pos 0 ∷ []) ∷ []))
-    ∷ row (as_runs (in_turn (pieces Missing Missing 1 A A) then join)) (as_runs (whole Missing Missing 1 A A))
-    ∷ row (as_runs (ops.zip_with_raw A A Missing Missing 1 (6 ∷ 6 ∷ []))) (answers ((pos 3 ∷ pos 5 ∷ pos 9 ∷ []) ∷ (pos 0 ∷ pos 0 ∷ pos 0 ∷ []) ∷ []))
+    ∷ row (as_runs (whole None None 1 A A)) (answers ((pos 9 ∷ []) ∷ (pos 0 ∷ []) ∷ []))
+    ∷ row (as_runs (in_turn (pieces None None 1 A A) then join)) (as_runs (whole None None 1 A A))
+    ∷ row (as_runs (ops.zip_with_raw A A None None 1 (6 ∷ 6 ∷ []))) (answers ((pos 3 ∷ pos 5 ∷ pos 9 ∷ []) ∷ (pos 0 ∷ pos 0 ∷ pos 0 ∷ []) ∷ []))
     -- past the end of every key the slice keeps the keys
     ∷ row (as_batch (cut_batch (exactly (cuts 0 0)) (record { start = pos 9; end = pos 12 }) (batch_of keyed)))
     (answers ((pos 5 ∷ pos 6 ∷ []) ∷ (pos 0 ∷ pos 0 ∷ pos 0 ∷ []) ∷ []))

@@ -1,7 +1,7 @@
 -- Parts that show, one after the other, what the whole shows: they concatenate to the whole, and their sums add up.
 -- Assumes nothing.
 use Prim.Native.Nat.{ℕ, ◌<◌, ◌^◌}
-use mathlib.Core.Option.{none}
+use Rattle.std.specs.Prelude.{None}
 use mathlib.Core.List.{List, [], ◌∷◌, map}
 use mathlib.Core.Path.{◌≡◌, refl, ap, sym, ◌∙◌}
 use lib.IntN.{ℤ, pos, ◌+ℤ◌, +ℤ_assoc, +ℤ_idl, +ℤ_idr}
@@ -29,7 +29,7 @@ use Rattle.cutting.proofs.Laid.{columns-flat, paired-runs, paired-flat, offsets-
 
 -- ---- concat and sum of valid columns
 
-concat-answers : (cs : List Runs) (given : List ℕ) → All Valid cs → total (map length_of cs) < 2 ^ 63 → room (both (length (flat_of cs).ends)) given ≡ none
+concat-answers : (cs : List Runs) (given : List ℕ) → All Valid cs → total (map length_of cs) < 2 ^ 63 → room (both (length (flat_of cs).ends)) given ≡ None
     → concat (flat_of cs) given ≡ answers (encode (shown cs))
 unfolding concat concat_asked
 concat-answers cs given v l r = rw (columns-flat cs, paired-flat cs, offsets-flat cs, ends-flat cs v, fits-yes (total (map length_of cs)) l, r)
@@ -55,7 +55,7 @@ all-sums : (cs : List Runs) → All Valid cs → map sum cs ≡ map answers (map
 all-sums [] v = refl
 all-sums (c ∷ cs) v = rw (sum-answers c v.0, all-sums cs v.1)
 
-module _ (lent : List ℕ → List ℕ) (enough : (needed : List ℕ) → room needed (lent needed) ≡ none)
+module _ (lent : List ℕ → List ℕ) (enough : (needed : List ℕ) → room needed (lent needed) ≡ None)
     (xs : List ℤ) (parts : List Runs) (v : All Valid parts) (e : shown parts ≡ xs) (l : length xs < 2 ^ 63) where
   fits : total (map length_of parts) < 2 ^ 63
   fits = rw (← length-shown parts v, e) l

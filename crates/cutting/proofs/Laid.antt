@@ -2,7 +2,7 @@
 -- Assumes nothing.
 use Prim.Native.Nat.{ℕ, suc, ◌+◌, ◌-◌}
 use mathlib.Core.Bool.{true}
-use mathlib.Core.Option.{none}
+use Rattle.std.specs.Prelude.{None}
 use mathlib.Core.List.{List, [], ◌∷◌, ◌++◌, map, map-map, append_assoc}
 use mathlib.Core.Path.{◌≡◌, refl, ap, sym, ◌∙◌}
 use native.Mathlib.Nat.{zero-add}
@@ -66,11 +66,11 @@ entries_laid es = rw (columns-flat (columns_of es)) (entries_from_lem es)
 
 -- ---- 2: as many values as ends, and an offset more than keys
 
-pub agree-yes : (what left right : ℕ) → left ≡ right → agree what left right ≡ none
+pub agree-yes : (what left right : ℕ) → left ≡ right → agree what left right ≡ None
 unfolding agree
 agree-yes what left right e = rw (eq-eqb left right e)
 
-pub paired-runs : (rs : Runs) → paired (sequence_of rs) ≡ none
+pub paired-runs : (rs : Runs) → paired (sequence_of rs) ≡ None
 unfolding paired
 paired-runs rs = agree-yes 3 (length (ends_of rs)) (length (values_of rs)) (length-ends rs ∙ sym (length-values rs))
 
@@ -80,14 +80,14 @@ length-flat-ends cs = ap length (flat-ends cs) ∙ length-ends (every_runs cs) �
 pub length-flat-values : (cs : List Runs) → length (flat_values cs) ≡ total (map length cs)
 length-flat-values cs = ap length (flat-values cs) ∙ length-values (every_runs cs) ∙ length-all cs
 
-pub paired-flat : (cs : List Runs) → paired_flat (flat_of cs) ≡ none
+pub paired-flat : (cs : List Runs) → paired_flat (flat_of cs) ≡ None
 unfolding paired
 paired-flat cs = agree-yes 3 (length (flat_ends cs)) (length (flat_values cs)) (length-flat-ends cs ∙ sym (length-flat-values cs))
 
 pub length-flat-offsets : (cs : List Runs) → length (flat_of cs).offsets ≡ suc (length cs)
 length-flat-offsets cs = ap suc (length-offsets 0 cs)
 
-pub keyed_laid : (es : List Entry) → keyed (batch_of es) ≡ none
+pub keyed_laid : (es : List Entry) → keyed (batch_of es) ≡ None
 unfolding keyed
 keyed_laid es =
     agree-yes 2 (length (flat_of (columns_of es)).offsets) (length (keys_of es) + 1)
@@ -106,7 +106,7 @@ unfolding offsets_from
 last-offset a [] = omega arith
 last-offset a (c ∷ cs) = let i = last-offset (a + length c) cs in omega arith
 
-pub offsets-flat : (cs : List Runs) → offsets_flat (flat_of cs) ≡ none
+pub offsets-flat : (cs : List Runs) → offsets_flat (flat_of cs) ≡ None
 offsets-flat cs =
     offsets-yes (flat_of cs).offsets (length (flat_ends cs)) (rise-offsets 0 cs)
     (last-offset 0 cs ∙ zero-add (total (map length cs)) ∙ sym (length-flat-ends cs))
@@ -120,11 +120,11 @@ parts-flat a pe (c ∷ cs) h =
     rw (next-part (length c) a pe (ends_of c) (flat_ends cs) h (length-ends c))
     (ap {B = List (List ℤ)} (λ l. ends_of c ∷ l) (simp append_assoc at (parts-flat (a + length c) (pe ++ ends_of c) cs (rw (length-append, length-ends c, h)))))
 
-each-valid : (p : ℕ) (cs : List Runs) → All Valid cs → each_from sequence_at p (map ends_of cs) ≡ none
+each-valid : (p : ℕ) (cs : List Runs) → All Valid cs → each_from sequence_at p (map ends_of cs) ≡ None
 unfolding each_from
 each-valid p [] v = refl
 each-valid p (c ∷ cs) v = rw (valid-ends c v.0, each-valid (suc p) cs v.1)
 
-pub ends-flat : (cs : List Runs) → All Valid cs → ends_flat (flat_of cs) ≡ none
+pub ends-flat : (cs : List Runs) → All Valid cs → ends_flat (flat_of cs) ≡ None
 unfolding sequences_valid
 ends-flat cs v = rw (parts-flat 0 [] cs refl) (each-valid 0 cs v)

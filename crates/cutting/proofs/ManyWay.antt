@@ -2,14 +2,13 @@
 -- Assumes nothing.
 use Prim.Native.Nat.{ℕ, suc}
 use mathlib.Core.Bool.{true}
-use mathlib.Core.Option.{none}
+use Rattle.std.specs.Prelude.{None, Option}
 use mathlib.Core.List.{List, [], ◌∷◌, map, map-map}
 use mathlib.Core.Path.{◌≡◌, refl, ap, sym, ◌∙◌}
 use native.Mathlib.Omega.{arith}
 use lib.IntN.{ℤ}
 use lib.ListN.{length, length-map}
 use Rattle.num.specs.Numbers.{operation}
-use Rattle.column.specs.declared.answer.Fill.{Fill}
 use Rattle.column.specs.Asking.{Question, first_no, ◌otherwise◌}
 use Rattle.column.specs.Combine.{many, greatest_length, all_filled, combined}
 use Rattle.column.specs.Flat.{Flat, flat, count, sequences_of, sequences, columns, paired_flat, offsets_flat, ends_flat, flat_asked}
@@ -38,7 +37,7 @@ use Rattle.cutting.proofs.Laid.{agree-yes, columns-flat, paired-flat, length-fla
 
 -- a sequence that is asked nothing more
 abbrev Fine : Sequence → Type 0
-Fine s = (paired s ≡ none) × (ends_valid s.ends ≡ none)
+Fine s = (paired s ≡ None) × (ends_valid s.ends ≡ None)
 
 fine_from : (a : ℕ) (os : List ℕ) (es vs : List ℤ) → length es ≡ length vs → AllValid (parts_from a os es)
     → All Fine (sequences_of (parts_from a os es) (parts_from a os vs))
@@ -47,24 +46,24 @@ fine_from a [] es vs l v = tt
 fine_from a (b ∷ os) es vs l v =
     ((agree-yes 3 (length (part a b es)) (length (part a b vs)) (part-paired a b es vs l), v.0), fine_from b os es vs l v.1)
 
-fine_at : (os : List ℕ) (es vs : List ℤ) → paired (sequence es vs) ≡ none → ends_flat (flat os es vs) ≡ none → All Fine (sequences_of (parts os es) (parts os vs))
+fine_at : (os : List ℕ) (es vs : List ℤ) → paired (sequence es vs) ≡ None → ends_flat (flat os es vs) ≡ None → All Fine (sequences_of (parts os es) (parts os vs))
 unfolding paired sequences_of
 fine_at [] es vs p e = tt
 fine_at (a ∷ os) es vs p e = fine_from a os es vs (agree-told 3 (length es) (length vs) p) (sequences-told (a ∷ os) es e)
 
-columns-count : (f : Flat) → paired_flat f ≡ none → ends_flat f ≡ none → length (columns f) ≡ count f
+columns-count : (f : Flat) → paired_flat f ≡ None → ends_flat f ≡ None → length (columns f) ≡ count f
 unfolding paired
 columns-count f p e =
     length-columns f.offsets f.ends f.values (agree-told 3 (length f.ends) (length f.values) p) (sequences-told f.offsets f.ends e)
 
 -- ---- the columns of the pieces
 
-greatest-many : (fill : Fill) (cs : List Runs) → greatest_length (many fill cs) ≡ longest cs
+greatest-many : (fill : Option ℤ) (cs : List Runs) → greatest_length (many fill cs) ≡ longest cs
 unfolding greatest_length
 greatest-many fill [] = refl
 greatest-many fill (c ∷ cs) = rw (greatest-many fill cs)
 
-valid-many : (fill : Fill) (cs : List Runs) → All Valid cs → All ValidColumn (many fill cs)
+valid-many : (fill : Option ℤ) (cs : List Runs) → All Valid cs → All ValidColumn (many fill cs)
 valid-many fill [] v = tt
 valid-many fill (c ∷ cs) v = (v.0, valid-many fill cs v.1)
 
@@ -72,11 +71,11 @@ valid-cut : (z : Span) (cs : List Runs) → All Valid cs → All Valid (map (pie
 valid-cut z [] v = tt
 valid-cut z (c ∷ cs) v = (valid-slice z.start z.end c v.0, valid-cut z cs v.1)
 
-many-cut : (fill : Fill) (z : Span) (cs : List Runs) → many fill (map (piece z) cs) ≡ map (sliced z) (many fill cs)
+many-cut : (fill : Option ℤ) (z : Span) (cs : List Runs) → many fill (map (piece z) cs) ≡ map (sliced z) (many fill cs)
 many-cut fill z [] = refl
 many-cut fill z (c ∷ cs) = rw (many-cut fill z cs)
 
-module _ (fill : Fill) (code : ℕ) where
+module _ (fill : Option ℤ) (code : ℕ) where
   -- the questions before the fills: the same for the whole and for every piece
   abbrev before : ℕ → Question
   before k = first_no (listed 0 9 code ∷ at_most most_columns k ∷ [])
@@ -88,7 +87,7 @@ module _ (fill : Fill) (code : ℕ) where
   abbrev settled : ℕ → List Runs → Outcome Runs
   settled k cs = first_no (before k ∷ fills cs ∷ []) otherwise combined (operation code) (many fill cs)
 
-  zip_settles : (f : Flat) (given : List ℕ) → paired_flat f ≡ none → offsets_flat f ≡ none → ends_flat f ≡ none → room (both (length f.ends)) given ≡ none
+  zip_settles : (f : Flat) (given : List ℕ) → paired_flat f ≡ None → offsets_flat f ≡ None → ends_flat f ≡ None → room (both (length f.ends)) given ≡ None
       → calls.zip_many f fill code given ≡ settled (count f) (columns f)
   unfolding calls.zip_many zip_many_asked
   zip_settles f given p o e r =
@@ -100,7 +99,7 @@ module _ (fill : Fill) (code : ℕ) where
       (rw (p, o, e) (first-same few (ask ∷ room ∷ []) (ask ∷ []) (first-same ask (room ∷ []) [] (rw r))))
       ∙ first_several (listed 0 9 code ∷ few ∷ []) (ask ∷ []))
 
-  module _ (lends : Call → List ℕ → List ℕ) (enough : (call : Call) (needed : List ℕ) → room needed (lends call needed) ≡ none) where
+  module _ (lends : Call → List ℕ → List ℕ) (enough : (call : Call) (needed : List ℕ) → room needed (lends call needed) ≡ None) where
     in_turn_lem : (i : ℕ) (z : Span) (c : ℕ) (ss : List Sequence) → All Fine ss
         → in_turn (numbered (λ c. cut (lends (cuts i c)) z) c ss) ≡ answers (map (λ s. piece z (runs s)) ss)
     in_turn_lem i z c [] h = refl

@@ -2,13 +2,12 @@
 -- Assumes nothing.
 use Prim.Native.Nat.{ℕ, ◌+◌}
 use mathlib.Core.Bool.{true}
-use mathlib.Core.Option.{none}
+use Rattle.std.specs.Prelude.{None, Option}
 use mathlib.Core.List.{List, [], ◌∷◌}
 use mathlib.Core.Path.{◌≡◌, refl, ap}
 use lib.IntN.{ℤ}
 use lib.ListN.{length}
 use Rattle.num.specs.Numbers.{operation}
-use Rattle.column.specs.declared.answer.Fill.{Fill}
 use Rattle.column.specs.Asking.{first_no, ◌otherwise◌}
 use Rattle.column.specs.Combine.{two, greatest_length, all_filled, combined}
 use Rattle.column.specs.Paper.{Outcome}
@@ -28,13 +27,13 @@ use Rattle.cutting.proofs.Columns.{numbered-same, first-same, cut-columns, cut-a
 use Rattle.cutting.proofs.Laid.{paired-runs}
 
 -- the questions that are left, of columns that are valid
-abbrev settled : Fill → Fill → ℕ → Runs → Runs → Outcome Runs
+abbrev settled : Option ℤ → Option ℤ → ℕ → Runs → Runs → Outcome Runs
 settled fa fb code a b =
     first_no (listed 0 9 code ∷ all_filled (length_of a) (length_of b) (two fa fb a b) ∷ []) otherwise combined (operation code) (two fa fb a b)
 
-zip_settles : (a b : Sequence) (fa fb : Fill) (code : ℕ) (given : List ℕ) → paired a ≡ none → paired b ≡ none → ends_valid a.ends ≡ none
-    → ends_valid b.ends ≡ none
-    → room (both (length a.ends + length b.ends)) given ≡ none → ops.zip_with a b fa fb code given ≡ settled fa fb code (runs a) (runs b)
+zip_settles : (a b : Sequence) (fa fb : Option ℤ) (code : ℕ) (given : List ℕ) → paired a ≡ None → paired b ≡ None → ends_valid a.ends ≡ None
+    → ends_valid b.ends ≡ None
+    → room (both (length a.ends + length b.ends)) given ≡ None → ops.zip_with a b fa fb code given ≡ settled fa fb code (runs a) (runs b)
 unfolding ops.zip_with zip_asked
 zip_settles a b fa fb code given pa pb ea eb r =
     let fill = all_filled (length_of (runs a)) (length_of (runs b)) (two fa fb (runs a) (runs b)) in
@@ -43,11 +42,11 @@ zip_settles a b fa fb code given pa pb ea eb r =
     (first-same (listed 0 9 code) (paired a ∷ paired b ∷ ends_valid a.ends ∷ ends_valid b.ends ∷ fill ∷ room ∷ []) (fill ∷ [])
     (rw (pa, pb, ea, eb) (first-same fill (room ∷ []) [] (rw r))))
 
-greatest-two : (fa fb : Fill) (a b : Runs) → greatest_length (two fa fb a b) ≡ longest (a ∷ b ∷ [])
+greatest-two : (fa fb : Option ℤ) (a b : Runs) → greatest_length (two fa fb a b) ≡ longest (a ∷ b ∷ [])
 unfolding greatest_length
 greatest-two fa fb a b = refl
 
-zip_runs : (lent : List ℕ → List ℕ) → ((needed : List ℕ) → room needed (lent needed) ≡ none) → (fa fb : Fill) (code : ℕ) (a b : Runs) → Valid a → Valid b
+zip_runs : (lent : List ℕ → List ℕ) → ((needed : List ℕ) → room needed (lent needed) ≡ None) → (fa fb : Option ℤ) (code : ℕ) (a b : Runs) → Valid a → Valid b
     → zip_with lent fa fb code (sequence_of a) (sequence_of b) ≡ settled fa fb code a b
 zip_runs lent enough fa fb code a b va vb =
     let needed = both (length (sequence_of a).ends + length (sequence_of b).ends) in
@@ -56,8 +55,8 @@ zip_runs lent enough fa fb code a b va vb =
     let z = zip_settles (sequence_of a) (sequence_of b) fa fb code (lent needed) (paired-runs a) (paired-runs b) valid_a valid_b (enough needed) in
     rw (runs-flat a, runs-flat b) at z
 
-module _ (lends : Call → List ℕ → List ℕ) (enough : (call : Call) (needed : List ℕ) → room needed (lends call needed) ≡ none) where
-  pub two_way : (points : List ℤ) (fa fb : Fill) (code : ℕ) (a b : Sequence) → ValidSequence a → ValidSequence b
+module _ (lends : Call → List ℕ → List ℕ) (enough : (call : Call) (needed : List ℕ) → room needed (lends call needed) ≡ None) where
+  pub two_way : (points : List ℤ) (fa fb : Option ℤ) (code : ℕ) (a b : Sequence) → ValidSequence a → ValidSequence b
       → cut_points (longest (runs a ∷ runs b ∷ [])) points ≡ true
       → NeverShows (JoinsUp (lends (joins 0))) (zip_with (lends combines_whole) fa fb code a b) (numbered (zip_pieces lends fa fb code a b) 0 (spans points))
   two_way points fa fb code a b va vb t =

@@ -1,7 +1,5 @@
 -- Demand 3: cutting a job never shows. A single claim about the list of cut points, over the definitions that the contracts cite.
-use Rattle.std.specs.Prelude.{ℕ, ◌+◌, ◌<◌, true, List, [], ◌∷◌, ◌++◌, map, ◌≡◌, ℤ, pos, length, get_or}
-use Rattle.std.proofs.Math.Option.{none}
-use Rattle.column.specs.declared.answer.Fill.{Fill}
+use Rattle.std.specs.Prelude.{ℕ, ◌+◌, ◌<◌, true, List, [], ◌∷◌, ◌++◌, map, ◌≡◌, ℤ, pos, length, get_or, None, Option}
 use Rattle.column.specs.Asking.{first_no}
 use Rattle.column.specs.Flat.{Flat, sequences, columns, flat_asked}
 use Rattle.column.specs.Paper.{Outcome, answers}
@@ -21,13 +19,13 @@ use Rattle.cutting.specs.Cut.{add_wrapping}
 -- ---- "valid columns": "as many values as ends, ends as at the top and offsets as under 2 and 3"
 
 abbrev pub ValidSequence : Sequence → Type 0
-ValidSequence s = first_no (paired s ∷ ends_valid s.ends ∷ []) ≡ none
+ValidSequence s = first_no (paired s ∷ ends_valid s.ends ∷ []) ≡ None
 
 abbrev pub ValidFlat : Flat → Type 0
-ValidFlat f = first_no (flat_asked f) ≡ none
+ValidFlat f = first_no (flat_asked f) ≡ None
 
 abbrev pub ValidBatch : Batch → Type 0
-ValidBatch b = batch_valid b ≡ none
+ValidBatch b = batch_valid b ≡ None
 
 -- ---- what is claimed of a whole's outcome and of its pieces'
 
@@ -60,13 +58,13 @@ module _ (lent : List ℕ → List ℕ) where
   abbrev pub cut_batch : Span → Batch → Outcome (List Entry)
   cut_batch z b = each.map_rles_slice b z.start z.end (lent (batch_needs (length b.keys) (length b.flat.ends)))
 
-  abbrev pub zip_with : Fill → Fill → ℕ → Sequence → Sequence → Outcome Runs
+  abbrev pub zip_with : Option ℤ → Option ℤ → ℕ → Sequence → Sequence → Outcome Runs
   zip_with fa fb code a b = ops.zip_with a b fa fb code (lent (both (length a.ends + length b.ends)))
 
-  abbrev pub zip_many : Fill → ℕ → Flat → Outcome Runs
+  abbrev pub zip_many : Option ℤ → ℕ → Flat → Outcome Runs
   zip_many fill code f = zip-many.zip_many f fill code (lent (both (length f.ends)))
 
-  abbrev pub zip_batches : ℕ → Fill → Fill → ℕ → Batch → Batch → Outcome (List Entry)
+  abbrev pub zip_batches : ℕ → Option ℤ → Option ℤ → ℕ → Batch → Batch → Outcome (List Entry)
   zip_batches how fa fb code a b = join.zip_with a b how fa fb code (lent (join.zip_needs a b (join.pairs how (entries a) (entries b))))
 
   -- "Its joining is `concat` in cut order, in a batch key by key"
@@ -99,16 +97,16 @@ pub data Call : Type 0 where
 module _ (lends : Call → List ℕ → List ℕ) where
   -- ---- "Cut every column at the same points, combine each set of pieces": set number i, from a cut point to the next
 
-  abbrev pub zip_pieces : Fill → Fill → ℕ → Sequence → Sequence → ℕ → Span → Outcome Runs
+  abbrev pub zip_pieces : Option ℤ → Option ℤ → ℕ → Sequence → Sequence → ℕ → Span → Outcome Runs
   zip_pieces fa fb code a b i z =
       cut (lends (cuts i 0)) z a then λ pa. cut (lends (cuts i 1)) z b then λ pb.
       zip_with (lends (combines i)) fa fb code (sequence_of pa) (sequence_of pb)
 
-  abbrev pub zip_many_pieces : Fill → ℕ → Flat → ℕ → Span → Outcome Runs
+  abbrev pub zip_many_pieces : Option ℤ → ℕ → Flat → ℕ → Span → Outcome Runs
   zip_many_pieces fill code f i z =
       in_turn (numbered (λ c. cut (lends (cuts i c)) z) 0 (sequences f)) then λ ps. zip_many (lends (combines i)) fill code (flat_of ps)
 
-  abbrev pub zip_batch_pieces : ℕ → Fill → Fill → ℕ → Batch → Batch → ℕ → Span → Outcome (List Entry)
+  abbrev pub zip_batch_pieces : ℕ → Option ℤ → Option ℤ → ℕ → Batch → Batch → ℕ → Span → Outcome (List Entry)
   zip_batch_pieces how fa fb code a b i z =
       cut_batch (lends (cuts i 0)) z a then λ pa. cut_batch (lends (cuts i 1)) z b then λ pb.
       zip_batches (lends (combines i)) how fa fb code (batch_of pa) (batch_of pb)
@@ -121,17 +119,17 @@ module _ (lends : Call → List ℕ → List ℕ) where
   -- ---- the claim, "for two_way, many_way and keyed batch combination, with every operation, whichever fills are given or missing"
 
   pub record CuttingNeverShows (points : List ℤ) : Type 0 where
-    pub two_way : (fa fb : Fill) (code : ℕ) (a b : Sequence) → ValidSequence a → ValidSequence b
+    pub two_way : (fa fb : Option ℤ) (code : ℕ) (a b : Sequence) → ValidSequence a → ValidSequence b
         → cut_points (longest (runs a ∷ runs b ∷ [])) points ≡ true
         → NeverShows (JoinsUp (lends (joins 0))) (zip_with (lends combines_whole) fa fb code a b) (numbered (zip_pieces fa fb code a b) 0 (spans points))
-    pub many_way : (fill : Fill) (code : ℕ) (f : Flat) → ValidFlat f
+    pub many_way : (fill : Option ℤ) (code : ℕ) (f : Flat) → ValidFlat f
         → cut_points (longest (columns f)) points ≡ true
         → NeverShows (JoinsUp (lends (joins 0))) (zip_many (lends combines_whole) fill code f) (numbered (zip_many_pieces fill code f) 0 (spans points))
-    pub batch : (how : ℕ) (fa fb : Fill) (code : ℕ) (a b : Batch) → ValidBatch a → ValidBatch b
+    pub batch : (how : ℕ) (fa fb : Option ℤ) (code : ℕ) (a b : Batch) → ValidBatch a → ValidBatch b
         → cut_points (longest (columns a.flat ++ columns b.flat)) points ≡ true
         → NeverShows JoinsUpByKey (zip_batches (lends combines_whole) how fa fb code a b) (numbered (zip_batch_pieces how fa fb code a b) 0 (spans points))
 
 -- for all buffers that are long enough, and every list of cut points
 abbrev pub Demand3 : Type 0
-Demand3 = (lends : Call → List ℕ → List ℕ) → ((call : Call) (needed : List ℕ) → room needed (lends call needed) ≡ none)
+Demand3 = (lends : Call → List ℕ → List ℕ) → ((call : Call) (needed : List ℕ) → room needed (lends call needed) ≡ None)
     → (points : List ℤ) → CuttingNeverShows lends points

@@ -1,8 +1,7 @@
 -- Cut points, the pieces between them, and calls that get what earlier calls returned.
-use Rattle.std.specs.Prelude.{ℕ, suc, ◌^◌, Bool, false, ◌&&◌, List, [], ◌∷◌, ℤ, pos, ◌+ℤ◌, eqb}
+use Rattle.std.specs.Prelude.{ℕ, suc, ◌^◌, Bool, false, ◌&&◌, List, [], ◌∷◌, ℤ, pos, ◌+ℤ◌, eqb, None}
 use Rattle.std.specs.Int.Signed.{le_z, lt_z}
 use Rattle.num.specs.Numbers.{eq_z, wrap}
-use Rattle.column.specs.declared.answer.Fill.TheVariants.{Missing}
 use Rattle.column.specs.Combine.{many, greatest_length}
 use Rattle.column.specs.Flat.{Flat, flat, flat_offsets, flat_ends, flat_values}
 use Rattle.column.specs.Lists.{any}
@@ -14,7 +13,7 @@ use Rattle.batch.specs.Batch.{Batch, Entry, keys_of, columns_of}
 
 -- "The longest length is the greatest handed in, or 0", whichever fills are given
 abbrev pub longest : List Runs → ℕ
-longest cs = greatest_length (many Missing cs)
+longest cs = greatest_length (many None cs)
 
 -- from p on the points never fall, the last reaches n, and it is an i64, as all of them then are
 abbrev pub reaches : ℕ → ℤ → List ℤ → Bool

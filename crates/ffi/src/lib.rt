@@ -7,13 +7,11 @@ ghost use Rattle.ffi.specs.Reading.{read_refusal, read_checked, read_counted, re
 ghost use Rattle.ffi.specs.Reading.{read_summed, read_reduced, read_planned_many, read_fill, laid_refusal, laid_checked, laid_counted, laid_equality, laid_found};
 ghost use Rattle.ffi.specs.Reading.{laid_got, laid_viewed, laid_batched, laid_summed, laid_reduction, laid_reduced, laid_planned_many};
 
-use batch::Got;
-use column::answer::{Batched, Checked, Counted, Fill, Found};
-use column::error::{Error, InKey, Refusal};
-use equals::Equality;
-use many::PlannedMany;
-use reduce::{Reduced, Reduction, Summed};
-use slice::{Part, Viewed};
+use column::answer::RleBatch;
+use column::error::{Error, Refusal};
+use many::Planned;
+use reduce::Reduction;
+use slice::{Part, View};
 
 // A refusal: document 01's number, its values in document 01's order as 64 bits each (0 where it has fewer), and the position that it
 // may carry, with 1 in `in_key`. All 0 with an answer.
@@ -132,11 +130,11 @@ pub struct RlRle {
 }
 
 // A number and its values, with the position where there is one.
-fn fields(number: u64, first: u64, second: u64, third: u64, in_key: InKey) -> RlRefusal
+fn fields(number: u64, first: u64, second: u64, third: u64, in_key: Option<usize>) -> RlRefusal
     ensures { result ≡ Reading.fields number first second third in_key }
 {
     match in_key {
-        InKey::Outside => RlRefusal {
+        None => RlRefusal {
             number,
             first,
             second,
@@ -144,7 +142,7 @@ fn fields(number: u64, first: u64, second: u64, third: u64, in_key: InKey) -> Rl
             in_key: 0,
             position: 0,
         },
-        InKey::Position(p) => RlRefusal {
+        Some(p) => RlRefusal {
             number,
             first,
             second,
@@ -205,202 +203,222 @@ fn refused(r: Refusal) -> RlRefusal
     }
 }
 
-pub fn checked(c: Checked) -> RlRefusal
-    ensures { (read_checked result ≡ c) × (result ≡ laid_checked c) }
-{
-    match c {
-        Checked::Valid => fields(0, 0, 0, 0, InKey::Outside),
-        Checked::Refused(r) => refused(r),
-    }
-}
+impl From<Result<(), Refusal>> for RlRefusal {
+    ghost from_gives = { λ c r. (read_checked r ≡ c) × (r ≡ laid_checked c) };
 
-pub fn counted(c: Counted) -> RlCounted
-    ensures { (read_counted result ≡ c) × (result ≡ laid_counted c) }
-{
-    match c {
-        Counted::Count(n) => {
-            let refusal = checked(Checked::Valid);
-            RlCounted { refusal, count: n }
-        }
-        Counted::Refused(r) => {
-            let refusal = refused(r);
-            RlCounted { refusal, count: 0 }
+    fn from(c: Result<(), Refusal>) -> RlRefusal {
+        match c {
+            Ok(()) => fields(0, 0, 0, 0, None),
+            Err(r) => refused(r),
         }
     }
 }
 
-pub fn equality(e: Equality) -> RlEquality
-    ensures { (read_equality result ≡ e) × (result ≡ laid_equality e) }
-{
-    match e {
-        Equality::Equal => {
-            let refusal = checked(Checked::Valid);
-            RlEquality { refusal, equal: 1 }
-        }
-        Equality::Different => {
-            let refusal = checked(Checked::Valid);
-            RlEquality { refusal, equal: 0 }
-        }
-        Equality::Refused(r) => {
-            let refusal = refused(r);
-            RlEquality { refusal, equal: 0 }
-        }
-    }
-}
+impl From<Result<usize, Refusal>> for RlCounted {
+    ghost from_gives = { λ c r. (read_counted r ≡ c) × (r ≡ laid_counted c) };
 
-pub fn planned_many(p: PlannedMany) -> RlPlannedMany
-    ensures { (read_planned_many result ≡ p) × (result ≡ laid_planned_many p) }
-{
-    match p {
-        PlannedMany::Counts { segments, indexes } => {
-            let refusal = checked(Checked::Valid);
-            RlPlannedMany {
-                refusal,
-                segments,
-                indexes,
+    fn from(c: Result<usize, Refusal>) -> RlCounted {
+        match c {
+            Ok(n) => {
+                let refusal = RlRefusal::from(Ok(()));
+                RlCounted { refusal, count: n }
             }
-        }
-        PlannedMany::Refused(r) => {
-            let refusal = refused(r);
-            RlPlannedMany {
-                refusal,
-                segments: 0,
-                indexes: 0,
+            Err(r) => {
+                let refusal = refused(r);
+                RlCounted { refusal, count: 0 }
             }
         }
     }
 }
 
-pub fn found(f: Found) -> RlFound
-    ensures { (read_found result ≡ f) × (result ≡ laid_found f) }
-{
-    match f {
-        Found::At(index) => {
-            let refusal = checked(Checked::Valid);
-            RlFound {
-                refusal,
-                found: 1,
-                index,
+impl From<Result<bool, Refusal>> for RlEquality {
+    ghost from_gives = { λ c r. (read_equality r ≡ c) × (r ≡ laid_equality c) };
+
+    fn from(e: Result<bool, Refusal>) -> RlEquality {
+        match e {
+            Ok(true) => {
+                let refusal = RlRefusal::from(Ok(()));
+                RlEquality { refusal, equal: 1 }
             }
-        }
-        Found::Nothing => {
-            let refusal = checked(Checked::Valid);
-            RlFound {
-                refusal,
-                found: 0,
-                index: 0,
+            Ok(false) => {
+                let refusal = RlRefusal::from(Ok(()));
+                RlEquality { refusal, equal: 0 }
             }
-        }
-        Found::Refused(r) => {
-            let refusal = refused(r);
-            RlFound {
-                refusal,
-                found: 0,
-                index: 0,
+            Err(r) => {
+                let refusal = refused(r);
+                RlEquality { refusal, equal: 0 }
             }
         }
     }
 }
 
-pub fn got(g: Got) -> RlGot
-    ensures { (read_got result ≡ g) × (result ≡ laid_got g) }
-{
-    match g {
-        Got::Count(count) => {
-            let refusal = checked(Checked::Valid);
-            RlGot {
-                refusal,
-                found: 1,
-                count,
+impl From<Result<Planned, Refusal>> for RlPlannedMany {
+    ghost from_gives = { λ c r. (read_planned_many r ≡ c) × (r ≡ laid_planned_many c) };
+
+    fn from(p: Result<Planned, Refusal>) -> RlPlannedMany {
+        match p {
+            Ok(planned) => {
+                let refusal = RlRefusal::from(Ok(()));
+                RlPlannedMany {
+                    refusal,
+                    segments: planned.segments,
+                    indexes: planned.indexes,
+                }
             }
-        }
-        Got::Nothing => {
-            let refusal = checked(Checked::Valid);
-            RlGot {
-                refusal,
-                found: 0,
-                count: 0,
-            }
-        }
-        Got::Refused(r) => {
-            let refusal = refused(r);
-            RlGot {
-                refusal,
-                found: 0,
-                count: 0,
+            Err(r) => {
+                let refusal = refused(r);
+                RlPlannedMany {
+                    refusal,
+                    segments: 0,
+                    indexes: 0,
+                }
             }
         }
     }
 }
 
-pub fn viewed(v: Viewed) -> RlViewed
-    ensures { (read_viewed result ≡ v) × (result ≡ laid_viewed v) }
-{
-    match v {
-        Viewed::View(view) => {
-            let refusal = checked(Checked::Valid);
-            RlViewed {
-                refusal,
-                first: view.first,
-                start: view.start,
-                length: view.length,
+impl From<Result<Option<usize>, Refusal>> for RlFound {
+    ghost from_gives = { λ c r. (read_found r ≡ c) × (r ≡ laid_found c) };
+
+    fn from(f: Result<Option<usize>, Refusal>) -> RlFound {
+        match f {
+            Ok(Some(index)) => {
+                let refusal = RlRefusal::from(Ok(()));
+                RlFound {
+                    refusal,
+                    found: 1,
+                    index,
+                }
             }
-        }
-        Viewed::Refused(r) => {
-            let refusal = refused(r);
-            RlViewed {
-                refusal,
-                first: 0,
-                start: 0,
-                length: 0,
+            Ok(None) => {
+                let refusal = RlRefusal::from(Ok(()));
+                RlFound {
+                    refusal,
+                    found: 0,
+                    index: 0,
+                }
+            }
+            Err(r) => {
+                let refusal = refused(r);
+                RlFound {
+                    refusal,
+                    found: 0,
+                    index: 0,
+                }
             }
         }
     }
 }
 
-pub fn part(p: Part) -> RlPart
-    ensures { read_part result ≡ p }
-{
-    RlPart {
-        first: p.first,
-        count: p.count,
+impl From<Result<Option<usize>, Refusal>> for RlGot {
+    ghost from_gives = { λ c r. (read_got r ≡ c) × (r ≡ laid_got c) };
+
+    fn from(g: Result<Option<usize>, Refusal>) -> RlGot {
+        match g {
+            Ok(Some(count)) => {
+                let refusal = RlRefusal::from(Ok(()));
+                RlGot {
+                    refusal,
+                    found: 1,
+                    count,
+                }
+            }
+            Ok(None) => {
+                let refusal = RlRefusal::from(Ok(()));
+                RlGot {
+                    refusal,
+                    found: 0,
+                    count: 0,
+                }
+            }
+            Err(r) => {
+                let refusal = refused(r);
+                RlGot {
+                    refusal,
+                    found: 0,
+                    count: 0,
+                }
+            }
+        }
     }
 }
 
-pub fn batched(b: Batched) -> RlBatched
-    ensures { (read_batched result ≡ b) × (result ≡ laid_batched b) }
-{
-    match b {
-        Batched::Batch(batch) => {
-            let refusal = checked(Checked::Valid);
-            RlBatched {
-                refusal,
-                keys: batch.keys,
-                runs: batch.runs,
+impl From<Result<View, Refusal>> for RlViewed {
+    ghost from_gives = { λ c r. (read_viewed r ≡ c) × (r ≡ laid_viewed c) };
+
+    fn from(v: Result<View, Refusal>) -> RlViewed {
+        match v {
+            Ok(view) => {
+                let refusal = RlRefusal::from(Ok(()));
+                RlViewed {
+                    refusal,
+                    first: view.first,
+                    start: view.start,
+                    length: view.length,
+                }
             }
-        }
-        Batched::Refused(r) => {
-            let refusal = refused(r);
-            RlBatched {
-                refusal,
-                keys: 0,
-                runs: 0,
+            Err(r) => {
+                let refusal = refused(r);
+                RlViewed {
+                    refusal,
+                    first: 0,
+                    start: 0,
+                    length: 0,
+                }
             }
         }
     }
 }
 
-pub fn summed(s: Summed) -> RlSummed
-    ensures { (read_summed result ≡ s) × (result ≡ laid_summed s) }
-{
-    match s {
-        Summed::Total(total) => {
-            let refusal = checked(Checked::Valid);
-            RlSummed { refusal, total }
+impl From<Part> for RlPart {
+    ghost from_gives = { λ p r. read_part r ≡ p };
+
+    fn from(p: Part) -> RlPart {
+        RlPart {
+            first: p.first,
+            count: p.count,
         }
-        Summed::Refused(r) => {
-            let refusal = refused(r);
-            RlSummed { refusal, total: 0 }
+    }
+}
+
+impl From<Result<RleBatch, Refusal>> for RlBatched {
+    ghost from_gives = { λ c r. (read_batched r ≡ c) × (r ≡ laid_batched c) };
+
+    fn from(b: Result<RleBatch, Refusal>) -> RlBatched {
+        match b {
+            Ok(batch) => {
+                let refusal = RlRefusal::from(Ok(()));
+                RlBatched {
+                    refusal,
+                    keys: batch.keys,
+                    runs: batch.runs,
+                }
+            }
+            Err(r) => {
+                let refusal = refused(r);
+                RlBatched {
+                    refusal,
+                    keys: 0,
+                    runs: 0,
+                }
+            }
+        }
+    }
+}
+
+impl From<Result<i64, Refusal>> for RlSummed {
+    ghost from_gives = { λ c r. (read_summed r ≡ c) × (r ≡ laid_summed c) };
+
+    fn from(s: Result<i64, Refusal>) -> RlSummed {
+        match s {
+            Ok(total) => {
+                let refusal = RlRefusal::from(Ok(()));
+                RlSummed { refusal, total }
+            }
+            Err(r) => {
+                let refusal = refused(r);
+                RlSummed { refusal, total: 0 }
+            }
         }
     }
 }
@@ -434,22 +452,20 @@ fn reduction(refusal: RlRefusal, answer: Reduction) -> RlReduced
     }
 }
 
-pub fn reduced(r: Reduced) -> RlReduced
-    ensures { (read_reduced result ≡ r) × (result ≡ laid_reduced r) }
-{
-    match r {
-        Reduced::Answer(answer) => reduction(checked(Checked::Valid), answer),
-        Reduced::Refused(refusal) => reduction(refused(refusal), Reduction::Nothing),
+impl From<Result<Reduction, Refusal>> for RlReduced {
+    ghost from_gives = { λ c r. (read_reduced r ≡ c) × (r ≡ laid_reduced c) };
+
+    fn from(r: Result<Reduction, Refusal>) -> RlReduced {
+        match r {
+            Ok(answer) => reduction(RlRefusal::from(Ok(())), answer),
+            Err(refusal) => reduction(refused(refusal), Reduction::Nothing),
+        }
     }
 }
 
 // An argument, read from C.
-pub fn fill(f: RlFill) -> Fill
+pub fn fill(f: RlFill) -> Option<i64>
     ensures { result ≡ read_fill f }
 {
-    if f.given == 0 {
-        Fill::Missing
-    } else {
-        Fill::Value(f.value)
-    }
+    if f.given == 0 { None } else { Some(f.value) }
 }

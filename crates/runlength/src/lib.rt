@@ -63,19 +63,19 @@ pub fn rl_from_runs(
 ) -> RlCounted
     ensures { LaidCounted (WritesRuns (from-runs.from_runs runs.now values.now) out_ends out_values) result }
 {
-    ffi::counted(from_runs::from_runs(runs, values, out_ends, out_values))
+    RlCounted::from(from_runs::from_runs(runs, values, out_ends, out_values))
 }
 
 pub fn rl_from_ends(ends: &[i64], values: &[i64]) -> RlRefusal
     ensures { LaidCheck (from-runs.from_ends (sequence ends.now values.now)) result }
 {
-    ffi::checked(from_runs::from_ends(ends, values))
+    RlRefusal::from(from_runs::from_ends(ends, values))
 }
 
 pub fn rl_repeat(value: i64, length: i64, out_ends: &mut [i64], out_values: &mut [i64]) -> RlCounted
     ensures { LaidCounted (WritesRuns (from-runs.repeat value length) out_ends out_values) result }
 {
-    ffi::counted(from_runs::repeat(value, length, out_ends, out_values))
+    RlCounted::from(from_runs::repeat(value, length, out_ends, out_values))
 }
 
 pub fn rl_push_run(
@@ -87,7 +87,7 @@ pub fn rl_push_run(
 ) -> RlCounted
     ensures { LaidCounted (WritesRuns (λ _. rle.push_run (sequence ends.old values.old) used run value) ends values) result }
 {
-    ffi::counted(Rle { runs: used }.push_run(ends, values, run, value))
+    RlCounted::from(Rle { runs: used }.push_run(ends, values, run, value))
 }
 
 pub fn rl_extend_to(
@@ -99,25 +99,25 @@ pub fn rl_extend_to(
 ) -> RlCounted
     ensures { LaidCounted (WritesRuns (λ _. rle.extend_to (sequence ends.old values.old) used length value) ends values) result }
 {
-    ffi::counted(Rle { runs: used }.extend_to(ends, values, length, value))
+    RlCounted::from(Rle { runs: used }.extend_to(ends, values, length, value))
 }
 
 pub fn rl_from_dense(values: &[i64], out_ends: &mut [i64], out_values: &mut [i64]) -> RlCounted
     ensures { LaidCounted (WritesRuns (dense.from_dense values.now) out_ends out_values) result }
 {
-    ffi::counted(dense::from_dense(values, out_ends, out_values))
+    RlCounted::from(dense::from_dense(values, out_ends, out_values))
 }
 
 pub fn rl_to_dense(ends: &[i64], values: &[i64], out: &mut [i64]) -> RlCounted
     ensures { LaidCounted (WritesEntries (dense.to_dense (sequence ends.now values.now)) out) result }
 {
-    ffi::counted(dense::to_dense(ends, values, out))
+    RlCounted::from(dense::to_dense(ends, values, out))
 }
 
 pub fn rl_equals(a_ends: &[i64], a_values: &[i64], b_ends: &[i64], b_values: &[i64]) -> RlEquality
     ensures { LaidEquality (equals.equals (sequence a_ends.now a_values.now) (sequence b_ends.now b_values.now)) result }
 {
-    ffi::equality(equals::equals(a_ends, a_values, b_ends, b_values))
+    RlEquality::from(equals::equals(a_ends, a_values, b_ends, b_values))
 }
 
 pub fn rl_plan(
@@ -129,7 +129,7 @@ pub fn rl_plan(
 ) -> RlCounted
     ensures { LaidCounted (WritesPlan (plan.plan a.now b.now) out_ends out_idx_a out_idx_b) result }
 {
-    ffi::counted(plan::plan(a, b, out_ends, out_idx_a, out_idx_b))
+    RlCounted::from(plan::plan(a, b, out_ends, out_idx_a, out_idx_b))
 }
 
 pub fn rl_zip_with(
@@ -147,7 +147,7 @@ pub fn rl_zip_with(
         (WritesRuns (ops.zip_with (sequence a_ends.now a_values.now)
         (sequence b_ends.now b_values.now) (read_fill fill_a) (read_fill fill_b) code) out_ends out_values) result }
 {
-    ffi::counted(ops::zip_with(
+    RlCounted::from(ops::zip_with(
         a_ends,
         a_values,
         b_ends,
@@ -175,7 +175,7 @@ pub fn rl_zip_with_raw(
         (WritesRuns (ops.zip_with_raw (sequence a_ends.now a_values.now)
         (sequence b_ends.now b_values.now) (read_fill fill_a) (read_fill fill_b) code) out_ends out_values) result }
 {
-    ffi::counted(ops::zip_with_raw(
+    RlCounted::from(ops::zip_with_raw(
         a_ends,
         a_values,
         b_ends,
@@ -197,7 +197,7 @@ pub fn rl_plan_many(
 ) -> RlPlannedMany
     ensures { LaidPlannedMany (WritesPlanMany (many.plan_many (flat offsets.now ends.now values.now)) out_ends out_idx) result }
 {
-    ffi::planned_many(many::plan_many(offsets, ends, values, out_ends, out_idx))
+    RlPlannedMany::from(many::plan_many(offsets, ends, values, out_ends, out_idx))
 }
 
 pub fn rl_zip_many(
@@ -211,7 +211,7 @@ pub fn rl_zip_many(
 ) -> RlCounted
     ensures { LaidCounted (WritesRuns (zip-many.zip_many (flat offsets.now ends.now values.now) (read_fill fill) code) out_ends out_values) result }
 {
-    ffi::counted(zip_many::zip_many(
+    RlCounted::from(zip_many::zip_many(
         offsets,
         ends,
         values,
@@ -225,7 +225,7 @@ pub fn rl_zip_many(
 pub fn rl_run_index(ends: &[i64], pos: i64) -> RlFound
     ensures { LaidFound (slice.run_index ends.now pos) result }
 {
-    ffi::found(slice::run_index(ends, pos))
+    RlFound::from(slice::run_index(ends, pos))
 }
 
 pub fn rl_slice(
@@ -238,19 +238,19 @@ pub fn rl_slice(
 ) -> RlCounted
     ensures { LaidCounted (WritesRuns (slice.slice (sequence ends.now values.now) start end) out_ends out_values) result }
 {
-    ffi::counted(slice::slice(ends, values, start, end, out_ends, out_values))
+    RlCounted::from(slice::slice(ends, values, start, end, out_ends, out_values))
 }
 
 pub fn rl_slice_view(ends: &[i64], values: &[i64], start: i64, end: i64) -> RlViewed
     ensures { LaidViewed (slice.slice_view (sequence ends.now values.now) start end) result }
 {
-    ffi::viewed(slice::slice_view(ends, values, start, end))
+    RlViewed::from(slice::slice_view(ends, values, start, end))
 }
 
 pub fn rl_slice_view_values(ends: &[i64], values: &[i64], start: i64, end: i64) -> RlPart
     ensures { LaidPart result (slice.slice_part (sequence ends.now values.now) start end) values.now }
 {
-    ffi::part(slice::slice_view_part(ends, values, start, end))
+    RlPart::from(slice::slice_view_part(ends, values, start, end))
 }
 
 pub fn rl_getitems(
@@ -266,7 +266,7 @@ pub fn rl_getitems(
         (WritesFlat (getitems.getitems (sequence ends.now values.now) starts.now stops.now) out_offsets out_ends out_values)
         result }
 {
-    ffi::batched(getitems::getitems(
+    RlBatched::from(getitems::getitems(
         ends,
         values,
         starts,
@@ -286,7 +286,7 @@ pub fn rl_concat(
 ) -> RlCounted
     ensures { LaidCounted (WritesRuns (transform.concat (flat offsets.now ends.now values.now)) out_ends out_values) result }
 {
-    ffi::counted(transform::concat(offsets, ends, values, out_ends, out_values))
+    RlCounted::from(transform::concat(offsets, ends, values, out_ends, out_values))
 }
 
 pub fn rl_shift(
@@ -299,7 +299,7 @@ pub fn rl_shift(
 ) -> RlCounted
     ensures { LaidCounted (WritesRuns (shift.shift (sequence ends.now values.now) distance fill) out_ends out_values) result }
 {
-    ffi::counted(shift::shift(ends, values, distance, fill, out_ends, out_values))
+    RlCounted::from(shift::shift(ends, values, distance, fill, out_ends, out_values))
 }
 
 pub fn rl_reversed(
@@ -310,7 +310,7 @@ pub fn rl_reversed(
 ) -> RlCounted
     ensures { LaidCounted (WritesRuns (transform.reversed (sequence ends.now values.now)) out_ends out_values) result }
 {
-    ffi::counted(transform::reversed(ends, values, out_ends, out_values))
+    RlCounted::from(transform::reversed(ends, values, out_ends, out_values))
 }
 
 pub fn rl_ranges_where(
@@ -323,7 +323,7 @@ pub fn rl_ranges_where(
 ) -> RlCounted
     ensures { LaidCounted (WritesRanges (ranges-where.ranges_where (sequence ends.now values.now) code number) out_starts out_ends) result }
 {
-    ffi::counted(ranges_where::ranges_where(ends, values, code, number, out_starts, out_ends))
+    RlCounted::from(ranges_where::ranges_where(ends, values, code, number, out_starts, out_ends))
 }
 
 pub fn rl_merge(
@@ -334,7 +334,7 @@ pub fn rl_merge(
 ) -> RlCounted
     ensures { LaidCounted (WritesRuns (merge.merged (sequence ends.now values.now)) out_ends out_values) result }
 {
-    ffi::counted(merge::merge(ends, values, out_ends, out_values))
+    RlCounted::from(merge::merge(ends, values, out_ends, out_values))
 }
 
 pub fn rl_merged(
@@ -345,7 +345,7 @@ pub fn rl_merged(
 ) -> RlCounted
     ensures { LaidCounted (WritesRuns (merge.merged (sequence ends.now values.now)) out_ends out_values) result }
 {
-    ffi::counted(merge::merged(ends, values, out_ends, out_values))
+    RlCounted::from(merge::merged(ends, values, out_ends, out_values))
 }
 
 pub fn rl_merge_mask(
@@ -358,7 +358,7 @@ pub fn rl_merge_mask(
 ) -> RlCounted
     ensures { LaidCounted (WritesRuns (merge-mask.merge_mask (sequence ends.now values.now) mask.now keep) out_ends out_values) result }
 {
-    ffi::counted(merge_mask::merge_mask(ends, values, mask, keep, out_ends, out_values))
+    RlCounted::from(merge_mask::merge_mask(ends, values, mask, keep, out_ends, out_values))
 }
 
 pub fn rl_merge_by(
@@ -370,7 +370,7 @@ pub fn rl_merge_by(
 ) -> RlCounted
     ensures { LaidCounted (WritesRuns (merge-mask.merge_by (sequence ends.now values.now) code) out_ends out_values) result }
 {
-    ffi::counted(merge_mask::merge_by(ends, values, code, out_ends, out_values))
+    RlCounted::from(merge_mask::merge_by(ends, values, code, out_ends, out_values))
 }
 
 pub fn rl_merge_plan(
@@ -381,25 +381,25 @@ pub fn rl_merge_plan(
 ) -> RlCounted
     ensures { LaidCounted (WritesGroups (merge-plan.merge_plan ends.now mask.now) out_ends out_offsets) result }
 {
-    ffi::counted(merge_plan::merge_plan(ends, mask, out_ends, out_offsets))
+    RlCounted::from(merge_plan::merge_plan(ends, mask, out_ends, out_offsets))
 }
 
 pub fn rl_group_ids(offsets: &[usize], out_ids: &mut [usize]) -> RlCounted
     ensures { LaidCounted (WritesEntries (merge-plan.group_ids offsets.now) out_ids) result }
 {
-    ffi::counted(merge_plan::group_ids(offsets, out_ids))
+    RlCounted::from(merge_plan::group_ids(offsets, out_ids))
 }
 
 pub fn rl_sum(ends: &[i64], values: &[i64]) -> RlSummed
     ensures { LaidSum (reduce.sum (sequence ends.now values.now)) result }
 {
-    ffi::summed(reduce::sum(ends, values))
+    RlSummed::from(reduce::sum(ends, values))
 }
 
 pub fn rl_reduce(ends: &[i64], values: &[i64], code: u8, ddof: i64) -> RlReduced
     ensures { LaidReduced (reduce.reduce (sequence ends.now values.now) code ddof) result }
 {
-    ffi::reduced(reduce::reduce(ends, values, code, ddof))
+    RlReduced::from(reduce::reduce(ends, values, code, ddof))
 }
 
 pub fn rl_slice_reduce(
@@ -416,7 +416,7 @@ pub fn rl_slice_reduce(
         (WritesReductions (getitems.slice_reduce (sequence ends.now values.now) starts.now stops.now code ddof) out_kinds out_bits)
         result }
 {
-    ffi::counted(getitems::slice_reduce(
+    RlCounted::from(getitems::slice_reduce(
         ends, values, starts, stops, code, ddof, out_kinds, out_bits,
     ))
 }
@@ -429,13 +429,13 @@ pub fn rl_batch_from_parts(
 ) -> RlRefusal
     ensures { LaidCheck (batches.from_parts (batch keys.now offsets.now ends.now values.now)) result }
 {
-    ffi::checked(batch::from_parts(keys, offsets, ends, values))
+    RlRefusal::from(batch::from_parts(keys, offsets, ends, values))
 }
 
 pub fn rl_batch_position(keys: &[u32], key: u32) -> RlFound
     ensures { LaidFound (batch-keys.position keys.now key) result }
 {
-    ffi::found(batch_keys::position(keys, key))
+    RlFound::from(batch_keys::position(keys, key))
 }
 
 pub fn rl_batch_get(
@@ -449,7 +449,7 @@ pub fn rl_batch_get(
 ) -> RlGot
     ensures { LaidGot (WritesGot (batches.get (batch keys.now offsets.now ends.now values.now) key) out_ends out_values) result }
 {
-    ffi::got(batch::get(keys, offsets, ends, values, key, out_ends, out_values))
+    RlGot::from(batch::get(keys, offsets, ends, values, key, out_ends, out_values))
 }
 
 pub fn rl_batch_getitems(
@@ -468,7 +468,7 @@ pub fn rl_batch_getitems(
         (WritesFlat (batch-getitems.getitems (batch keys.now offsets.now ends.now values.now) get_keys.now starts.now stops.now)
         out_offsets out_ends out_values) result }
 {
-    ffi::batched(batch_getitems::getitems(
+    RlBatched::from(batch_getitems::getitems(
         keys,
         offsets,
         ends,
@@ -499,7 +499,7 @@ pub fn rl_batch_slice_reduce(
         (WritesReductions (batch-slice-reduce.slice_reduce
         (batch keys.now offsets.now ends.now values.now) get_keys.now starts.now stops.now code ddof) out_kinds out_bits) result }
 {
-    ffi::counted(batch_slice_reduce::slice_reduce(
+    RlCounted::from(batch_slice_reduce::slice_reduce(
         keys, offsets, ends, values, get_keys, starts, stops, code, ddof, out_kinds, out_bits,
     ))
 }
@@ -520,7 +520,7 @@ pub fn rl_batch_shift(
         (WritesBatch (batch-map-rles.shift (batch keys.now offsets.now ends.now values.now) distance fill)
         out_keys out_offsets out_ends out_values) result }
 {
-    ffi::batched(batch_map_rles::shift(
+    RlBatched::from(batch_map_rles::shift(
         keys,
         offsets,
         ends,
@@ -547,7 +547,7 @@ pub fn rl_batch_reversed(
     ensures { LaidBatched
         (WritesBatch (batch-map-rles.reversed (batch keys.now offsets.now ends.now values.now)) out_keys out_offsets out_ends out_values) result }
 {
-    ffi::batched(batch_map_rles::reversed(
+    RlBatched::from(batch_map_rles::reversed(
         keys,
         offsets,
         ends,
@@ -575,7 +575,7 @@ pub fn rl_batch_map_rles_slice(
         (WritesBatch (batch-map-rles.map_rles_slice (batch keys.now offsets.now ends.now values.now) start end)
         out_keys out_offsets out_ends out_values) result }
 {
-    ffi::batched(batch_map_rles::map_rles_slice(
+    RlBatched::from(batch_map_rles::map_rles_slice(
         keys,
         offsets,
         ends,
@@ -608,7 +608,7 @@ pub fn rl_batch_collapse(
         (WritesCollapse (batch-collapse.collapse (batch keys.now offsets.now ends.now values.now) new_keys.now (read_fill fill) code)
         (2 * length ends.now) out_keys out_offsets out_ends out_values scratch_ends scratch_values) result }
 {
-    ffi::batched(batch_collapse::collapse(
+    RlBatched::from(batch_collapse::collapse(
         keys,
         offsets,
         ends,
@@ -643,7 +643,7 @@ pub fn rl_batch_concat(
         (WritesBatch (batch-concat.concat (batch a_keys.now a_offsets.now a_ends.now a_values.now)
         (batch b_keys.now b_offsets.now b_ends.now b_values.now)) out_keys out_offsets out_ends out_values) result }
 {
-    ffi::batched(batch_concat::concat(
+    RlBatched::from(batch_concat::concat(
         a_keys,
         a_offsets,
         a_ends,
@@ -682,7 +682,7 @@ pub fn rl_batch_zip_with(
         (batch b_keys.now b_offsets.now b_ends.now b_values.now) how (read_fill fill_a) (read_fill fill_b) code)
         out_keys out_offsets out_ends out_values) result }
 {
-    ffi::batched(batch_zip_with::zip_with(
+    RlBatched::from(batch_zip_with::zip_with(
         a_keys,
         a_offsets,
         a_ends,

@@ -2,14 +2,12 @@
 -- Assumes nothing.
 use Prim.Native.Nat.{ℕ, ◌+◌, ◌*◌, ◌^◌}
 use mathlib.Core.Bool.{true, false}
-use mathlib.Core.Option.{Option, none, some}
+use Rattle.std.specs.Prelude.{Option, Some, None}
 use mathlib.Core.List.{List, [], ◌∷◌, map}
 use mathlib.Core.Path.{refl}
 use lib.IntN.{ℤ, pos, negsuc}
 use lib.Ieee.{Float, nan, inf, fin, of_int}
 use Rattle.num.specs.Numbers.{wrap, operation}
-use Rattle.column.specs.declared.answer.Fill.{Fill}
-use Rattle.column.specs.declared.answer.Fill.TheVariants.{Value, Missing}
 use Rattle.column.specs.Combine.{value_at, greatest_length, all_filled, row_at, each_position, table, combined}
 use Rattle.column.specs.Asking.{each_from}
 use Rattle.column.specs.Paper.{Outcome, answers, counts}
@@ -37,15 +35,15 @@ use Rattle.cutting.specs.Claim.{sum}
 use Rattle.cutting.proofs.Examples.{A, B, whole, pieces, join, as_total}
 
 -- A and B added, with B's fill
-abbrev add : Fill → Outcome Runs
-add fb = whole Missing fb 0 A B
+abbrev add : Option ℤ → Outcome Runs
+add fb = whole None fb 0 A B
 
 -- what that comes to with the fill 0
 abbrev added : Outcome Lines
 added = answers ((pos 2 ∷ pos 3 ∷ pos 5 ∷ pos 9 ∷ []) ∷ (pos 8 ∷ pos 11 ∷ pos 6 ∷ pos 7 ∷ []) ∷ [])
 
 abbrev parts : Outcome (List Runs)
-parts = in_turn (pieces Missing (Value (pos 0)) 0 A B)
+parts = in_turn (pieces None (Some (pos 0)) 0 A B)
 
 abbrev as_indexes : ℕ → List Segment → List ℤ
 as_indexes c ss = map pos (indexes_of c ss)
@@ -55,8 +53,8 @@ as_plan o = counts (λ ss. segment_ends ss ∷ as_indexes 0 ss ∷ as_indexes 1 
 
 -- an index, or none
 abbrev as_index : Option ℕ → List ℤ
-as_index none = []
-as_index (some i) = pos i ∷ []
+as_index None = []
+as_index (Some i) = pos i ∷ []
 
 abbrev as_found : Outcome (Option ℕ) → Outcome Lines
 as_found o = counts (λ i. as_index i ∷ []) o
@@ -78,10 +76,10 @@ rows =
     row (as_plan (plan A.ends B.ends (5 ∷ 5 ∷ 5 ∷ [])))
     (answers ((pos 2 ∷ pos 3 ∷ pos 5 ∷ pos 9 ∷ []) ∷ (pos 0 ∷ pos 0 ∷ pos 1 ∷ pos 2 ∷ []) ∷ (pos 0 ∷ pos 1 ∷ pos 1 ∷ pos 2 ∷ []) ∷ []))
     -- Add, B's fill 0: values 8, 11, 6, 7; sum 67
-    ∷ row (as_runs (add (Value (pos 0)))) added
-    ∷ row (as_total (add (Value (pos 0)) then sum)) (answers ((pos 67 ∷ []) ∷ []))
+    ∷ row (as_runs (add (Some (pos 0)))) added
+    ∷ row (as_total (add (Some (pos 0)) then sum)) (answers ((pos 67 ∷ []) ∷ []))
     -- The same without fill: 10, left 9, right 5
-    ∷ row (as_runs (add Missing)) (refused 10 (pos 9 ∷ pos 5 ∷ []) none)
+    ∷ row (as_runs (add None)) (refused 10 (pos 9 ∷ pos 5 ∷ []) None)
     -- The add cut at 0, 4, 4, 12: the joined runs above; sums 33, 0, 34
     ∷ row (as_runs (parts then join)) added
     ∷ row (as_entries (parts then λ rs. in_turn (map sum rs))) (answers ((pos 33 ∷ pos 0 ∷ pos 34 ∷ []) ∷ []))
