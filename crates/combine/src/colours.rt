@@ -3,109 +3,104 @@
 // Each of these two lists is bounded, so that its insertions cost little however many runs there are, and so does its place on the stack.
 // A value for which there was no room has a colour by its own number.
 use crate::seams;
-use column::sequence;
-use job::inner::{Job, VALUES, put_entry};
+use job::inner::Job;
 
 // How many colours there are, c0 to c10 of the style.
 const COLOURS: u64 = 11;
 
-// The most values of a list, as many as a strip can show. Its free entries are the greatest number.
+// The most values of a list, as many as a strip can show.
 const LIST: usize = seams::UNITS;
 
-// Both lists: the job's from 0 on, the combination's from LIST on.
-pub const ENTRIES: usize = LIST * 2;
+// Values in ascending order. The free entries are the greatest number.
+#[derive(Clone, Copy)]
+struct List {
+    values: [i64; LIST],
+}
 
-// How many values of a list are below a value: its index, if the list has it.
-fn place_of(list: &[i64], value: i64) -> usize {
-    let mut low = 0;
-    let mut size = list.len();
-    while size > 0 {
-        low = low_after(list, low, num::saturating_add(low, size / 2), value);
-        size /= 2;
+impl List {
+    // How many values are below a value: its index, if the list has it.
+    fn place_of(&self, value: i64) -> usize {
+        self.values.partition_point(|other| *other < value)
     }
-    low
-}
 
-// Where a search goes on that has come to `middle`.
-fn low_after(list: &[i64], low: usize, middle: usize, value: i64) -> usize {
-    if sequence::entry_or(list, middle, i64::MAX) < value {
-        return num::saturating_add(middle, 1);
+    // Which of the values it is, if it is one of them.
+    fn find(&self, value: i64) -> Option<u64> {
+        let place = self.place_of(value);
+        match self.values.get(place) {
+            Some(other) if *other == value => Some(place as u64),
+            _ => None,
+        }
     }
-    low
-}
 
-fn list_at(entries: &[i64], from: usize) -> &[i64] {
-    sequence::part(entries, from, num::saturating_add(from, LIST))
-}
-
-fn has(list: &[i64], value: i64) -> bool {
-    let place = place_of(list, value);
-    if place < list.len() {
-        return list[place] == value;
+    fn is_full(&self) -> bool {
+        self.values[LIST - 1] < i64::MAX
     }
-    false
-}
 
-fn is_full(list: &[i64]) -> bool {
-    sequence::entry_or(list, LIST - 1, 0) < i64::MAX
-}
-
-// Puts a value to its place in the list that ends before `to`; those from there on go one further.
-fn insert(entries: &mut [i64], place: usize, to: usize, value: i64) {
-    let mut carried = value;
-    for i in place..to {
-        let entry = sequence::entry_or(entries, i, 0);
-        put_entry(entries, i, carried);
-        carried = entry;
+    // Puts a value to its place; those from there on go one further.
+    fn insert(&mut self, value: i64) {
+        let place = self.place_of(value);
+        if let Some(rest) = self.values.get_mut(place..) {
+            if !rest.is_empty() {
+                rest.rotate_right(1);
+                rest[0] = value;
+            }
+        }
     }
 }
 
-// Takes a value into the list from `from` on, if no list has it and there is room.
-fn take(entries: &mut [i64], from: usize, value: i64) {
-    let list = list_at(entries, from);
-    if has(list_at(entries, 0), value) {
-        return;
-    }
-    if has(list, value) {
-        return;
-    }
-    if is_full(list) {
-        return;
-    }
-    let place = num::saturating_add(from, place_of(list, value));
-    insert(entries, place, num::saturating_add(from, LIST), value);
+// The values of a job, and those that only the combination of its columns has.
+#[derive(Drop)]
+pub struct Colours {
+    own: List,
+    others: List,
 }
 
-fn take_values(entries: &mut [i64], from: usize, values: &[i64]) {
-    for r in 0..values.len() {
-        take(entries, from, sequence::entry_or(values, r, 0));
+impl Colours {
+    pub fn new(job: Job, combined: &[i64]) -> Self {
+        let list = List {
+            values: [i64::MAX; LIST],
+        };
+        let mut colours = Colours {
+            own: list,
+            others: list,
+        };
+        for value in job.values {
+            colours.take_own(*value);
+        }
+        if let Some(fill) = job.fill {
+            colours.take_own(fill);
+        }
+        for value in combined {
+            colours.take_other(*value);
+        }
+        colours
     }
-}
 
-fn take_fill(entries: &mut [i64], job: Job) {
-    if job.filled {
-        take(entries, 0, job.fill);
+    // Takes a value of the job, if it is new and there is room.
+    fn take_own(&mut self, value: i64) {
+        if self.own.find(value).is_none() && !self.own.is_full() {
+            self.own.insert(value);
+        }
     }
-}
 
-// Takes the values of a job and of the combination of its columns.
-pub fn take_all(entries: &mut [i64], job: Job, table: &[i64], combined: &[i64]) {
-    let to = num::saturating_add(VALUES, job.runs);
-    take_values(entries, 0, sequence::part(table, VALUES, to));
-    take_fill(entries, job);
-    take_values(entries, LIST, combined);
-}
+    // Takes a value of the combination, if no list has it and there is room.
+    fn take_other(&mut self, value: i64) {
+        if self.own.find(value).is_none()
+            && self.others.find(value).is_none()
+            && !self.others.is_full()
+        {
+            self.others.insert(value);
+        }
+    }
 
-// Which colour a value has.
-pub fn colour_of(entries: &[i64], value: i64) -> i64 {
-    let own = list_at(entries, 0);
-    let others = list_at(entries, LIST);
-    if has(own, value) {
-        return num::as_signed(place_of(own, value) as u64 % COLOURS);
+    // Which colour a value has.
+    pub fn colour_of(&self, value: i64) -> u64 {
+        if let Some(place) = self.own.find(value) {
+            return place % COLOURS;
+        }
+        if let Some(place) = self.others.find(value) {
+            return COLOURS - 1 - place % COLOURS;
+        }
+        value.cast_unsigned() % COLOURS
     }
-    if has(others, value) {
-        let back = place_of(others, value) as u64 % COLOURS;
-        return num::as_signed(COLOURS - 1 - back);
-    }
-    num::as_signed(num::as_unsigned(value) % COLOURS)
 }

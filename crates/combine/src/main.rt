@@ -13,40 +13,48 @@ mod refusal;
 mod seams;
 mod svg;
 
-ghost use Rattle.std.specs.Prelude.{◌≤◌, length};
-
-use column::answer::{Asked, Counted, Fill};
 use column::sequence;
-use job::inner::output::{put_form, put_named, say, say_named};
-use job::inner::words::Value;
-use job::inner::{
-    BYTES, Job, VALUES, new_buffer, new_runs, new_table, output, put_offsets, used_offsets, words,
-};
+use job::inner::entry::number_of;
+use job::inner::output::Output;
+use job::inner::reader::Reader;
+use job::inner::{Job, NO_NAME, new_lines, new_runs};
 use rle::Rle;
 use seams::Window;
 use std::env::FillError;
+use std::io;
+use std::io::Write;
 use std::rt::Env;
 
+// The most bytes of an argument.
+const LONGEST: usize = 64;
+
+fn code_name(code: u8) -> &'static str {
+    match code {
+        0 => "add",
+        1 => "subtract",
+        2 => "multiply",
+        3 => "smaller",
+        4 => "larger",
+        5 => "first",
+        6 => "second",
+        7 => "equal",
+        8 => "less",
+        9 => "midpoint",
+        _ => "",
+    }
+}
+
 // A code; 255, which the library refuses, for a word that is none.
-fn code_of(codes: &[u8], word: &[u8]) -> u8 {
+fn code_of(word: &[u8]) -> u8 {
     for code in 0..10u8 {
-        if words::same(words::word(codes, code as usize), word) {
+        if code_name(code).as_bytes() == word {
             return code;
         }
     }
-    byte_of(words::value_of(word))
-}
-
-// A number as a code.
-fn byte_of(value: Value) -> u8 {
-    let bits = num::as_unsigned(value.number);
-    if !value.valid {
-        return 255;
+    match number_of(word) {
+        Some(number) => u8::try_from(number).unwrap_or(255),
+        None => 255,
     }
-    if bits > 255 {
-        return 255;
-    }
-    bits as u8
 }
 
 // How many arguments there are, the program's name among them.
@@ -60,207 +68,124 @@ fn argument_count(rt: &impl Env) -> usize {
     usize::MAX
 }
 
-// Puts an argument at the front of a buffer, and answers how long it is; 0 where it is missing or longer than the buffer.
-pub fn put_argument(rt: &impl Env, index: usize, word: &mut [u8]) -> usize
-    ensures { result ≤ length word.new }
-{
+// An argument; empty where it is missing or too long.
+fn argument<'w>(rt: &impl Env, index: usize, word: &'w mut [u8; LONGEST]) -> &'w [u8] {
     match rt.arg(index, word) {
-        Ok(n) => n,
-        Err(_) => 0,
+        Ok(n) => &word[..n],
+        Err(_) => &word[..0],
     }
 }
 
-fn is_argument(rt: &impl Env, index: usize, name: &[u8]) -> bool {
-    let mut word = [0u8; 64];
-    let n = put_argument(rt, index, &mut word);
-    words::same(&word[..n], name)
+fn number_argument(rt: &impl Env, index: usize) -> Option<i64> {
+    let mut word = [0u8; LONGEST];
+    number_of(argument(rt, index, &mut word))
 }
 
-fn code_argument(rt: &impl Env, index: usize, codes: &[u8]) -> u8 {
-    let mut word = [0u8; 64];
-    let n = put_argument(rt, index, &mut word);
-    code_of(codes, &word[..n])
-}
-
-fn value_argument(rt: &impl Env, index: usize) -> Value {
-    let mut word = [0u8; 64];
-    let n = put_argument(rt, index, &mut word);
-    words::value_of(&word[..n])
-}
-
-fn fill_of(job: Job) -> Fill {
-    if job.filled {
-        return Fill::Value(job.fill);
-    }
-    Fill::Missing
-}
-
-fn combine(
+// Writes the combined runs, as a column of a job.
+fn write_column<W: Write>(
+    out: &mut W,
     job: Job,
-    table: &[i64],
-    code: u8,
-    out_ends: &mut [i64],
-    out_values: &mut [i64],
-) -> Counted {
-    let runs = job.runs;
-    let ends = sequence::part(table, 0, runs);
-    let values = sequence::part(table, VALUES, num::saturating_add(VALUES, runs));
-    let mut offsets = [0usize; Rle::MAX_COLUMNS + 1];
-    put_offsets(table, &mut offsets);
-    let used = used_offsets(&offsets, job.columns);
-    zip_many::zip_many(used, ends, values, fill_of(job), code, out_ends, out_values)
-}
-
-fn put_runs(
-    rt: &(impl Print + Eprint),
-    out: usize,
-    buffer: &mut [u8],
+    name: &str,
     ends: &[i64],
     values: &[i64],
-) -> usize {
-    let mut next = out;
-    for r in 0..ends.len() {
-        let end = sequence::entry_or(ends, r, 0);
-        let value = sequence::entry_or(values, r, 0);
-        next = put_form(rt, next, buffer, b"@ @\n", [end, value, 0, 0, 0, 0]);
+) -> io::Result<()> {
+    let columns = job.columns();
+    let given = job.ends.len();
+    let runs = ends.len();
+    let length = sequence::length(ends);
+    writeln!(
+        out,
+        "# {name} of {columns} columns with {given} runs: {runs} runs, up to {length}"
+    )?;
+    writeln!(out, "column {name}")?;
+    for (end, value) in ends.iter().zip(values) {
+        writeln!(out, "{end} {value}")?;
     }
-    next
-}
-
-// The combined runs, as a column of a job.
-fn put_column(
-    rt: &(impl Print + Eprint),
-    out: usize,
-    buffer: &mut [u8],
-    job: Job,
-    code: &[u8],
-    ends: &[i64],
-    values: &[i64],
-) -> usize {
-    let form = b"# $ of @ columns with @ runs: @ runs, up to @\ncolumn $\n";
-    let columns = num::as_signed(job.columns as u64);
-    let given = num::as_signed(job.runs as u64);
-    let runs = num::as_signed(ends.len() as u64);
-    let numbers = [columns, given, runs, sequence::length(ends), 0, 0];
-    let begun = put_named(rt, out, buffer, form, code, numbers);
-    put_runs(rt, begun, buffer, ends, values)
+    Ok(())
 }
 
 // Writes what was asked for. The positions that are drawn are those that the columns have.
 fn write(
-    rt: &(impl Print + Eprint),
-    drawn: bool,
-    window: Window,
+    rt: &HostRuntime,
+    window: Option<Window>,
     job: Job,
-    table: &[i64],
-    bytes: &[u8],
-    code: &[u8],
+    name: &str,
     ends: &[i64],
     values: &[i64],
-) {
-    let mut buffer = new_buffer();
-    if !drawn {
-        let end = put_column(rt, 0, &mut buffer, job, code, ends, values);
-        output::flush(rt, end, &buffer);
-        return;
+) -> io::Result<()> {
+    let mut out = Output::new(io::writer(rt));
+    match window {
+        None => write_column(&mut out, job, name, ends, values)?,
+        Some(window) => {
+            let shown = Window {
+                from: window.from,
+                to: window.to.min(sequence::length(ends)),
+            };
+            svg::draw(&mut out, shown, job, name, ends, values)?;
+        }
     }
-    let shown = Window {
-        from: window.from,
-        to: num::smaller(window.to, sequence::length(ends)),
-    };
-    let end = svg::draw(
-        rt,
-        0,
-        &mut buffer,
-        shown,
-        job,
-        table,
-        bytes,
-        code,
-        ends,
-        values,
-    );
-    output::flush(rt, end, &buffer);
+    out.flush()
 }
 
 // Combines the columns of a job that has been read. The code is an argument of the program.
-fn finish(
-    rt: &HostRuntime,
-    drawn: bool,
-    window: Window,
-    argument: usize,
-    job: Job,
-    table: &[i64],
-    bytes: &[u8],
-) {
-    let codes = b"add subtract multiply smaller larger first second equal less midpoint";
-    let code = code_argument(rt, argument, codes);
+fn finish(rt: &HostRuntime, window: Option<Window>, index: usize, job: Job) {
+    let mut word = [0u8; LONGEST];
+    let word = argument(rt, index, &mut word);
+    let code = code_of(word);
     let mut ends = new_runs();
     let mut values = new_runs();
-    let combined = combine(job, table, code, &mut ends, &mut values);
+    let combined = zip_many::zip_many(
+        job.offsets,
+        job.ends,
+        job.values,
+        job.fill,
+        code,
+        &mut ends,
+        &mut values,
+    );
     match combined {
-        Counted::Count(n) => {
-            let name = words::word(codes, code as usize);
+        Ok(n) => {
             let ends = sequence::part(&ends, 0, n);
             let values = sequence::part(&values, 0, n);
-            write(rt, drawn, window, job, table, bytes, name, ends, values);
+            if let Err(error) = write(rt, window, job, code_name(code), ends, values) {
+                let _ = eprintln!(rt; "combine: standard output: {error}");
+            }
         }
-        Counted::Refused(refused) => {
-            refusal::say_refusal(
-                rt,
-                &rt.stderr(),
-                refused,
-                argument,
-                table,
-                bytes,
-                job.columns,
-            );
+        Err(refusal) => {
+            let _ = refusal::write_refusal(&mut io::writer(&rt.stderr()), refusal, word, job);
         }
     }
 }
 
-fn run(rt: &HostRuntime, drawn: bool, window: Window, argument: usize) {
-    let mut bytes = [0u8; BYTES];
-    let mut table = new_table();
-    let job = job::inner::read(&mut rt.stdin(), &rt.stderr(), &mut bytes, &mut table);
-    if job.valid {
-        finish(rt, drawn, window, argument, job, &table, &bytes);
+fn run(rt: &HostRuntime, window: Option<Window>, index: usize) {
+    let mut offsets = [0usize; Rle::MAX_COLUMNS + 1];
+    let mut ends = new_runs();
+    let mut values = new_runs();
+    let mut lines = new_lines();
+    let mut names = [NO_NAME; Rle::MAX_COLUMNS];
+    let mut reader = Reader::new(&mut offsets, &mut ends, &mut values, &mut lines, &mut names);
+    if let Some(size) = reader.read(&mut rt.stdin(), rt) {
+        let job = Job::new(&offsets, &ends, &values, &lines, &names, size);
+        finish(rt, window, index, job);
     }
 }
 
 fn say_usage(rt: &HostRuntime) {
-    say(
-        &rt.stderr(),
-        b"usage: combine CODE, or combine svg CODE, or combine svg CODE FROM TO; the job is standard input\n",
-        0,
+    let _ = eprintln!(rt;
+        "usage: combine CODE, or combine svg CODE, or combine svg CODE FROM TO; the job is standard input"
     );
 }
 
 // Draws the positions from one up to another.
 fn run_window(rt: &HostRuntime, from: i64, to: i64) {
-    let starts = [from];
-    let ends = [to];
-    let asked = questions::ask_intervals(&starts, &ends);
-    match asked {
-        Asked::Yes => run(rt, true, Window { from, to }, 2),
-        Asked::No(_) => {
-            let form = b"combine: InvalidInterval (9): FROM @ and TO @ are not 0 <= FROM <= TO\n";
-            say_named(&rt.stderr(), form, b"", [from, to, 0, 0, 0, 0]);
+    match questions::ask_intervals(&[from], &[to]) {
+        Ok(()) => run(rt, Some(Window { from, to }), 2),
+        Err(_) => {
+            let _ = eprintln!(rt;
+                "combine: InvalidInterval (9): FROM {from} and TO {to} are not 0 <= FROM <= TO"
+            );
         }
     }
-}
-
-// The same, of the positions that arguments 3 and 4 name.
-fn run_arguments(rt: &HostRuntime) {
-    let from = value_argument(rt, 3);
-    let to = value_argument(rt, 4);
-    if !from.valid {
-        return say_usage(rt);
-    }
-    if to.valid {
-        return run_window(rt, from.number, to.number);
-    }
-    say_usage(rt)
 }
 
 fn main(rt: HostRuntime) {
@@ -269,17 +194,15 @@ fn main(rt: HostRuntime) {
         from: 0,
         to: i64::MAX,
     };
-    if is_argument(&rt, 1, b"svg") {
-        match arguments {
-            3 => run(&rt, true, whole, 2),
-            5 => run_arguments(&rt),
+    let mut word = [0u8; LONGEST];
+    let drawn = argument(&rt, 1, &mut word) == b"svg".as_slice();
+    match (drawn, arguments) {
+        (false, 2) => run(&rt, None, 1),
+        (true, 3) => run(&rt, Some(whole), 2),
+        (true, 5) => match (number_argument(&rt, 3), number_argument(&rt, 4)) {
+            (Some(from), Some(to)) => run_window(&rt, from, to),
             _ => say_usage(&rt),
-        }
-        return;
-    }
-    if arguments == 2 {
-        run(&rt, false, whole, 1);
-    } else {
-        say_usage(&rt);
+        },
+        _ => say_usage(&rt),
     }
 }

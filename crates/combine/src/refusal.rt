@@ -1,107 +1,70 @@
 // What the library refuses, said by document 01's name and number, with the line that it is about.
-use crate::put_argument;
-use column::error::{Error, InKey, Refusal};
+use column::error::{Error, Refusal};
 use column::sequence;
-use job::inner::output::{say, say_named};
-use job::inner::{ends_of, line_at, name_of};
-use std::rt::Env;
+use job::inner::Job;
+use std::io;
+use std::io::Write;
 
-// The column that a refusal is about; 0 where it says none.
-fn column_of(in_key: InKey) -> usize {
-    match in_key {
-        InKey::Position(column) => column,
-        InKey::Outside => 0,
-    }
-}
-
-fn say_code(rt: &impl Env, err: &(impl Print + Eprint), argument: usize) {
-    let mut word = [0u8; 64];
-    let n = put_argument(rt, argument, &mut word);
-    let form = b"combine: UnknownCode (1): $ is none of the codes 0 to 9 or their names\n";
-    say_named(err, form, &word[..n], [0, 0, 0, 0, 0, 0]);
-}
-
-fn say_ends(err: &(impl Print + Eprint), table: &[i64], bytes: &[u8], column: usize, index: usize) {
-    let form =
-        b"combine: line @: column $: InvalidEnds (4): the end @ is not above @, where its run starts\n";
-    let ends = ends_of(table, column);
-    let line = line_at(table, column, num::saturating_add(index, 1));
+fn write_ends<W: Write>(out: &mut W, job: Job, column: usize, index: usize) -> io::Result<()> {
+    let ends = job.ends_of(column);
+    let line = job.line_at(column, index.saturating_add(1));
+    let name = job.name_of(column);
     let end = sequence::entry_or(ends, index, 0);
     let start = sequence::end_before(ends, index);
-    say_named(
-        err,
-        form,
-        name_of(bytes, column),
-        [line, end, start, 0, 0, 0],
-    );
+    writeln!(
+        out,
+        "combine: line {line}: column {name}: InvalidEnds (4): the end {end} is not above {start}, where its run starts"
+    )
 }
 
 // The first column of a length.
-fn column_of_length(table: &[i64], columns: usize, length: i64) -> usize {
-    for column in 0..columns {
-        if sequence::length(ends_of(table, column)) == length {
+fn column_of_length(job: Job, length: i64) -> usize {
+    for column in 0..job.columns() {
+        if sequence::length(job.ends_of(column)) == length {
             return column;
         }
     }
-    columns
+    job.columns()
 }
 
-// Where a column ends: the line, and its length, in a form.
-fn say_length(
-    err: &(impl Print + Eprint),
-    form: &[u8],
-    table: &[i64],
-    bytes: &[u8],
-    columns: usize,
-    length: i64,
-) {
-    let column = column_of_length(table, columns, length);
-    let runs = ends_of(table, column).len();
-    let line = line_at(table, column, runs);
-    say_named(
-        err,
-        form,
-        name_of(bytes, column),
-        [line, length, 0, 0, 0, 0],
-    );
+// The line where a column ends.
+fn last_line(job: Job, column: usize) -> i64 {
+    job.line_at(column, job.ends_of(column).len())
 }
 
 // The shortest column and the longest.
-fn say_lengths(
-    err: &(impl Print + Eprint),
-    table: &[i64],
-    bytes: &[u8],
-    columns: usize,
-    least: i64,
-    greatest: i64,
-) {
-    let shorter =
-        b"combine: line @: column $: UnequalLength (10): it ends at @, there is no fill, and ";
-    let longer = b"at line @ column $ ends at @\n";
-    say_length(err, shorter, table, bytes, columns, least);
-    say_length(err, longer, table, bytes, columns, greatest);
+fn write_lengths<W: Write>(out: &mut W, job: Job, least: i64, greatest: i64) -> io::Result<()> {
+    let shortest = column_of_length(job, least);
+    let longest = column_of_length(job, greatest);
+    write!(
+        out,
+        "combine: line {}: column {}: UnequalLength (10): it ends at {least}, there is no fill, and ",
+        last_line(job, shortest),
+        job.name_of(shortest)
+    )?;
+    writeln!(
+        out,
+        "at line {} column {} ends at {greatest}",
+        last_line(job, longest),
+        job.name_of(longest)
+    )
 }
 
-// Says why the columns are not combined. The code is an argument of the program.
-pub fn say_refusal(
-    rt: &impl Env,
-    err: &(impl Print + Eprint),
+// Writes why the columns are not combined. The code is the word.
+pub fn write_refusal<W: Write>(
+    out: &mut W,
     refusal: Refusal,
-    argument: usize,
-    table: &[i64],
-    bytes: &[u8],
-    columns: usize,
-) {
-    let error = refusal.error;
-    let in_key = refusal.in_key;
-    match error {
-        Error::UnknownCode { code: _ } => say_code(rt, err, argument),
-        Error::InvalidEnds { index } => {
-            say_ends(err, table, bytes, column_of(in_key), index);
+    word: &[u8],
+    job: Job,
+) -> io::Result<()> {
+    match refusal.error {
+        Error::UnknownCode { code: _ } => {
+            out.write_all(b"combine: UnknownCode (1): ")?;
+            out.write_all(word)?;
+            out.write_all(b" is none of the codes 0 to 9 or their names\n")
         }
-        Error::UnequalLength { left, right } => {
-            say_lengths(err, table, bytes, columns, left, right);
-        }
-        _ => say(err, b"combine: refused\n", 0),
+        Error::InvalidEnds { index } => write_ends(out, job, refusal.in_key.unwrap_or(0), index),
+        Error::UnequalLength { left, right } => write_lengths(out, job, left, right),
+        _ => writeln!(out, "combine: refused"),
     }
 }

@@ -1,224 +1,160 @@
 // Columns and their combination as strips, one above the other, as SVG. A position has the same x in every strip. A run narrower than a
 // unit is left out; where columns break at several positions on one x, the line there says so, and a drawing of fewer positions shows
 // them apart.
-use crate::seams::{Seam, Window};
-use crate::{colours, seams};
+use crate::colours::Colours;
+use crate::seams::{Seam, Seams, Window};
 use column::sequence;
-use job::inner::output::{put_form, put_named};
-use job::inner::{Job, ends_of, name_of, values_of};
+use job::inner::Job;
+use std::io;
+use std::io::Write;
 
 // Where the first strip starts, and how far it is to the next one.
 const TOP: i64 = 92;
 
 const PITCH: i64 = 46;
 
-// Half of a width, which is not negative.
-fn half(width: i64) -> i64 {
-    num::as_signed(num::as_unsigned(width) / 2)
-}
-
 // How wide a number is in print, about.
 fn print_width(number: i64) -> i64 {
     let mut digits = itoa::Buffer::new();
-    let n = digits.format(num::unsigned_abs(number)).len();
-    num::wrapping_add(num::wrapping_mul(num::as_signed(n as u64), 8), 4)
+    let n = digits.format(number.unsigned_abs()).len();
+    (n as u64).cast_signed().wrapping_mul(8).wrapping_add(4)
 }
 
 // The y of the strip of a column.
 fn strip_y(column: usize) -> i64 {
-    num::wrapping_add(TOP, num::wrapping_mul(num::as_signed(column as u64), PITCH))
+    (column as u64)
+        .cast_signed()
+        .wrapping_mul(PITCH)
+        .wrapping_add(TOP)
 }
 
 // The y of the strip of the combination, a little below those of the columns.
 fn result_y(columns: usize) -> i64 {
-    num::wrapping_add(strip_y(columns), 14)
+    strip_y(columns).wrapping_add(14)
+}
+
+// What the strips are drawn from.
+#[derive(Clone, Copy)]
+struct Scene<'a> {
+    window: Window,
+    seams: &'a Seams,
+    colours: &'a Colours,
 }
 
 // The value of a run, if the run is wide enough for it.
-fn draw_value(
-    rt: &(impl Print + Eprint),
-    out: usize,
-    buffer: &mut [u8],
-    x: i64,
-    width: i64,
-    value: i64,
-) -> usize {
+fn draw_value<W: Write>(out: &mut W, x: i64, width: i64, value: i64) -> io::Result<()> {
     if width < print_width(value) {
-        return out;
+        return Ok(());
     }
-    let middle = num::wrapping_add(x, half(width));
-    let form = b"<text x=\"@\" y=\"21\" class=\"value\">@</text>\n";
-    put_form(rt, out, buffer, form, [middle, value, 0, 0, 0, 0])
+    let middle = x.wrapping_add(width / 2);
+    writeln!(
+        out,
+        "<text x=\"{middle}\" y=\"21\" class=\"value\">{value}</text>"
+    )
 }
 
 // Where a run starts after another one, with a dot if other columns break there too.
-fn draw_break(
-    rt: &(impl Print + Eprint),
-    out: usize,
-    buffer: &mut [u8],
-    x: i64,
-    seam: Seam,
-) -> usize {
+fn draw_break<W: Write>(out: &mut W, x: i64, seam: Seam) -> io::Result<()> {
+    write!(out, "<path d=\"M{x} -2v36\" class=\"break\"/>")?;
     if seam.is_of_several() {
-        let dotted =
-            b"<path d=\"M@ -2v36\" class=\"break\"/><circle cx=\"@\" cy=\"16\" r=\"5\" class=\"dot\"/>\n";
-        return put_form(rt, out, buffer, dotted, [x, x, 0, 0, 0, 0]);
+        write!(out, "<circle cx=\"{x}\" cy=\"16\" r=\"5\" class=\"dot\"/>")?;
     }
-    let form = b"<path d=\"M@ -2v36\" class=\"break\"/>\n";
-    put_form(rt, out, buffer, form, [x, 0, 0, 0, 0, 0])
+    writeln!(out)
 }
 
-// What of a run is drawn: where it starts and ends, and its value.
+// What of a run is drawn: where it starts and ends, and its value; it shows that, or it is filled with it.
 #[derive(Clone, Copy)]
 struct Run {
     start: i64,
     end: i64,
     value: i64,
+    filled: bool,
 }
 
-fn draw_run(
-    rt: &(impl Print + Eprint),
-    out: usize,
-    buffer: &mut [u8],
-    window: Window,
-    marks: &[i64],
-    known: &[i64],
-    form: &[u8],
-    name: &[u8],
-    run: Run,
-) -> usize {
-    let x = window.x_of(run.start);
-    let width = num::wrapping_sub(window.x_of(run.end), x);
-    if width == 0 {
-        return out;
+impl Run {
+    fn class(self) -> &'static str {
+        if self.filled { "fill " } else { "" }
     }
-    let value = run.value;
-    let numbers = [
-        x,
-        width,
-        colours::colour_of(known, value),
-        run.start,
-        run.end,
-        value,
-    ];
-    let drawn = put_named(rt, out, buffer, form, name, numbers);
-    let valued = draw_value(rt, drawn, buffer, x, width, value);
-    if run.start <= window.from {
-        return valued;
+
+    fn verb(self) -> &'static str {
+        if self.filled {
+            "is filled with"
+        } else {
+            "shows"
+        }
     }
-    draw_break(rt, valued, buffer, x, seams::seam_at(marks, x))
 }
 
-fn draw_runs(
-    rt: &(impl Print + Eprint),
-    out: usize,
-    buffer: &mut [u8],
-    window: Window,
-    marks: &[i64],
-    known: &[i64],
-    name: &[u8],
-    ends: &[i64],
-    values: &[i64],
-) -> usize {
-    let form =
-        b"<rect x=\"@\" width=\"@\" height=\"32\" class=\"c@\"><title>$: @ up to @ shows @</title></rect>\n";
-    let mut next = out;
-    for r in 0..ends.len() {
-        let run = Run {
-            start: sequence::end_before(ends, r),
-            end: sequence::entry_or(ends, r, 0),
-            value: sequence::entry_or(values, r, 0),
+impl<'a> Scene<'a> {
+    fn draw_run<W: Write>(&self, out: &mut W, name: &str, run: Run) -> io::Result<()> {
+        let x = self.window.x_of(run.start);
+        let width = self.window.x_of(run.end).wrapping_sub(x);
+        if width == 0 {
+            return Ok(());
+        }
+        let class = run.class();
+        let colour = self.colours.colour_of(run.value);
+        let verb = run.verb();
+        writeln!(
+            out,
+            "<rect x=\"{x}\" width=\"{width}\" height=\"32\" class=\"{class}c{colour}\"><title>{name}: {} up to {} {verb} {}</title></rect>",
+            run.start, run.end, run.value
+        )?;
+        draw_value(out, x, width, run.value)?;
+        if run.start <= self.window.from {
+            return Ok(());
+        }
+        draw_break(out, x, self.seams.at(x))
+    }
+
+    // A strip: its name, its runs and the fill after them. Each strip is a group, and ends the group before it.
+    fn draw_strip<W: Write>(
+        &self,
+        out: &mut W,
+        y: i64,
+        name: &str,
+        ends: &[i64],
+        values: &[i64],
+        fill: i64,
+    ) -> io::Result<()> {
+        writeln!(out, "</g>")?;
+        writeln!(out, "<g transform=\"translate(0,{y})\">")?;
+        writeln!(out, "<text x=\"-12\" y=\"21\" class=\"name\">{name}</text>")?;
+        let mut start = 0;
+        for (end, value) in ends.iter().zip(values) {
+            let run = Run {
+                start,
+                end: *end,
+                value: *value,
+                filled: false,
+            };
+            self.draw_run(out, name, run)?;
+            start = *end;
+        }
+        let rest = Run {
+            start,
+            end: self.window.to,
+            value: fill,
+            filled: true,
         };
-        next = draw_run(rt, next, buffer, window, marks, known, form, name, run);
+        self.draw_run(out, name, rest)
     }
-    next
-}
 
-// The fill, where a column has ended.
-fn draw_fill(
-    rt: &(impl Print + Eprint),
-    out: usize,
-    buffer: &mut [u8],
-    window: Window,
-    marks: &[i64],
-    known: &[i64],
-    name: &[u8],
-    length: i64,
-    fill: i64,
-) -> usize {
-    let form =
-        b"<rect x=\"@\" width=\"@\" height=\"32\" class=\"fill c@\"><title>$: @ up to @ is filled with @</title></rect>\n";
-    let run = Run {
-        start: length,
-        end: window.to,
-        value: fill,
-    };
-    draw_run(rt, out, buffer, window, marks, known, form, name, run)
-}
-
-// A strip: its name, its runs and the fill after them. Each strip is a group, and ends the group before it.
-fn draw_strip(
-    rt: &(impl Print + Eprint),
-    out: usize,
-    buffer: &mut [u8],
-    window: Window,
-    marks: &[i64],
-    known: &[i64],
-    y: i64,
-    name: &[u8],
-    ends: &[i64],
-    values: &[i64],
-    fill: i64,
-) -> usize {
-    let form =
-        b"</g>\n<g transform=\"translate(0,@)\">\n<text x=\"-12\" y=\"21\" class=\"name\">$</text>\n";
-    let named = put_named(rt, out, buffer, form, name, [y, 0, 0, 0, 0, 0]);
-    let runs = draw_runs(rt, named, buffer, window, marks, known, name, ends, values);
-    draw_fill(
-        rt,
-        runs,
-        buffer,
-        window,
-        marks,
-        known,
-        name,
-        sequence::length(ends),
-        fill,
-    )
-}
-
-fn draw_columns(
-    rt: &(impl Print + Eprint),
-    out: usize,
-    buffer: &mut [u8],
-    window: Window,
-    marks: &[i64],
-    known: &[i64],
-    table: &[i64],
-    bytes: &[u8],
-    columns: usize,
-    fill: i64,
-) -> usize {
-    let mut next = out;
-    for c in 0..columns {
-        let name = name_of(bytes, c);
-        let ends = ends_of(table, c);
-        let values = values_of(table, c);
-        next = draw_strip(
-            rt,
-            next,
-            buffer,
-            window,
-            marks,
-            known,
-            strip_y(c),
-            name,
-            ends,
-            values,
-            fill,
-        );
+    fn draw_columns<W: Write>(&self, out: &mut W, job: Job) -> io::Result<()> {
+        let fill = job.fill.unwrap_or(0);
+        for c in 0..job.columns() {
+            let name = job.name_of(c);
+            self.draw_strip(
+                out,
+                strip_y(c),
+                name,
+                job.ends_of(c),
+                job.values_of(c),
+                fill,
+            )?;
+        }
+        Ok(())
     }
-    next
 }
 
 // From which x on there is room to print above the strips, and below them.
@@ -235,14 +171,14 @@ fn seam_width(seam: Seam) -> i64 {
         return width;
     }
     if seam.is_near() {
-        return num::wrapping_add(num::wrapping_mul(width, 2), 32);
+        return width.wrapping_mul(2).wrapping_add(32);
     }
-    num::larger(width, 72)
+    width.max(72)
 }
 
 // Where the print of a seam starts.
 fn print_start(x: i64, seam: Seam) -> i64 {
-    num::wrapping_sub(x, half(seam_width(seam)))
+    x.wrapping_sub(seam_width(seam) / 2)
 }
 
 // The room after a print from `start` on.
@@ -250,152 +186,123 @@ fn room_behind(room: i64, start: i64, x: i64) -> i64 {
     if start < room {
         return room;
     }
-    num::wrapping_add(x, num::wrapping_sub(x, start))
+    x.wrapping_add(x.wrapping_sub(start))
 }
 
-fn room_after(room: Room, x: i64, seam: Seam) -> Room {
-    let above = room.above;
-    let below = room.below;
-    if seam.count == 0 {
-        return room;
-    }
-    let start = print_start(x, seam);
-    if seam.is_single() {
-        return Room {
-            above,
-            below: room_behind(below, start, x),
-        };
-    }
-    Room {
-        above: room_behind(above, start, x),
-        below,
+impl Room {
+    fn after(self, x: i64, seam: Seam) -> Room {
+        if seam.count == 0 {
+            return self;
+        }
+        let start = print_start(x, seam);
+        if seam.is_single() {
+            return Room {
+                above: self.above,
+                below: room_behind(self.below, start, x),
+            };
+        }
+        Room {
+            above: room_behind(self.above, start, x),
+            below: self.below,
+        }
     }
 }
 
 // A seam where one column breaks.
-fn draw_single(
-    rt: &(impl Print + Eprint),
-    out: usize,
-    buffer: &mut [u8],
+fn draw_single<W: Write>(
+    out: &mut W,
     x: i64,
     seam: Seam,
     bottom: i64,
     room: i64,
-) -> usize {
+) -> io::Result<()> {
     let at = seam.last;
-    let line = b"<path d=\"M@ 84V@\" class=\"single\"><title>@: one column breaks</title></path>\n";
-    let drawn = put_form(rt, out, buffer, line, [x, bottom, at, 0, 0, 0]);
+    writeln!(
+        out,
+        "<path d=\"M{x} 84V{bottom}\" class=\"single\"><title>{at}: one column breaks</title></path>"
+    )?;
     if print_start(x, seam) < room {
-        return drawn;
+        return Ok(());
     }
-    let print = b"<text x=\"@\" y=\"@\" class=\"at\">@</text>\n";
-    let y = num::wrapping_add(bottom, 14);
-    put_form(rt, drawn, buffer, print, [x, y, at, 0, 0, 0])
+    let y = bottom.wrapping_add(14);
+    writeln!(out, "<text x=\"{x}\" y=\"{y}\" class=\"at\">{at}</text>")
 }
 
 // A seam where several columns break.
-fn draw_several(
-    rt: &(impl Print + Eprint),
-    out: usize,
-    buffer: &mut [u8],
+fn draw_several<W: Write>(
+    out: &mut W,
     x: i64,
     seam: Seam,
     bottom: i64,
     room: i64,
-) -> usize {
+) -> io::Result<()> {
     let at = seam.last;
     let count = seam.count;
-    let line = b"<path d=\"M@ 84V@\" class=\"several\"><title>@: @ columns break</title></path>\n";
-    let drawn = put_form(rt, out, buffer, line, [x, bottom, at, count, 0, 0]);
-    if print_start(x, seam) < room {
-        return drawn;
-    }
-    let print =
-        b"<g class=\"at several\"><text x=\"@\" y=\"64\">@</text><text x=\"@\" y=\"79\">@ columns</text></g>\n";
-    put_form(rt, drawn, buffer, print, [x, at, x, count, 0, 0])
-}
-
-// Seams at several positions, on one x.
-fn draw_near(
-    rt: &(impl Print + Eprint),
-    out: usize,
-    buffer: &mut [u8],
-    x: i64,
-    seam: Seam,
-    bottom: i64,
-    room: i64,
-) -> usize {
-    let count = seam.count;
-    let line =
-        b"<path d=\"M@ 84V@\" class=\"near\"><title>@ breaks, from @ up to @</title></path>\n";
-    let drawn = put_form(
-        rt,
+    writeln!(
         out,
-        buffer,
-        line,
-        [x, bottom, count, seam.first, seam.last, 0],
-    );
+        "<path d=\"M{x} 84V{bottom}\" class=\"several\"><title>{at}: {count} columns break</title></path>"
+    )?;
     if print_start(x, seam) < room {
-        return drawn;
+        return Ok(());
     }
-    let print =
-        b"<g class=\"at near\"><text x=\"@\" y=\"64\">@ .. @</text><text x=\"@\" y=\"79\">@ breaks</text></g>\n";
-    put_form(
-        rt,
-        drawn,
-        buffer,
-        print,
-        [x, seam.first, seam.last, x, count, 0],
+    writeln!(
+        out,
+        "<g class=\"at several\"><text x=\"{x}\" y=\"64\">{at}</text><text x=\"{x}\" y=\"79\">{count} columns</text></g>"
     )
 }
 
-fn draw_seam(
-    rt: &(impl Print + Eprint),
-    out: usize,
-    buffer: &mut [u8],
-    x: i64,
-    seam: Seam,
-    bottom: i64,
-    room: Room,
-) -> usize {
-    if seam.count == 0 {
-        return out;
+// Seams at several positions, on one x.
+fn draw_near<W: Write>(out: &mut W, x: i64, seam: Seam, bottom: i64, room: i64) -> io::Result<()> {
+    let first = seam.first;
+    let last = seam.last;
+    let count = seam.count;
+    writeln!(
+        out,
+        "<path d=\"M{x} 84V{bottom}\" class=\"near\"><title>{count} breaks, from {first} up to {last}</title></path>"
+    )?;
+    if print_start(x, seam) < room {
+        return Ok(());
     }
-    if seam.is_near() {
-        return draw_near(rt, out, buffer, x, seam, bottom, room.above);
-    }
-    if seam.is_of_several() {
-        return draw_several(rt, out, buffer, x, seam, bottom, room.above);
-    }
-    draw_single(rt, out, buffer, x, seam, bottom, room.below)
+    writeln!(
+        out,
+        "<g class=\"at near\"><text x=\"{x}\" y=\"64\">{first} .. {last}</text><text x=\"{x}\" y=\"79\">{count} breaks</text></g>"
+    )
 }
 
-fn draw_seams(
-    rt: &(impl Print + Eprint),
-    out: usize,
-    buffer: &mut [u8],
-    marks: &[i64],
-    bottom: i64,
-) -> usize {
-    let mut next = out;
+fn draw_seam<W: Write>(out: &mut W, x: i64, seam: Seam, bottom: i64, room: Room) -> io::Result<()> {
+    if seam.count == 0 {
+        return Ok(());
+    }
+    if seam.is_near() {
+        return draw_near(out, x, seam, bottom, room.above);
+    }
+    if seam.is_of_several() {
+        return draw_several(out, x, seam, bottom, room.above);
+    }
+    draw_single(out, x, seam, bottom, room.below)
+}
+
+fn draw_seams<W: Write>(out: &mut W, seams: &Seams, bottom: i64) -> io::Result<()> {
     let mut room = Room {
         above: -100,
         below: -100,
     };
-    for i in 0..seams::UNITS {
-        let x = num::as_signed(i as u64);
-        let seam = seams::seam_at(marks, x);
-        next = draw_seam(rt, next, buffer, x, seam, bottom, room);
-        room = room_after(room, x, seam);
+    for (i, seam) in seams.all.iter().enumerate() {
+        let x = (i as u64).cast_signed();
+        draw_seam(out, x, *seam, bottom, room)?;
+        room = room.after(x, *seam);
     }
-    next
+    Ok(())
 }
 
 // The start of a drawing.
-fn draw_head(rt: &(impl Print + Eprint), out: usize, buffer: &mut [u8], height: i64) -> usize {
-    let form =
-        b"<svg xmlns=\"http://www.w3.org/2000/svg\" width=\"1320\" height=\"@\" viewBox=\"0 0 1320 @\">
-<style>
+fn draw_head<W: Write>(out: &mut W, height: i64) -> io::Result<()> {
+    writeln!(
+        out,
+        "<svg xmlns=\"http://www.w3.org/2000/svg\" width=\"1320\" height=\"{height}\" viewBox=\"0 0 1320 {height}\">"
+    )?;
+    out.write_all(
+        b"<style>
 text { font: 13px sans-serif; fill: #222 }
 text.head { font-size: 16px }
 text.name { font-size: 14px; text-anchor: end }
@@ -415,135 +322,81 @@ rect.fill { fill: #fff; stroke: #888; stroke-dasharray: 4 3 }
 </style>
 <rect width=\"100%\" height=\"100%\" fill=\"#fff\"/>
 <g transform=\"translate(250,0)\">
-";
-    put_form(rt, out, buffer, form, [height, height, 0, 0, 0, 0])
-}
-
-// What is drawn, and the start of the group of its seams.
-fn draw_heading(
-    rt: &(impl Print + Eprint),
-    out: usize,
-    buffer: &mut [u8],
-    window: Window,
-    code: &[u8],
-    columns: usize,
-) -> usize {
-    let form = b"<text y=\"32\" class=\"head\">$ of @ columns, positions @ up to @</text>\n<g>\n";
-    let count = num::as_signed(columns as u64);
-    let numbers = [count, window.from, window.to, 0, 0, 0];
-    put_named(rt, out, buffer, form, code, numbers)
-}
-
-// A drawing with no position, which says why it has none.
-fn draw_nothing(
-    rt: &(impl Print + Eprint),
-    out: usize,
-    buffer: &mut [u8],
-    window: Window,
-    code: &[u8],
-    columns: usize,
-    length: i64,
-) -> usize {
-    let begun = draw_head(rt, out, buffer, 60);
-    let count = num::as_signed(columns as u64);
-    if window.from < length {
-        let form =
-            b"<text y=\"32\" class=\"head\">$ of @ columns: no position from @ up to @</text>\n</g>\n</svg>\n";
-        let numbers = [count, window.from, window.to, 0, 0, 0];
-        return put_named(rt, begun, buffer, form, code, numbers);
-    }
-    let form =
-        b"<text y=\"32\" class=\"head\">$ of @ columns: no position from @ on, as the columns end at @</text>\n</g>\n</svg>\n";
-    put_named(
-        rt,
-        begun,
-        buffer,
-        form,
-        code,
-        [count, window.from, length, 0, 0, 0],
+",
     )
 }
 
+// A drawing with no position, which says why it has none.
+fn draw_nothing<W: Write>(
+    out: &mut W,
+    window: Window,
+    name: &str,
+    columns: usize,
+    length: i64,
+) -> io::Result<()> {
+    draw_head(out, 60)?;
+    write!(
+        out,
+        "<text y=\"32\" class=\"head\">{name} of {columns} columns: no position from {}",
+        window.from
+    )?;
+    if window.from < length {
+        writeln!(out, " up to {}</text>", window.to)?;
+    } else {
+        writeln!(out, " on, as the columns end at {length}</text>")?;
+    }
+    out.write_all(b"</g>\n</svg>\n")
+}
+
 // What the lines mean, and the end of the drawing.
-fn draw_legend(rt: &(impl Print + Eprint), out: usize, buffer: &mut [u8], bottom: i64) -> usize {
-    let form = b"</g>
-<g transform=\"translate(0,@)\">
-<path d=\"M0 0h36\" class=\"single\"/><text x=\"44\" y=\"4\">one column breaks</text>
+fn draw_legend<W: Write>(out: &mut W, bottom: i64) -> io::Result<()> {
+    writeln!(out, "</g>")?;
+    writeln!(
+        out,
+        "<g transform=\"translate(0,{})\">",
+        bottom.wrapping_add(46)
+    )?;
+    out.write_all(
+        b"<path d=\"M0 0h36\" class=\"single\"/><text x=\"44\" y=\"4\">one column breaks</text>
 <path d=\"M190 0h36\" class=\"several\"/><circle cx=\"208\" r=\"5\" class=\"dot\"/><text x=\"234\" y=\"4\">columns with a dot break on this position</text>
 <path d=\"M520 0h36\" class=\"near\"/><text x=\"564\" y=\"4\">breaks on several positions, too close to be drawn apart</text>
 </g>
 </g>
 </svg>
-";
-    put_form(
-        rt,
-        out,
-        buffer,
-        form,
-        [num::wrapping_add(bottom, 46), 0, 0, 0, 0, 0],
-    )
-}
-
-// The seams, and the strips over them.
-fn draw_strips(
-    rt: &(impl Print + Eprint),
-    out: usize,
-    buffer: &mut [u8],
-    window: Window,
-    job: Job,
-    table: &[i64],
-    bytes: &[u8],
-    code: &[u8],
-    ends: &[i64],
-    values: &[i64],
-    bottom: i64,
-) -> usize {
-    let columns = job.columns;
-    let fill = job.fill;
-    let mut marks = [0i64; seams::MARKS];
-    seams::mark_columns(&mut marks, window, table, columns);
-    let mut known = [i64::MAX; colours::ENTRIES];
-    colours::take_all(&mut known, job, table, values);
-    let seamed = draw_seams(rt, out, buffer, &marks, bottom);
-    let drawn = draw_columns(
-        rt, seamed, buffer, window, &marks, &known, table, bytes, columns, fill,
-    );
-    let y = result_y(columns);
-    draw_strip(
-        rt, drawn, buffer, window, &marks, &known, y, code, ends, values, 0,
+",
     )
 }
 
 // The columns of a job, and the combination by a code below them.
-pub fn draw(
-    rt: &(impl Print + Eprint),
-    out: usize,
-    buffer: &mut [u8],
+pub fn draw<W: Write>(
+    out: &mut W,
     window: Window,
     job: Job,
-    table: &[i64],
-    bytes: &[u8],
-    code: &[u8],
+    name: &str,
     ends: &[i64],
     values: &[i64],
-) -> usize {
-    let columns = job.columns;
+) -> io::Result<()> {
+    let columns = job.columns();
     if window.to <= window.from {
-        return draw_nothing(
-            rt,
-            out,
-            buffer,
-            window,
-            code,
-            columns,
-            sequence::length(ends),
-        );
+        return draw_nothing(out, window, name, columns, sequence::length(ends));
     }
-    let bottom = num::wrapping_add(result_y(columns), 40);
-    let begun = draw_head(rt, out, buffer, num::wrapping_add(bottom, 76));
-    let headed = draw_heading(rt, begun, buffer, window, code, columns);
-    let drawn = draw_strips(
-        rt, headed, buffer, window, job, table, bytes, code, ends, values, bottom,
-    );
-    draw_legend(rt, drawn, buffer, bottom)
+    let bottom = result_y(columns).wrapping_add(40);
+    let seams = Seams::new(window, job);
+    let colours = Colours::new(job, values);
+    let scene = Scene {
+        window,
+        seams: &seams,
+        colours: &colours,
+    };
+    draw_head(out, bottom.wrapping_add(76))?;
+    writeln!(
+        out,
+        "<text y=\"32\" class=\"head\">{name} of {columns} columns, positions {} up to {}</text>",
+        window.from, window.to
+    )?;
+    writeln!(out, "<g>")?;
+    draw_seams(out, &seams, bottom)?;
+    scene.draw_columns(out, job)?;
+    scene.draw_strip(out, result_y(columns), name, ends, values, 0)?;
+    draw_legend(out, bottom)
 }

@@ -9,7 +9,7 @@ pub const CALLS: usize = 44;
 
 // The call of a number, or 0 for none that is replayed.
 pub fn known(number: i64) -> usize {
-    let call = num::as_unsigned(number);
+    let call = number.cast_unsigned();
     match call {
         2..=43 => call as usize,
         _ => 0,

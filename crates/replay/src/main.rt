@@ -20,16 +20,15 @@ const NUMBERS: usize = 128;
 
 fn count(counts: &mut [u64; CALLS], call: usize) {
     if call < CALLS {
-        counts[call] = std::num::wrapping_add_u64(counts[call], 1);
+        counts[call] = counts[call].wrapping_add(1);
     }
 }
 
-// The call of a line's numbers; 0 if it is not known.
-fn call_of(row: &[i64], valid: bool) -> usize {
-    if valid {
-        calls::known(sequence::entry_or(row, 0, -1))
-    } else {
-        0
+// The numbers of a line; none where it cannot be read.
+fn numbers_of<'r>(line: &[u8], row: &'r mut [i64]) -> &'r [i64] {
+    match text::read(line, row) {
+        Ok(n) => &row[..n],
+        Err(_) => &row[..0],
     }
 }
 
@@ -42,17 +41,25 @@ fn replay_line(
     agreed: &mut [u64; CALLS],
 ) -> io::Result<()> {
     let mut numbers = [0i64; NUMBERS];
-    let read = text::read(line, &mut numbers);
-    let n = read.numbers;
-    let call = call_of(&numbers[..n], read.valid);
+    let row = numbers_of(line, &mut numbers);
+    let call = calls::known(sequence::entry_or(row, 0, -1));
     count(cases, call);
-    if case::agrees(&numbers[..n], call) {
+    if case::agrees(row, call) {
         count(agreed, call);
         Ok(())
     } else {
         out.write_all(line)?;
         out.write_all(b" does not agree\n")
     }
+}
+
+fn is_break(byte: &u8) -> bool {
+    *byte == b'\n'
+}
+
+// A line without its line break.
+fn before_break(line: &[u8]) -> &[u8] {
+    line.strip_suffix(b"\n").unwrap_or(line)
 }
 
 // Replays line after line, and answers how many there were.
@@ -62,13 +69,10 @@ fn replay(
     cases: &mut [u64; CALLS],
     agreed: &mut [u64; CALLS],
 ) -> io::Result<u64> {
-    let mut lines = 0;
-    let mut at = 0;
-    while at < input.len() {
-        let end = text::line_end(input, at);
-        replay_line(out, &input[at..end], cases, agreed)?;
-        lines = std::num::wrapping_add_u64(lines, 1);
-        at = end + 1;
+    let mut lines: u64 = 0;
+    for line in input.split_inclusive(is_break) {
+        replay_line(out, before_break(line), cases, agreed)?;
+        lines = lines.wrapping_add(1);
     }
     Ok(lines)
 }
@@ -97,18 +101,14 @@ pub fn report_all(
     cases: &[u64; CALLS],
     agreed: &[u64; CALLS],
 ) -> io::Result<()> {
-    let mut call = 2;
-    let mut at = 0;
-    while at < names.len() {
-        let end = text::line_end(names, at);
+    for (i, line) in names.split_inclusive(is_break).enumerate() {
+        let call = i.saturating_add(2);
         report(
             out,
-            &names[at..end],
+            before_break(line),
             count_of(cases, call),
             count_of(agreed, call),
         )?;
-        call = num::saturating_add(call, 1);
-        at = end + 1;
     }
     Ok(())
 }

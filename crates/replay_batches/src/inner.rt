@@ -5,10 +5,10 @@ use replay_case::inner;
 use replay_case::inner::{LONGEST, Outcome};
 
 fn batch_from_parts(lists: &[i64]) -> Outcome {
-    let keys = inner::keys(lists, 0);
-    let offsets = inner::places(lists, 1);
-    let keys_len = inner::keys_lent(lists, 0, keys);
-    let offsets_len = inner::places_lent(lists, 1, offsets);
+    let keys = inner::entries::<u32>(lists, 0);
+    let offsets = inner::entries::<usize>(lists, 1);
+    let keys_len = inner::lent(lists, 0, keys);
+    let offsets_len = inner::lent(lists, 1, offsets);
     let answer = runlength::rl_batch_from_parts(
         &keys[..keys_len],
         &offsets[..offsets_len],
@@ -19,8 +19,8 @@ fn batch_from_parts(lists: &[i64]) -> Outcome {
 }
 
 fn batch_position(lists: &[i64], numbers: &[i64]) -> Outcome {
-    let keys = inner::keys(lists, 0);
-    let keys_len = inner::keys_lent(lists, 0, keys);
+    let keys = inner::entries::<u32>(lists, 0);
+    let keys_len = inner::lent(lists, 0, keys);
     let answer = runlength::rl_batch_position(&keys[..keys_len], inner::key(numbers, 0));
     inner::answered(answer.refusal, answer.found, answer.index as u64, 0, 0)
 }
@@ -32,10 +32,10 @@ fn batch_get_lent(
     keys: &[u32],
     offsets: &[usize],
 ) -> Outcome {
-    let mut out_ends = inner::entries(lent, 0);
-    let mut out_values = inner::entries(lent, 1);
-    let out_ends_len = inner::entries_lent(lent, 0, out_ends);
-    let out_values_len = inner::entries_lent(lent, 1, out_values);
+    let mut out_ends = inner::entries::<i64>(lent, 0);
+    let mut out_values = inner::entries::<i64>(lent, 1);
+    let out_ends_len = inner::lent(lent, 0, out_ends);
+    let out_values_len = inner::lent(lent, 1, out_values);
     let answer = runlength::rl_batch_get(
         keys,
         offsets,
@@ -50,10 +50,10 @@ fn batch_get_lent(
 }
 
 fn batch_get(lists: &[i64], numbers: &[i64], lent: &[i64]) -> Outcome {
-    let keys = inner::keys(lists, 0);
-    let offsets = inner::places(lists, 1);
-    let keys_len = inner::keys_lent(lists, 0, keys);
-    let offsets_len = inner::places_lent(lists, 1, offsets);
+    let keys = inner::entries::<u32>(lists, 0);
+    let offsets = inner::entries::<usize>(lists, 1);
+    let keys_len = inner::lent(lists, 0, keys);
+    let offsets_len = inner::lent(lists, 1, offsets);
     batch_get_lent(
         lists,
         numbers,
@@ -70,12 +70,12 @@ fn batch_getitems_lent(
     offsets: &[usize],
     get_keys: &[u32],
 ) -> Outcome {
-    let mut out_offsets = inner::places(lent, 0);
-    let mut out_ends = inner::entries(lent, 1);
-    let mut out_values = inner::entries(lent, 2);
-    let out_offsets_len = inner::places_lent(lent, 0, out_offsets);
-    let out_ends_len = inner::entries_lent(lent, 1, out_ends);
-    let out_values_len = inner::entries_lent(lent, 2, out_values);
+    let mut out_offsets = inner::entries::<usize>(lent, 0);
+    let mut out_ends = inner::entries::<i64>(lent, 1);
+    let mut out_values = inner::entries::<i64>(lent, 2);
+    let out_offsets_len = inner::lent(lent, 0, out_offsets);
+    let out_ends_len = inner::lent(lent, 1, out_ends);
+    let out_values_len = inner::lent(lent, 2, out_values);
     let answer = runlength::rl_batch_getitems(
         keys,
         offsets,
@@ -91,19 +91,19 @@ fn batch_getitems_lent(
     let numbers = inner::numbers_of(answer.refusal, answer.keys as u64, answer.runs as u64, 0, 0);
     inner::outcome_of(
         numbers,
-        inner::from_places(out_offsets),
+        inner::numbers_in(out_offsets),
         out_ends,
         out_values,
     )
 }
 
 fn batch_getitems(lists: &[i64], lent: &[i64]) -> Outcome {
-    let keys = inner::keys(lists, 0);
-    let offsets = inner::places(lists, 1);
-    let get_keys = inner::keys(lists, 4);
-    let keys_len = inner::keys_lent(lists, 0, keys);
-    let offsets_len = inner::places_lent(lists, 1, offsets);
-    let get_keys_len = inner::keys_lent(lists, 4, get_keys);
+    let keys = inner::entries::<u32>(lists, 0);
+    let offsets = inner::entries::<usize>(lists, 1);
+    let get_keys = inner::entries::<u32>(lists, 4);
+    let keys_len = inner::lent(lists, 0, keys);
+    let offsets_len = inner::lent(lists, 1, offsets);
+    let get_keys_len = inner::lent(lists, 4, get_keys);
     batch_getitems_lent(
         lists,
         lent,
@@ -121,10 +121,10 @@ fn batch_slice_reduce_lent(
     offsets: &[usize],
     get_keys: &[u32],
 ) -> Outcome {
-    let mut out_kinds = inner::bytes(lent, 0);
-    let mut out_bits = inner::bits(lent, 1);
-    let out_kinds_len = inner::bytes_lent(lent, 0, out_kinds);
-    let out_bits_len = inner::bits_lent(lent, 1, out_bits);
+    let mut out_kinds = inner::entries::<u8>(lent, 0);
+    let mut out_bits = inner::entries::<u64>(lent, 1);
+    let out_kinds_len = inner::lent(lent, 0, out_kinds);
+    let out_bits_len = inner::lent(lent, 1, out_bits);
     let answer = runlength::rl_batch_slice_reduce(
         keys,
         offsets,
@@ -141,19 +141,19 @@ fn batch_slice_reduce_lent(
     let numbers = inner::numbers_of(answer.refusal, answer.count as u64, 0, 0, 0);
     inner::outcome_of(
         numbers,
-        inner::from_bytes(out_kinds),
-        inner::from_bits(out_bits),
+        inner::numbers_in(out_kinds),
+        inner::numbers_in(out_bits),
         [0i64; LONGEST],
     )
 }
 
 fn batch_slice_reduce(lists: &[i64], numbers: &[i64], lent: &[i64]) -> Outcome {
-    let keys = inner::keys(lists, 0);
-    let offsets = inner::places(lists, 1);
-    let get_keys = inner::keys(lists, 4);
-    let keys_len = inner::keys_lent(lists, 0, keys);
-    let offsets_len = inner::places_lent(lists, 1, offsets);
-    let get_keys_len = inner::keys_lent(lists, 4, get_keys);
+    let keys = inner::entries::<u32>(lists, 0);
+    let offsets = inner::entries::<usize>(lists, 1);
+    let get_keys = inner::entries::<u32>(lists, 4);
+    let keys_len = inner::lent(lists, 0, keys);
+    let offsets_len = inner::lent(lists, 1, offsets);
+    let get_keys_len = inner::lent(lists, 4, get_keys);
     batch_slice_reduce_lent(
         lists,
         numbers,
@@ -171,14 +171,14 @@ fn batch_shift_lent(
     keys: &[u32],
     offsets: &[usize],
 ) -> Outcome {
-    let mut out_keys = inner::keys(lent, 0);
-    let mut out_offsets = inner::places(lent, 1);
-    let mut out_ends = inner::entries(lent, 2);
-    let mut out_values = inner::entries(lent, 3);
-    let out_keys_len = inner::keys_lent(lent, 0, out_keys);
-    let out_offsets_len = inner::places_lent(lent, 1, out_offsets);
-    let out_ends_len = inner::entries_lent(lent, 2, out_ends);
-    let out_values_len = inner::entries_lent(lent, 3, out_values);
+    let mut out_keys = inner::entries::<u32>(lent, 0);
+    let mut out_offsets = inner::entries::<usize>(lent, 1);
+    let mut out_ends = inner::entries::<i64>(lent, 2);
+    let mut out_values = inner::entries::<i64>(lent, 3);
+    let out_keys_len = inner::lent(lent, 0, out_keys);
+    let out_offsets_len = inner::lent(lent, 1, out_offsets);
+    let out_ends_len = inner::lent(lent, 2, out_ends);
+    let out_values_len = inner::lent(lent, 3, out_values);
     let answer = runlength::rl_batch_shift(
         keys,
         offsets,
@@ -194,8 +194,8 @@ fn batch_shift_lent(
     let numbers = inner::numbers_of(answer.refusal, answer.keys as u64, answer.runs as u64, 0, 0);
     Outcome {
         numbers,
-        first: inner::from_keys(out_keys),
-        second: inner::from_places(out_offsets),
+        first: inner::numbers_in(out_keys),
+        second: inner::numbers_in(out_offsets),
         third: out_ends,
         fourth: out_values,
         fifth: [0i64; LONGEST],
@@ -204,10 +204,10 @@ fn batch_shift_lent(
 }
 
 fn batch_shift(lists: &[i64], numbers: &[i64], lent: &[i64]) -> Outcome {
-    let keys = inner::keys(lists, 0);
-    let offsets = inner::places(lists, 1);
-    let keys_len = inner::keys_lent(lists, 0, keys);
-    let offsets_len = inner::places_lent(lists, 1, offsets);
+    let keys = inner::entries::<u32>(lists, 0);
+    let offsets = inner::entries::<usize>(lists, 1);
+    let keys_len = inner::lent(lists, 0, keys);
+    let offsets_len = inner::lent(lists, 1, offsets);
     batch_shift_lent(
         lists,
         numbers,
@@ -218,14 +218,14 @@ fn batch_shift(lists: &[i64], numbers: &[i64], lent: &[i64]) -> Outcome {
 }
 
 fn batch_reversed_lent(lists: &[i64], lent: &[i64], keys: &[u32], offsets: &[usize]) -> Outcome {
-    let mut out_keys = inner::keys(lent, 0);
-    let mut out_offsets = inner::places(lent, 1);
-    let mut out_ends = inner::entries(lent, 2);
-    let mut out_values = inner::entries(lent, 3);
-    let out_keys_len = inner::keys_lent(lent, 0, out_keys);
-    let out_offsets_len = inner::places_lent(lent, 1, out_offsets);
-    let out_ends_len = inner::entries_lent(lent, 2, out_ends);
-    let out_values_len = inner::entries_lent(lent, 3, out_values);
+    let mut out_keys = inner::entries::<u32>(lent, 0);
+    let mut out_offsets = inner::entries::<usize>(lent, 1);
+    let mut out_ends = inner::entries::<i64>(lent, 2);
+    let mut out_values = inner::entries::<i64>(lent, 3);
+    let out_keys_len = inner::lent(lent, 0, out_keys);
+    let out_offsets_len = inner::lent(lent, 1, out_offsets);
+    let out_ends_len = inner::lent(lent, 2, out_ends);
+    let out_values_len = inner::lent(lent, 3, out_values);
     let answer = runlength::rl_batch_reversed(
         keys,
         offsets,
@@ -239,8 +239,8 @@ fn batch_reversed_lent(lists: &[i64], lent: &[i64], keys: &[u32], offsets: &[usi
     let numbers = inner::numbers_of(answer.refusal, answer.keys as u64, answer.runs as u64, 0, 0);
     Outcome {
         numbers,
-        first: inner::from_keys(out_keys),
-        second: inner::from_places(out_offsets),
+        first: inner::numbers_in(out_keys),
+        second: inner::numbers_in(out_offsets),
         third: out_ends,
         fourth: out_values,
         fifth: [0i64; LONGEST],
@@ -249,10 +249,10 @@ fn batch_reversed_lent(lists: &[i64], lent: &[i64], keys: &[u32], offsets: &[usi
 }
 
 fn batch_reversed(lists: &[i64], lent: &[i64]) -> Outcome {
-    let keys = inner::keys(lists, 0);
-    let offsets = inner::places(lists, 1);
-    let keys_len = inner::keys_lent(lists, 0, keys);
-    let offsets_len = inner::places_lent(lists, 1, offsets);
+    let keys = inner::entries::<u32>(lists, 0);
+    let offsets = inner::entries::<usize>(lists, 1);
+    let keys_len = inner::lent(lists, 0, keys);
+    let offsets_len = inner::lent(lists, 1, offsets);
     batch_reversed_lent(lists, lent, &keys[..keys_len], &offsets[..offsets_len])
 }
 
@@ -263,14 +263,14 @@ fn batch_map_rles_slice_lent(
     keys: &[u32],
     offsets: &[usize],
 ) -> Outcome {
-    let mut out_keys = inner::keys(lent, 0);
-    let mut out_offsets = inner::places(lent, 1);
-    let mut out_ends = inner::entries(lent, 2);
-    let mut out_values = inner::entries(lent, 3);
-    let out_keys_len = inner::keys_lent(lent, 0, out_keys);
-    let out_offsets_len = inner::places_lent(lent, 1, out_offsets);
-    let out_ends_len = inner::entries_lent(lent, 2, out_ends);
-    let out_values_len = inner::entries_lent(lent, 3, out_values);
+    let mut out_keys = inner::entries::<u32>(lent, 0);
+    let mut out_offsets = inner::entries::<usize>(lent, 1);
+    let mut out_ends = inner::entries::<i64>(lent, 2);
+    let mut out_values = inner::entries::<i64>(lent, 3);
+    let out_keys_len = inner::lent(lent, 0, out_keys);
+    let out_offsets_len = inner::lent(lent, 1, out_offsets);
+    let out_ends_len = inner::lent(lent, 2, out_ends);
+    let out_values_len = inner::lent(lent, 3, out_values);
     let answer = runlength::rl_batch_map_rles_slice(
         keys,
         offsets,
@@ -286,8 +286,8 @@ fn batch_map_rles_slice_lent(
     let numbers = inner::numbers_of(answer.refusal, answer.keys as u64, answer.runs as u64, 0, 0);
     Outcome {
         numbers,
-        first: inner::from_keys(out_keys),
-        second: inner::from_places(out_offsets),
+        first: inner::numbers_in(out_keys),
+        second: inner::numbers_in(out_offsets),
         third: out_ends,
         fourth: out_values,
         fifth: [0i64; LONGEST],
@@ -296,10 +296,10 @@ fn batch_map_rles_slice_lent(
 }
 
 fn batch_map_rles_slice(lists: &[i64], numbers: &[i64], lent: &[i64]) -> Outcome {
-    let keys = inner::keys(lists, 0);
-    let offsets = inner::places(lists, 1);
-    let keys_len = inner::keys_lent(lists, 0, keys);
-    let offsets_len = inner::places_lent(lists, 1, offsets);
+    let keys = inner::entries::<u32>(lists, 0);
+    let offsets = inner::entries::<usize>(lists, 1);
+    let keys_len = inner::lent(lists, 0, keys);
+    let offsets_len = inner::lent(lists, 1, offsets);
     batch_map_rles_slice_lent(
         lists,
         numbers,
@@ -317,18 +317,18 @@ fn batch_collapse_lent(
     offsets: &[usize],
     new_keys: &[u32],
 ) -> Outcome {
-    let mut out_keys = inner::keys(lent, 0);
-    let mut out_offsets = inner::places(lent, 1);
-    let mut out_ends = inner::entries(lent, 2);
-    let mut out_values = inner::entries(lent, 3);
-    let mut scratch_ends = inner::entries(lent, 4);
-    let mut scratch_values = inner::entries(lent, 5);
-    let out_keys_len = inner::keys_lent(lent, 0, out_keys);
-    let out_offsets_len = inner::places_lent(lent, 1, out_offsets);
-    let out_ends_len = inner::entries_lent(lent, 2, out_ends);
-    let out_values_len = inner::entries_lent(lent, 3, out_values);
-    let scratch_ends_len = inner::entries_lent(lent, 4, scratch_ends);
-    let scratch_values_len = inner::entries_lent(lent, 5, scratch_values);
+    let mut out_keys = inner::entries::<u32>(lent, 0);
+    let mut out_offsets = inner::entries::<usize>(lent, 1);
+    let mut out_ends = inner::entries::<i64>(lent, 2);
+    let mut out_values = inner::entries::<i64>(lent, 3);
+    let mut scratch_ends = inner::entries::<i64>(lent, 4);
+    let mut scratch_values = inner::entries::<i64>(lent, 5);
+    let out_keys_len = inner::lent(lent, 0, out_keys);
+    let out_offsets_len = inner::lent(lent, 1, out_offsets);
+    let out_ends_len = inner::lent(lent, 2, out_ends);
+    let out_values_len = inner::lent(lent, 3, out_values);
+    let scratch_ends_len = inner::lent(lent, 4, scratch_ends);
+    let scratch_values_len = inner::lent(lent, 5, scratch_values);
     let answer = runlength::rl_batch_collapse(
         keys,
         offsets,
@@ -347,8 +347,8 @@ fn batch_collapse_lent(
     let numbers = inner::numbers_of(answer.refusal, answer.keys as u64, answer.runs as u64, 0, 0);
     Outcome {
         numbers,
-        first: inner::from_keys(out_keys),
-        second: inner::from_places(out_offsets),
+        first: inner::numbers_in(out_keys),
+        second: inner::numbers_in(out_offsets),
         third: out_ends,
         fourth: out_values,
         fifth: scratch_ends,
@@ -357,12 +357,12 @@ fn batch_collapse_lent(
 }
 
 fn batch_collapse(lists: &[i64], numbers: &[i64], lent: &[i64]) -> Outcome {
-    let keys = inner::keys(lists, 0);
-    let offsets = inner::places(lists, 1);
-    let new_keys = inner::keys(lists, 4);
-    let keys_len = inner::keys_lent(lists, 0, keys);
-    let offsets_len = inner::places_lent(lists, 1, offsets);
-    let new_keys_len = inner::keys_lent(lists, 4, new_keys);
+    let keys = inner::entries::<u32>(lists, 0);
+    let offsets = inner::entries::<usize>(lists, 1);
+    let new_keys = inner::entries::<u32>(lists, 4);
+    let keys_len = inner::lent(lists, 0, keys);
+    let offsets_len = inner::lent(lists, 1, offsets);
+    let new_keys_len = inner::lent(lists, 4, new_keys);
     batch_collapse_lent(
         lists,
         numbers,
@@ -381,14 +381,14 @@ fn batch_concat_lent(
     b_keys: &[u32],
     b_offsets: &[usize],
 ) -> Outcome {
-    let mut out_keys = inner::keys(lent, 0);
-    let mut out_offsets = inner::places(lent, 1);
-    let mut out_ends = inner::entries(lent, 2);
-    let mut out_values = inner::entries(lent, 3);
-    let out_keys_len = inner::keys_lent(lent, 0, out_keys);
-    let out_offsets_len = inner::places_lent(lent, 1, out_offsets);
-    let out_ends_len = inner::entries_lent(lent, 2, out_ends);
-    let out_values_len = inner::entries_lent(lent, 3, out_values);
+    let mut out_keys = inner::entries::<u32>(lent, 0);
+    let mut out_offsets = inner::entries::<usize>(lent, 1);
+    let mut out_ends = inner::entries::<i64>(lent, 2);
+    let mut out_values = inner::entries::<i64>(lent, 3);
+    let out_keys_len = inner::lent(lent, 0, out_keys);
+    let out_offsets_len = inner::lent(lent, 1, out_offsets);
+    let out_ends_len = inner::lent(lent, 2, out_ends);
+    let out_values_len = inner::lent(lent, 3, out_values);
     let answer = runlength::rl_batch_concat(
         a_keys,
         a_offsets,
@@ -406,8 +406,8 @@ fn batch_concat_lent(
     let numbers = inner::numbers_of(answer.refusal, answer.keys as u64, answer.runs as u64, 0, 0);
     Outcome {
         numbers,
-        first: inner::from_keys(out_keys),
-        second: inner::from_places(out_offsets),
+        first: inner::numbers_in(out_keys),
+        second: inner::numbers_in(out_offsets),
         third: out_ends,
         fourth: out_values,
         fifth: [0i64; LONGEST],
@@ -416,14 +416,14 @@ fn batch_concat_lent(
 }
 
 fn batch_concat(lists: &[i64], lent: &[i64]) -> Outcome {
-    let a_keys = inner::keys(lists, 0);
-    let a_offsets = inner::places(lists, 1);
-    let b_keys = inner::keys(lists, 4);
-    let b_offsets = inner::places(lists, 5);
-    let a_keys_len = inner::keys_lent(lists, 0, a_keys);
-    let a_offsets_len = inner::places_lent(lists, 1, a_offsets);
-    let b_keys_len = inner::keys_lent(lists, 4, b_keys);
-    let b_offsets_len = inner::places_lent(lists, 5, b_offsets);
+    let a_keys = inner::entries::<u32>(lists, 0);
+    let a_offsets = inner::entries::<usize>(lists, 1);
+    let b_keys = inner::entries::<u32>(lists, 4);
+    let b_offsets = inner::entries::<usize>(lists, 5);
+    let a_keys_len = inner::lent(lists, 0, a_keys);
+    let a_offsets_len = inner::lent(lists, 1, a_offsets);
+    let b_keys_len = inner::lent(lists, 4, b_keys);
+    let b_offsets_len = inner::lent(lists, 5, b_offsets);
     batch_concat_lent(
         lists,
         lent,
@@ -443,14 +443,14 @@ fn batch_zip_with_lent(
     b_keys: &[u32],
     b_offsets: &[usize],
 ) -> Outcome {
-    let mut out_keys = inner::keys(lent, 0);
-    let mut out_offsets = inner::places(lent, 1);
-    let mut out_ends = inner::entries(lent, 2);
-    let mut out_values = inner::entries(lent, 3);
-    let out_keys_len = inner::keys_lent(lent, 0, out_keys);
-    let out_offsets_len = inner::places_lent(lent, 1, out_offsets);
-    let out_ends_len = inner::entries_lent(lent, 2, out_ends);
-    let out_values_len = inner::entries_lent(lent, 3, out_values);
+    let mut out_keys = inner::entries::<u32>(lent, 0);
+    let mut out_offsets = inner::entries::<usize>(lent, 1);
+    let mut out_ends = inner::entries::<i64>(lent, 2);
+    let mut out_values = inner::entries::<i64>(lent, 3);
+    let out_keys_len = inner::lent(lent, 0, out_keys);
+    let out_offsets_len = inner::lent(lent, 1, out_offsets);
+    let out_ends_len = inner::lent(lent, 2, out_ends);
+    let out_values_len = inner::lent(lent, 3, out_values);
     let answer = runlength::rl_batch_zip_with(
         a_keys,
         a_offsets,
@@ -472,8 +472,8 @@ fn batch_zip_with_lent(
     let numbers = inner::numbers_of(answer.refusal, answer.keys as u64, answer.runs as u64, 0, 0);
     Outcome {
         numbers,
-        first: inner::from_keys(out_keys),
-        second: inner::from_places(out_offsets),
+        first: inner::numbers_in(out_keys),
+        second: inner::numbers_in(out_offsets),
         third: out_ends,
         fourth: out_values,
         fifth: [0i64; LONGEST],
@@ -482,14 +482,14 @@ fn batch_zip_with_lent(
 }
 
 fn batch_zip_with(lists: &[i64], numbers: &[i64], lent: &[i64]) -> Outcome {
-    let a_keys = inner::keys(lists, 0);
-    let a_offsets = inner::places(lists, 1);
-    let b_keys = inner::keys(lists, 4);
-    let b_offsets = inner::places(lists, 5);
-    let a_keys_len = inner::keys_lent(lists, 0, a_keys);
-    let a_offsets_len = inner::places_lent(lists, 1, a_offsets);
-    let b_keys_len = inner::keys_lent(lists, 4, b_keys);
-    let b_offsets_len = inner::places_lent(lists, 5, b_offsets);
+    let a_keys = inner::entries::<u32>(lists, 0);
+    let a_offsets = inner::entries::<usize>(lists, 1);
+    let b_keys = inner::entries::<u32>(lists, 4);
+    let b_offsets = inner::entries::<usize>(lists, 5);
+    let a_keys_len = inner::lent(lists, 0, a_keys);
+    let a_offsets_len = inner::lent(lists, 1, a_offsets);
+    let b_keys_len = inner::lent(lists, 4, b_keys);
+    let b_offsets_len = inner::lent(lists, 5, b_offsets);
     batch_zip_with_lent(
         lists,
         numbers,

@@ -14,7 +14,7 @@ pub const LONGEST: usize = 16;
 
 // The bits of a number; past the last all ones, which is no length of a list.
 fn bits_at(row: &[i64], at: usize) -> u64 {
-    num::as_unsigned(sequence::entry_or(row, at, -1))
+    sequence::entry_or(row, at, -1).cast_unsigned()
 }
 
 // The place after a list. It is past the row if the list runs past it or is too long.
@@ -23,7 +23,7 @@ fn list_end(row: &[i64], at: usize) -> usize {
     if n > LONGEST as u64 {
         usize::MAX
     } else {
-        num::saturating_add(at, n as usize + 1)
+        at.saturating_add(n as usize + 1)
     }
 }
 
@@ -39,40 +39,24 @@ pub fn behind(row: &[i64], at: usize, lists: usize) -> usize {
 // The list at an index, or none.
 pub fn list(lists: &[i64], index: usize) -> &[i64] {
     let start = behind(lists, 0, index);
-    sequence::part(lists, num::saturating_add(start, 1), list_end(lists, start))
+    sequence::part(lists, start.saturating_add(1), list_end(lists, start))
 }
 
 // How many entries a list has.
 fn count(lists: &[i64], index: usize) -> usize
     ensures { result ≤ 16 }
 {
-    num::smaller_count(list(lists, index).len(), LONGEST)
-}
-
-// The entries of a list, at the front of a buffer.
-pub fn entries(lists: &[i64], index: usize) -> [i64; LONGEST] {
-    let list = list(lists, index);
-    let mut entries = [0i64; LONGEST];
-    for i in 0..LONGEST {
-        entries[i] = sequence::entry_or(list, i, 0);
-    }
-    entries
+    list(lists, index).len().min(LONGEST)
 }
 
 // A number as a code or a byte; 255 for any that is none.
 pub fn code(numbers: &[i64], at: usize) -> u8 {
-    let n = bits_at(numbers, at);
-    if n < 256 { n as u8 } else { 255 }
+    u8::try_from(bits_at(numbers, at)).unwrap_or(u8::MAX)
 }
 
 // A number as a key; the greatest key for any that is none.
 pub fn key(numbers: &[i64], at: usize) -> u32 {
-    let n = bits_at(numbers, at);
-    if n <= u32::MAX as u64 {
-        n as u32
-    } else {
-        u32::MAX
-    }
+    u32::try_from(bits_at(numbers, at)).unwrap_or(u32::MAX)
 }
 
 // A number as a size or a place, by its bits.
@@ -80,121 +64,90 @@ pub fn size(numbers: &[i64], at: usize) -> usize {
     bits_at(numbers, at) as usize
 }
 
-// As `entries`, for offsets or indexes.
-pub fn places(lists: &[i64], index: usize) -> [usize; LONGEST] {
-    let list = list(lists, index);
-    let mut places = [0usize; LONGEST];
-    for i in 0..LONGEST {
-        places[i] = size(list, i);
-    }
-    places
+// A number of a type that a call takes in lists.
+pub trait Entry: Copy {
+    // The number that a list has at an index; it has one for any index.
+    fn at(list: &[i64], index: usize) -> Self;
+
+    fn number(self) -> i64;
 }
 
-// As `entries`, for keys.
-pub fn keys(lists: &[i64], index: usize) -> [u32; LONGEST] {
-    let list = list(lists, index);
-    let mut keys = [0u32; LONGEST];
-    for i in 0..LONGEST {
-        keys[i] = key(list, i);
+impl Entry for i64 {
+    fn at(list: &[i64], index: usize) -> i64 {
+        sequence::entry_or(list, index, 0)
     }
-    keys
+
+    fn number(self) -> i64 {
+        self
+    }
 }
 
-// As `entries`, for bytes.
-pub fn bytes(lists: &[i64], index: usize) -> [u8; LONGEST] {
-    let list = list(lists, index);
-    let mut bytes = [0u8; LONGEST];
-    for i in 0..LONGEST {
-        bytes[i] = code(list, i);
+// An offset or an index.
+impl Entry for usize {
+    fn at(list: &[i64], index: usize) -> usize {
+        size(list, index)
     }
-    bytes
+
+    fn number(self) -> i64 {
+        (self as u64).cast_signed()
+    }
 }
 
-// As `entries`, for bits.
-pub fn bits(lists: &[i64], index: usize) -> [u64; LONGEST] {
-    let list = list(lists, index);
-    let mut bits = [0u64; LONGEST];
-    for i in 0..LONGEST {
-        bits[i] = bits_at(list, i);
+// A key.
+impl Entry for u32 {
+    fn at(list: &[i64], index: usize) -> u32 {
+        key(list, index)
     }
-    bits
+
+    fn number(self) -> i64 {
+        self as i64
+    }
+}
+
+// A byte.
+impl Entry for u8 {
+    fn at(list: &[i64], index: usize) -> u8 {
+        code(list, index)
+    }
+
+    fn number(self) -> i64 {
+        self as i64
+    }
+}
+
+// Bits.
+impl Entry for u64 {
+    fn at(list: &[i64], index: usize) -> u64 {
+        bits_at(list, index)
+    }
+
+    fn number(self) -> i64 {
+        self.cast_signed()
+    }
+}
+
+// The entries of a list, at the front of a buffer.
+pub fn entries<T: Entry>(lists: &[i64], index: usize) -> [T; LONGEST] {
+    let list = list(lists, index);
+    let mut entries = [T::at(list, 0); LONGEST];
+    for (i, entry) in entries.iter_mut().enumerate() {
+        *entry = T::at(list, i);
+    }
+    entries
 }
 
 // How much of the buffer is lent: as many entries as the list has.
-pub fn entries_lent(lists: &[i64], index: usize, entries: [i64; LONGEST]) -> usize
+pub fn lent<T: Copy>(lists: &[i64], index: usize, entries: [T; LONGEST]) -> usize
     ensures { Counts result entries }
 {
     count(lists, index)
 }
 
-// As `entries_lent`.
-pub fn places_lent(lists: &[i64], index: usize, places: [usize; LONGEST]) -> usize
-    ensures { Counts result places }
-{
-    count(lists, index)
-}
-
-// As `entries_lent`.
-pub fn keys_lent(lists: &[i64], index: usize, keys: [u32; LONGEST]) -> usize
-    ensures { Counts result keys }
-{
-    count(lists, index)
-}
-
-// As `entries_lent`.
-pub fn bytes_lent(lists: &[i64], index: usize, bytes: [u8; LONGEST]) -> usize
-    ensures { Counts result bytes }
-{
-    count(lists, index)
-}
-
-// As `entries_lent`.
-pub fn bits_lent(lists: &[i64], index: usize, bits: [u64; LONGEST]) -> usize
-    ensures { Counts result bits }
-{
-    count(lists, index)
-}
-
-// Offsets or indexes as numbers.
-pub fn from_places(places: [usize; LONGEST]) -> [i64; LONGEST] {
+// A buffer as numbers.
+pub fn numbers_in<T: Entry>(entries: [T; LONGEST]) -> [i64; LONGEST] {
     let mut numbers = [0i64; LONGEST];
     for i in 0..LONGEST {
-        numbers[i] = num::as_signed(places[i] as u64);
-    }
-    numbers
-}
-
-fn wide(key: u32) -> i64 {
-    key as i64
-}
-
-// Keys as numbers.
-pub fn from_keys(keys: [u32; LONGEST]) -> [i64; LONGEST] {
-    let mut numbers = [0i64; LONGEST];
-    for i in 0..LONGEST {
-        numbers[i] = wide(keys[i]);
-    }
-    numbers
-}
-
-fn number(byte: u8) -> i64 {
-    byte as i64
-}
-
-// Bytes as numbers.
-pub fn from_bytes(bytes: [u8; LONGEST]) -> [i64; LONGEST] {
-    let mut numbers = [0i64; LONGEST];
-    for i in 0..LONGEST {
-        numbers[i] = number(bytes[i]);
-    }
-    numbers
-}
-
-// Bits as numbers.
-pub fn from_bits(bits: [u64; LONGEST]) -> [i64; LONGEST] {
-    let mut numbers = [0i64; LONGEST];
-    for i in 0..LONGEST {
-        numbers[i] = num::as_signed(bits[i]);
+        numbers[i] = entries[i].number();
     }
     numbers
 }
@@ -202,7 +155,7 @@ pub fn from_bits(bits: [u64; LONGEST]) -> [i64; LONGEST] {
 pub fn fill_at(numbers: &[i64], at: usize) -> RlFill {
     RlFill {
         given: bits_at(numbers, at),
-        value: sequence::entry_or(numbers, num::saturating_add(at, 1), 0),
+        value: sequence::entry_or(numbers, at.saturating_add(1), 0),
     }
 }
 
@@ -238,16 +191,16 @@ pub fn numbers_of(
     fourth: u64,
 ) -> [i64; 10] {
     [
-        num::as_signed(refusal.number),
-        num::as_signed(refusal.first),
-        num::as_signed(refusal.second),
-        num::as_signed(refusal.third),
-        num::as_signed(refusal.in_key),
-        num::as_signed(refusal.position),
-        num::as_signed(first),
-        num::as_signed(second),
-        num::as_signed(third),
-        num::as_signed(fourth),
+        refusal.number.cast_signed(),
+        refusal.first.cast_signed(),
+        refusal.second.cast_signed(),
+        refusal.third.cast_signed(),
+        refusal.in_key.cast_signed(),
+        refusal.position.cast_signed(),
+        first.cast_signed(),
+        second.cast_signed(),
+        third.cast_signed(),
+        fourth.cast_signed(),
     ]
 }
 

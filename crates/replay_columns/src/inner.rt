@@ -5,10 +5,10 @@ use replay_case::inner;
 use replay_case::inner::{LONGEST, Outcome};
 
 fn from_runs(lists: &[i64], lent: &[i64]) -> Outcome {
-    let mut out_ends = inner::entries(lent, 0);
-    let mut out_values = inner::entries(lent, 1);
-    let out_ends_len = inner::entries_lent(lent, 0, out_ends);
-    let out_values_len = inner::entries_lent(lent, 1, out_values);
+    let mut out_ends = inner::entries::<i64>(lent, 0);
+    let mut out_values = inner::entries::<i64>(lent, 1);
+    let out_ends_len = inner::lent(lent, 0, out_ends);
+    let out_values_len = inner::lent(lent, 1, out_values);
     let answer = runlength::rl_from_runs(
         inner::list(lists, 0),
         inner::list(lists, 1),
@@ -25,10 +25,10 @@ fn from_ends(lists: &[i64]) -> Outcome {
 }
 
 fn repeat(numbers: &[i64], lent: &[i64]) -> Outcome {
-    let mut out_ends = inner::entries(lent, 0);
-    let mut out_values = inner::entries(lent, 1);
-    let out_ends_len = inner::entries_lent(lent, 0, out_ends);
-    let out_values_len = inner::entries_lent(lent, 1, out_values);
+    let mut out_ends = inner::entries::<i64>(lent, 0);
+    let mut out_values = inner::entries::<i64>(lent, 1);
+    let out_ends_len = inner::lent(lent, 0, out_ends);
+    let out_values_len = inner::lent(lent, 1, out_values);
     let answer = runlength::rl_repeat(
         sequence::entry_or(numbers, 0, 0),
         sequence::entry_or(numbers, 1, 0),
@@ -40,10 +40,10 @@ fn repeat(numbers: &[i64], lent: &[i64]) -> Outcome {
 }
 
 fn push_run(numbers: &[i64], lent: &[i64]) -> Outcome {
-    let mut ends = inner::entries(lent, 0);
-    let mut values = inner::entries(lent, 1);
-    let ends_len = inner::entries_lent(lent, 0, ends);
-    let values_len = inner::entries_lent(lent, 1, values);
+    let mut ends = inner::entries::<i64>(lent, 0);
+    let mut values = inner::entries::<i64>(lent, 1);
+    let ends_len = inner::lent(lent, 0, ends);
+    let values_len = inner::lent(lent, 1, values);
     let answer = runlength::rl_push_run(
         &mut ends[..ends_len],
         &mut values[..values_len],
@@ -56,10 +56,10 @@ fn push_run(numbers: &[i64], lent: &[i64]) -> Outcome {
 }
 
 fn extend_to(numbers: &[i64], lent: &[i64]) -> Outcome {
-    let mut ends = inner::entries(lent, 0);
-    let mut values = inner::entries(lent, 1);
-    let ends_len = inner::entries_lent(lent, 0, ends);
-    let values_len = inner::entries_lent(lent, 1, values);
+    let mut ends = inner::entries::<i64>(lent, 0);
+    let mut values = inner::entries::<i64>(lent, 1);
+    let ends_len = inner::lent(lent, 0, ends);
+    let values_len = inner::lent(lent, 1, values);
     let answer = runlength::rl_extend_to(
         &mut ends[..ends_len],
         &mut values[..values_len],
@@ -72,10 +72,10 @@ fn extend_to(numbers: &[i64], lent: &[i64]) -> Outcome {
 }
 
 fn from_dense(lists: &[i64], lent: &[i64]) -> Outcome {
-    let mut out_ends = inner::entries(lent, 0);
-    let mut out_values = inner::entries(lent, 1);
-    let out_ends_len = inner::entries_lent(lent, 0, out_ends);
-    let out_values_len = inner::entries_lent(lent, 1, out_values);
+    let mut out_ends = inner::entries::<i64>(lent, 0);
+    let mut out_values = inner::entries::<i64>(lent, 1);
+    let out_ends_len = inner::lent(lent, 0, out_ends);
+    let out_values_len = inner::lent(lent, 1, out_values);
     let answer = runlength::rl_from_dense(
         inner::list(lists, 0),
         &mut out_ends[..out_ends_len],
@@ -86,8 +86,8 @@ fn from_dense(lists: &[i64], lent: &[i64]) -> Outcome {
 }
 
 fn to_dense(lists: &[i64], lent: &[i64]) -> Outcome {
-    let mut out = inner::entries(lent, 0);
-    let out_len = inner::entries_lent(lent, 0, out);
+    let mut out = inner::entries::<i64>(lent, 0);
+    let out_len = inner::lent(lent, 0, out);
     let answer = runlength::rl_to_dense(
         inner::list(lists, 0),
         inner::list(lists, 1),
@@ -108,12 +108,12 @@ fn equals(lists: &[i64]) -> Outcome {
 }
 
 fn plan(lists: &[i64], lent: &[i64]) -> Outcome {
-    let mut out_ends = inner::entries(lent, 0);
-    let mut out_idx_a = inner::places(lent, 1);
-    let mut out_idx_b = inner::places(lent, 2);
-    let out_ends_len = inner::entries_lent(lent, 0, out_ends);
-    let out_idx_a_len = inner::places_lent(lent, 1, out_idx_a);
-    let out_idx_b_len = inner::places_lent(lent, 2, out_idx_b);
+    let mut out_ends = inner::entries::<i64>(lent, 0);
+    let mut out_idx_a = inner::entries::<usize>(lent, 1);
+    let mut out_idx_b = inner::entries::<usize>(lent, 2);
+    let out_ends_len = inner::lent(lent, 0, out_ends);
+    let out_idx_a_len = inner::lent(lent, 1, out_idx_a);
+    let out_idx_b_len = inner::lent(lent, 2, out_idx_b);
     let answer = runlength::rl_plan(
         inner::list(lists, 0),
         inner::list(lists, 1),
@@ -125,16 +125,16 @@ fn plan(lists: &[i64], lent: &[i64]) -> Outcome {
     inner::outcome_of(
         numbers,
         out_ends,
-        inner::from_places(out_idx_a),
-        inner::from_places(out_idx_b),
+        inner::numbers_in(out_idx_a),
+        inner::numbers_in(out_idx_b),
     )
 }
 
 fn zip_with(lists: &[i64], numbers: &[i64], lent: &[i64]) -> Outcome {
-    let mut out_ends = inner::entries(lent, 0);
-    let mut out_values = inner::entries(lent, 1);
-    let out_ends_len = inner::entries_lent(lent, 0, out_ends);
-    let out_values_len = inner::entries_lent(lent, 1, out_values);
+    let mut out_ends = inner::entries::<i64>(lent, 0);
+    let mut out_values = inner::entries::<i64>(lent, 1);
+    let out_ends_len = inner::lent(lent, 0, out_ends);
+    let out_values_len = inner::lent(lent, 1, out_values);
     let answer = runlength::rl_zip_with(
         inner::list(lists, 0),
         inner::list(lists, 1),
@@ -151,10 +151,10 @@ fn zip_with(lists: &[i64], numbers: &[i64], lent: &[i64]) -> Outcome {
 }
 
 fn zip_with_raw(lists: &[i64], numbers: &[i64], lent: &[i64]) -> Outcome {
-    let mut out_ends = inner::entries(lent, 0);
-    let mut out_values = inner::entries(lent, 1);
-    let out_ends_len = inner::entries_lent(lent, 0, out_ends);
-    let out_values_len = inner::entries_lent(lent, 1, out_values);
+    let mut out_ends = inner::entries::<i64>(lent, 0);
+    let mut out_values = inner::entries::<i64>(lent, 1);
+    let out_ends_len = inner::lent(lent, 0, out_ends);
+    let out_values_len = inner::lent(lent, 1, out_values);
     let answer = runlength::rl_zip_with_raw(
         inner::list(lists, 0),
         inner::list(lists, 1),
@@ -171,10 +171,10 @@ fn zip_with_raw(lists: &[i64], numbers: &[i64], lent: &[i64]) -> Outcome {
 }
 
 fn plan_many_lent(lists: &[i64], lent: &[i64], offsets: &[usize]) -> Outcome {
-    let mut out_ends = inner::entries(lent, 0);
-    let mut out_idx = inner::places(lent, 1);
-    let out_ends_len = inner::entries_lent(lent, 0, out_ends);
-    let out_idx_len = inner::places_lent(lent, 1, out_idx);
+    let mut out_ends = inner::entries::<i64>(lent, 0);
+    let mut out_idx = inner::entries::<usize>(lent, 1);
+    let out_ends_len = inner::lent(lent, 0, out_ends);
+    let out_idx_len = inner::lent(lent, 1, out_idx);
     let answer = runlength::rl_plan_many(
         offsets,
         inner::list(lists, 1),
@@ -192,22 +192,22 @@ fn plan_many_lent(lists: &[i64], lent: &[i64], offsets: &[usize]) -> Outcome {
     inner::outcome_of(
         numbers,
         out_ends,
-        inner::from_places(out_idx),
+        inner::numbers_in(out_idx),
         [0i64; LONGEST],
     )
 }
 
 fn plan_many(lists: &[i64], lent: &[i64]) -> Outcome {
-    let offsets = inner::places(lists, 0);
-    let offsets_len = inner::places_lent(lists, 0, offsets);
+    let offsets = inner::entries::<usize>(lists, 0);
+    let offsets_len = inner::lent(lists, 0, offsets);
     plan_many_lent(lists, lent, &offsets[..offsets_len])
 }
 
 fn zip_many_lent(lists: &[i64], numbers: &[i64], lent: &[i64], offsets: &[usize]) -> Outcome {
-    let mut out_ends = inner::entries(lent, 0);
-    let mut out_values = inner::entries(lent, 1);
-    let out_ends_len = inner::entries_lent(lent, 0, out_ends);
-    let out_values_len = inner::entries_lent(lent, 1, out_values);
+    let mut out_ends = inner::entries::<i64>(lent, 0);
+    let mut out_values = inner::entries::<i64>(lent, 1);
+    let out_ends_len = inner::lent(lent, 0, out_ends);
+    let out_values_len = inner::lent(lent, 1, out_values);
     let answer = runlength::rl_zip_many(
         offsets,
         inner::list(lists, 1),
@@ -222,8 +222,8 @@ fn zip_many_lent(lists: &[i64], numbers: &[i64], lent: &[i64], offsets: &[usize]
 }
 
 fn zip_many(lists: &[i64], numbers: &[i64], lent: &[i64]) -> Outcome {
-    let offsets = inner::places(lists, 0);
-    let offsets_len = inner::places_lent(lists, 0, offsets);
+    let offsets = inner::entries::<usize>(lists, 0);
+    let offsets_len = inner::lent(lists, 0, offsets);
     zip_many_lent(lists, numbers, lent, &offsets[..offsets_len])
 }
 
@@ -233,10 +233,10 @@ fn run_index(lists: &[i64], numbers: &[i64]) -> Outcome {
 }
 
 fn slice(lists: &[i64], numbers: &[i64], lent: &[i64]) -> Outcome {
-    let mut out_ends = inner::entries(lent, 0);
-    let mut out_values = inner::entries(lent, 1);
-    let out_ends_len = inner::entries_lent(lent, 0, out_ends);
-    let out_values_len = inner::entries_lent(lent, 1, out_values);
+    let mut out_ends = inner::entries::<i64>(lent, 0);
+    let mut out_values = inner::entries::<i64>(lent, 1);
+    let out_ends_len = inner::lent(lent, 0, out_ends);
+    let out_values_len = inner::lent(lent, 1, out_values);
     let answer = runlength::rl_slice(
         inner::list(lists, 0),
         inner::list(lists, 1),
@@ -259,8 +259,8 @@ fn slice_view(lists: &[i64], numbers: &[i64]) -> Outcome {
     inner::answered(
         answer.refusal,
         answer.first as u64,
-        num::as_unsigned(answer.start),
-        num::as_unsigned(answer.length),
+        answer.start.cast_unsigned(),
+        answer.length.cast_unsigned(),
         0,
     )
 }
@@ -282,12 +282,12 @@ fn slice_view_values(lists: &[i64], numbers: &[i64]) -> Outcome {
 }
 
 fn getitems(lists: &[i64], lent: &[i64]) -> Outcome {
-    let mut out_offsets = inner::places(lent, 0);
-    let mut out_ends = inner::entries(lent, 1);
-    let mut out_values = inner::entries(lent, 2);
-    let out_offsets_len = inner::places_lent(lent, 0, out_offsets);
-    let out_ends_len = inner::entries_lent(lent, 1, out_ends);
-    let out_values_len = inner::entries_lent(lent, 2, out_values);
+    let mut out_offsets = inner::entries::<usize>(lent, 0);
+    let mut out_ends = inner::entries::<i64>(lent, 1);
+    let mut out_values = inner::entries::<i64>(lent, 2);
+    let out_offsets_len = inner::lent(lent, 0, out_offsets);
+    let out_ends_len = inner::lent(lent, 1, out_ends);
+    let out_values_len = inner::lent(lent, 2, out_values);
     let answer = runlength::rl_getitems(
         inner::list(lists, 0),
         inner::list(lists, 1),
@@ -300,17 +300,17 @@ fn getitems(lists: &[i64], lent: &[i64]) -> Outcome {
     let numbers = inner::numbers_of(answer.refusal, answer.keys as u64, answer.runs as u64, 0, 0);
     inner::outcome_of(
         numbers,
-        inner::from_places(out_offsets),
+        inner::numbers_in(out_offsets),
         out_ends,
         out_values,
     )
 }
 
 fn concat_lent(lists: &[i64], lent: &[i64], offsets: &[usize]) -> Outcome {
-    let mut out_ends = inner::entries(lent, 0);
-    let mut out_values = inner::entries(lent, 1);
-    let out_ends_len = inner::entries_lent(lent, 0, out_ends);
-    let out_values_len = inner::entries_lent(lent, 1, out_values);
+    let mut out_ends = inner::entries::<i64>(lent, 0);
+    let mut out_values = inner::entries::<i64>(lent, 1);
+    let out_ends_len = inner::lent(lent, 0, out_ends);
+    let out_values_len = inner::lent(lent, 1, out_values);
     let answer = runlength::rl_concat(
         offsets,
         inner::list(lists, 1),
@@ -323,16 +323,16 @@ fn concat_lent(lists: &[i64], lent: &[i64], offsets: &[usize]) -> Outcome {
 }
 
 fn concat(lists: &[i64], lent: &[i64]) -> Outcome {
-    let offsets = inner::places(lists, 0);
-    let offsets_len = inner::places_lent(lists, 0, offsets);
+    let offsets = inner::entries::<usize>(lists, 0);
+    let offsets_len = inner::lent(lists, 0, offsets);
     concat_lent(lists, lent, &offsets[..offsets_len])
 }
 
 fn shift(lists: &[i64], numbers: &[i64], lent: &[i64]) -> Outcome {
-    let mut out_ends = inner::entries(lent, 0);
-    let mut out_values = inner::entries(lent, 1);
-    let out_ends_len = inner::entries_lent(lent, 0, out_ends);
-    let out_values_len = inner::entries_lent(lent, 1, out_values);
+    let mut out_ends = inner::entries::<i64>(lent, 0);
+    let mut out_values = inner::entries::<i64>(lent, 1);
+    let out_ends_len = inner::lent(lent, 0, out_ends);
+    let out_values_len = inner::lent(lent, 1, out_values);
     let answer = runlength::rl_shift(
         inner::list(lists, 0),
         inner::list(lists, 1),
@@ -346,10 +346,10 @@ fn shift(lists: &[i64], numbers: &[i64], lent: &[i64]) -> Outcome {
 }
 
 fn reversed(lists: &[i64], lent: &[i64]) -> Outcome {
-    let mut out_ends = inner::entries(lent, 0);
-    let mut out_values = inner::entries(lent, 1);
-    let out_ends_len = inner::entries_lent(lent, 0, out_ends);
-    let out_values_len = inner::entries_lent(lent, 1, out_values);
+    let mut out_ends = inner::entries::<i64>(lent, 0);
+    let mut out_values = inner::entries::<i64>(lent, 1);
+    let out_ends_len = inner::lent(lent, 0, out_ends);
+    let out_values_len = inner::lent(lent, 1, out_values);
     let answer = runlength::rl_reversed(
         inner::list(lists, 0),
         inner::list(lists, 1),
@@ -361,10 +361,10 @@ fn reversed(lists: &[i64], lent: &[i64]) -> Outcome {
 }
 
 fn ranges_where(lists: &[i64], numbers: &[i64], lent: &[i64]) -> Outcome {
-    let mut out_starts = inner::entries(lent, 0);
-    let mut out_ends = inner::entries(lent, 1);
-    let out_starts_len = inner::entries_lent(lent, 0, out_starts);
-    let out_ends_len = inner::entries_lent(lent, 1, out_ends);
+    let mut out_starts = inner::entries::<i64>(lent, 0);
+    let mut out_ends = inner::entries::<i64>(lent, 1);
+    let out_starts_len = inner::lent(lent, 0, out_starts);
+    let out_ends_len = inner::lent(lent, 1, out_ends);
     let answer = runlength::rl_ranges_where(
         inner::list(lists, 0),
         inner::list(lists, 1),
@@ -378,10 +378,10 @@ fn ranges_where(lists: &[i64], numbers: &[i64], lent: &[i64]) -> Outcome {
 }
 
 fn merge(lists: &[i64], lent: &[i64]) -> Outcome {
-    let mut out_ends = inner::entries(lent, 0);
-    let mut out_values = inner::entries(lent, 1);
-    let out_ends_len = inner::entries_lent(lent, 0, out_ends);
-    let out_values_len = inner::entries_lent(lent, 1, out_values);
+    let mut out_ends = inner::entries::<i64>(lent, 0);
+    let mut out_values = inner::entries::<i64>(lent, 1);
+    let out_ends_len = inner::lent(lent, 0, out_ends);
+    let out_values_len = inner::lent(lent, 1, out_values);
     let answer = runlength::rl_merge(
         inner::list(lists, 0),
         inner::list(lists, 1),
@@ -393,10 +393,10 @@ fn merge(lists: &[i64], lent: &[i64]) -> Outcome {
 }
 
 fn merged(lists: &[i64], lent: &[i64]) -> Outcome {
-    let mut out_ends = inner::entries(lent, 0);
-    let mut out_values = inner::entries(lent, 1);
-    let out_ends_len = inner::entries_lent(lent, 0, out_ends);
-    let out_values_len = inner::entries_lent(lent, 1, out_values);
+    let mut out_ends = inner::entries::<i64>(lent, 0);
+    let mut out_values = inner::entries::<i64>(lent, 1);
+    let out_ends_len = inner::lent(lent, 0, out_ends);
+    let out_values_len = inner::lent(lent, 1, out_values);
     let answer = runlength::rl_merged(
         inner::list(lists, 0),
         inner::list(lists, 1),
@@ -408,10 +408,10 @@ fn merged(lists: &[i64], lent: &[i64]) -> Outcome {
 }
 
 fn merge_mask_lent(lists: &[i64], numbers: &[i64], lent: &[i64], mask: &[u8]) -> Outcome {
-    let mut out_ends = inner::entries(lent, 0);
-    let mut out_values = inner::entries(lent, 1);
-    let out_ends_len = inner::entries_lent(lent, 0, out_ends);
-    let out_values_len = inner::entries_lent(lent, 1, out_values);
+    let mut out_ends = inner::entries::<i64>(lent, 0);
+    let mut out_values = inner::entries::<i64>(lent, 1);
+    let out_ends_len = inner::lent(lent, 0, out_ends);
+    let out_values_len = inner::lent(lent, 1, out_values);
     let answer = runlength::rl_merge_mask(
         inner::list(lists, 0),
         inner::list(lists, 1),
@@ -425,16 +425,16 @@ fn merge_mask_lent(lists: &[i64], numbers: &[i64], lent: &[i64], mask: &[u8]) ->
 }
 
 fn merge_mask(lists: &[i64], numbers: &[i64], lent: &[i64]) -> Outcome {
-    let mask = inner::bytes(lists, 2);
-    let mask_len = inner::bytes_lent(lists, 2, mask);
+    let mask = inner::entries::<u8>(lists, 2);
+    let mask_len = inner::lent(lists, 2, mask);
     merge_mask_lent(lists, numbers, lent, &mask[..mask_len])
 }
 
 fn merge_by(lists: &[i64], numbers: &[i64], lent: &[i64]) -> Outcome {
-    let mut out_ends = inner::entries(lent, 0);
-    let mut out_values = inner::entries(lent, 1);
-    let out_ends_len = inner::entries_lent(lent, 0, out_ends);
-    let out_values_len = inner::entries_lent(lent, 1, out_values);
+    let mut out_ends = inner::entries::<i64>(lent, 0);
+    let mut out_values = inner::entries::<i64>(lent, 1);
+    let out_ends_len = inner::lent(lent, 0, out_ends);
+    let out_values_len = inner::lent(lent, 1, out_values);
     let answer = runlength::rl_merge_by(
         inner::list(lists, 0),
         inner::list(lists, 1),
@@ -447,10 +447,10 @@ fn merge_by(lists: &[i64], numbers: &[i64], lent: &[i64]) -> Outcome {
 }
 
 fn merge_plan_lent(lists: &[i64], lent: &[i64], mask: &[u8]) -> Outcome {
-    let mut out_ends = inner::entries(lent, 0);
-    let mut out_offsets = inner::places(lent, 1);
-    let out_ends_len = inner::entries_lent(lent, 0, out_ends);
-    let out_offsets_len = inner::places_lent(lent, 1, out_offsets);
+    let mut out_ends = inner::entries::<i64>(lent, 0);
+    let mut out_offsets = inner::entries::<usize>(lent, 1);
+    let out_ends_len = inner::lent(lent, 0, out_ends);
+    let out_offsets_len = inner::lent(lent, 1, out_offsets);
     let answer = runlength::rl_merge_plan(
         inner::list(lists, 0),
         mask,
@@ -461,39 +461,39 @@ fn merge_plan_lent(lists: &[i64], lent: &[i64], mask: &[u8]) -> Outcome {
     inner::outcome_of(
         numbers,
         out_ends,
-        inner::from_places(out_offsets),
+        inner::numbers_in(out_offsets),
         [0i64; LONGEST],
     )
 }
 
 fn merge_plan(lists: &[i64], lent: &[i64]) -> Outcome {
-    let mask = inner::bytes(lists, 1);
-    let mask_len = inner::bytes_lent(lists, 1, mask);
+    let mask = inner::entries::<u8>(lists, 1);
+    let mask_len = inner::lent(lists, 1, mask);
     merge_plan_lent(lists, lent, &mask[..mask_len])
 }
 
 fn group_ids_lent(lent: &[i64], offsets: &[usize]) -> Outcome {
-    let mut out_ids = inner::places(lent, 0);
-    let out_ids_len = inner::places_lent(lent, 0, out_ids);
+    let mut out_ids = inner::entries::<usize>(lent, 0);
+    let out_ids_len = inner::lent(lent, 0, out_ids);
     let answer = runlength::rl_group_ids(offsets, &mut out_ids[..out_ids_len]);
     let numbers = inner::numbers_of(answer.refusal, answer.count as u64, 0, 0, 0);
     inner::outcome_of(
         numbers,
-        inner::from_places(out_ids),
+        inner::numbers_in(out_ids),
         [0i64; LONGEST],
         [0i64; LONGEST],
     )
 }
 
 fn group_ids(lists: &[i64], lent: &[i64]) -> Outcome {
-    let offsets = inner::places(lists, 0);
-    let offsets_len = inner::places_lent(lists, 0, offsets);
+    let offsets = inner::entries::<usize>(lists, 0);
+    let offsets_len = inner::lent(lists, 0, offsets);
     group_ids_lent(lent, &offsets[..offsets_len])
 }
 
 fn sum(lists: &[i64]) -> Outcome {
     let answer = runlength::rl_sum(inner::list(lists, 0), inner::list(lists, 1));
-    inner::answered(answer.refusal, num::as_unsigned(answer.total), 0, 0, 0)
+    inner::answered(answer.refusal, answer.total.cast_unsigned(), 0, 0, 0)
 }
 
 fn reduce(lists: &[i64], numbers: &[i64]) -> Outcome {
@@ -508,17 +508,17 @@ fn reduce(lists: &[i64], numbers: &[i64]) -> Outcome {
     inner::answered(
         answer.refusal,
         answer.kind,
-        num::as_unsigned(answer.whole),
+        answer.whole.cast_unsigned(),
         mean,
         variance,
     )
 }
 
 fn slice_reduce(lists: &[i64], numbers: &[i64], lent: &[i64]) -> Outcome {
-    let mut out_kinds = inner::bytes(lent, 0);
-    let mut out_bits = inner::bits(lent, 1);
-    let out_kinds_len = inner::bytes_lent(lent, 0, out_kinds);
-    let out_bits_len = inner::bits_lent(lent, 1, out_bits);
+    let mut out_kinds = inner::entries::<u8>(lent, 0);
+    let mut out_bits = inner::entries::<u64>(lent, 1);
+    let out_kinds_len = inner::lent(lent, 0, out_kinds);
+    let out_bits_len = inner::lent(lent, 1, out_bits);
     let answer = runlength::rl_slice_reduce(
         inner::list(lists, 0),
         inner::list(lists, 1),
@@ -532,8 +532,8 @@ fn slice_reduce(lists: &[i64], numbers: &[i64], lent: &[i64]) -> Outcome {
     let numbers = inner::numbers_of(answer.refusal, answer.count as u64, 0, 0, 0);
     inner::outcome_of(
         numbers,
-        inner::from_bytes(out_kinds),
-        inner::from_bits(out_bits),
+        inner::numbers_in(out_kinds),
+        inner::numbers_in(out_bits),
         [0i64; LONGEST],
     )
 }

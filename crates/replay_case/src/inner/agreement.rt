@@ -3,18 +3,6 @@ use crate::inner::shape::Places;
 use crate::inner::{LONGEST, Outcome, list};
 use column::sequence;
 
-fn same(a: &[i64], b: &[i64]) -> bool {
-    if a.len() != b.len() {
-        return false;
-    }
-    for i in 0..a.len() {
-        if a[i] != b[i] {
-            return false;
-        }
-    }
-    true
-}
-
 // Whether a buffer, as long as it is lent, is left as the row says, after its first entries that are free.
 fn left_as(lent: &[i64], left: &[i64], index: usize, free: usize, buffer: [i64; LONGEST]) -> bool {
     let expected = list(left, index);
@@ -22,46 +10,28 @@ fn left_as(lent: &[i64], left: &[i64], index: usize, free: usize, buffer: [i64; 
     if list(lent, index).len() != n {
         return false;
     }
-    same(
-        sequence::part(&buffer, free, n),
-        sequence::part(expected, free, n),
-    )
+    sequence::part(&buffer, free, n) == sequence::part(expected, free, n)
 }
 
 fn buffers_left(lent: &[i64], left: &[i64], outcome: Outcome) -> bool {
-    let first = outcome.first;
-    let second = outcome.second;
-    let third = outcome.third;
-    let fourth = outcome.fourth;
-    if !left_as(lent, left, 0, 0, first) {
-        return false;
-    }
-    if !left_as(lent, left, 1, 0, second) {
-        return false;
-    }
-    if !left_as(lent, left, 2, 0, third) {
-        return false;
-    }
-    left_as(lent, left, 3, 0, fourth)
+    left_as(lent, left, 0, 0, outcome.first)
+        && left_as(lent, left, 1, 0, outcome.second)
+        && left_as(lent, left, 2, 0, outcome.third)
+        && left_as(lent, left, 3, 0, outcome.fourth)
 }
 
 // An answer leaves the first entries of scratch free, two for each run of the batch.
 fn free(lists: &[i64], numbers: [i64; 10]) -> usize {
     if numbers[0] == 0 {
         let runs = list(lists, 2).len();
-        num::saturating_add(runs, runs)
+        runs.saturating_mul(2)
     } else {
         0
     }
 }
 
 fn scratch_left(lent: &[i64], left: &[i64], free: usize, outcome: Outcome) -> bool {
-    let fifth = outcome.fifth;
-    let sixth = outcome.sixth;
-    if !left_as(lent, left, 4, free, fifth) {
-        return false;
-    }
-    left_as(lent, left, 5, free, sixth)
+    left_as(lent, left, 4, free, outcome.fifth) && left_as(lent, left, 5, free, outcome.sixth)
 }
 
 // The row says a refusal, and at least one count.
@@ -70,7 +40,7 @@ fn answers(row: &[i64], places: Places, numbers: [i64; 10]) -> bool {
     if expected.len() < 7 {
         return false;
     }
-    same(sequence::part(&numbers, 0, expected.len()), expected)
+    sequence::part(&numbers, 0, expected.len()) == expected
 }
 
 // Whether the call answers what the row says, and leaves each buffer as it says.

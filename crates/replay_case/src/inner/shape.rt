@@ -17,15 +17,15 @@ pub struct Places {
 
 // How many there are, by the number in front of them.
 fn count_at(row: &[i64], at: usize) -> usize {
-    num::smaller_count(inner::size(row, at), LONGEST)
+    inner::size(row, at).min(LONGEST)
 }
 
 pub fn places_in(row: &[i64]) -> Places {
     let lists = 2;
     let before_numbers = inner::behind(row, lists, count_at(row, 1));
-    let numbers = num::saturating_add(before_numbers, 1);
-    let before_lent = num::saturating_add(numbers, count_at(row, before_numbers));
-    let lent = num::saturating_add(before_lent, 1);
+    let numbers = before_numbers.saturating_add(1);
+    let before_lent = numbers.saturating_add(count_at(row, before_numbers));
+    let lent = before_lent.saturating_add(1);
     let buffers = count_at(row, before_lent);
     let left = inner::behind(row, lent, buffers);
     let answer = inner::behind(row, left, buffers);

@@ -3,6 +3,3 @@ use Rattle.text.proofs.read_digits.Given as goal
 
 abbrev pub invariant-loop-next : goal.invariant-loop-next
 invariant-loop-next l = (l.at ≤ l.next) × (l.next ≤ length l.line)
-
-abbrev pub decreases-loop-next : goal.decreases-loop-next
-decreases-loop-next l = length l.line - l.next
