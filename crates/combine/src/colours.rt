@@ -3,21 +3,25 @@
 // Each of these two lists is bounded, so that its insertions cost little however many runs there are, and so does its place on the stack.
 // A value for which there was no room has a colour by its own number.
 use crate::seams;
+use column::sequence;
 use job::inner::Job;
 
 // How many colours there are, c0 to c10 of the style.
 const COLOURS: u64 = 11;
 
 // The most values of a list, as many as a strip can show.
-const LIST: usize = seams::UNITS;
+pub const LIST: usize = seams::UNITS;
 
-// Values in ascending order. The free entries are the greatest number.
-#[derive(Clone, Copy)]
-struct List {
-    values: [i64; LIST],
+// The free entries of a list are the greatest number.
+pub const FREE: i64 = i64::MAX;
+
+// Values in ascending order, and then the free entries.
+#[derive(Drop)]
+struct List<'a> {
+    values: &'a mut [i64],
 }
 
-impl List {
+impl<'a> List<'a> {
     // How many values are below a value: its index, if the list has it.
     fn place_of(&self, value: i64) -> usize {
         self.values.partition_point(|other| *other < value)
@@ -33,7 +37,7 @@ impl List {
     }
 
     fn is_full(&self) -> bool {
-        self.values[LIST - 1] < i64::MAX
+        sequence::entry_or(self.values, LIST - 1, 0) < FREE
     }
 
     // Puts a value to its place; those from there on go one further.
@@ -50,19 +54,17 @@ impl List {
 
 // The values of a job, and those that only the combination of its columns has.
 #[derive(Drop)]
-pub struct Colours {
-    own: List,
-    others: List,
+pub struct Colours<'a> {
+    own: List<'a>,
+    others: List<'a>,
 }
 
-impl Colours {
-    pub fn new(job: Job, combined: &[i64]) -> Self {
-        let list = List {
-            values: [i64::MAX; LIST],
-        };
+impl<'a> Colours<'a> {
+    // The arrays are lent, with free entries alone, so that each stands on the stack once.
+    pub fn new(own: &'a mut [i64], others: &'a mut [i64], job: Job, combined: &[i64]) -> Self {
         let mut colours = Colours {
-            own: list,
-            others: list,
+            own: List { values: own },
+            others: List { values: others },
         };
         for value in job.values {
             colours.take_own(*value);

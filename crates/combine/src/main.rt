@@ -28,6 +28,9 @@ use std::rt::Env;
 // The most bytes of an argument.
 const LONGEST: usize = 64;
 
+// As many bytes are written to standard output at once.
+const CHUNK: usize = 65_536;
+
 fn code_name(code: u8) -> &'static str {
     match code {
         0 => "add",
@@ -113,7 +116,7 @@ fn write(
     ends: &[i64],
     values: &[i64],
 ) -> io::Result<()> {
-    let mut out = Output::new(io::writer(rt));
+    let mut out: Output<_, CHUNK> = Output::new(io::writer(rt));
     match window {
         None => write_column(&mut out, job, name, ends, values)?,
         Some(window) => {
@@ -151,9 +154,7 @@ fn finish(rt: &HostRuntime, window: Option<Window>, index: usize, job: Job) {
                 let _ = eprintln!(rt; "combine: standard output: {error}");
             }
         }
-        Err(refusal) => {
-            let _ = refusal::write_refusal(&mut io::writer(&rt.stderr()), refusal, word, job);
-        }
+        Err(refusal) => refusal::say_refusal(&rt.stderr(), refusal, word, job),
     }
 }
 
@@ -176,15 +177,19 @@ fn say_usage(rt: &HostRuntime) {
     );
 }
 
+// Never a part of `main`, where its buffer would take stack while `run` runs.
+#[inline(never)]
+fn say_interval(rt: &HostRuntime, from: i64, to: i64) {
+    let _ = eprintln!(rt;
+        "combine: InvalidInterval (9): FROM {from} and TO {to} are not 0 <= FROM <= TO"
+    );
+}
+
 // Draws the positions from one up to another.
 fn run_window(rt: &HostRuntime, from: i64, to: i64) {
     match questions::ask_intervals(&[from], &[to]) {
         Ok(()) => run(rt, Some(Window { from, to }), 2),
-        Err(_) => {
-            let _ = eprintln!(rt;
-                "combine: InvalidInterval (9): FROM {from} and TO {to} are not 0 <= FROM <= TO"
-            );
-        }
+        Err(_) => say_interval(rt, from, to),
     }
 }
 

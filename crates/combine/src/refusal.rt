@@ -2,8 +2,18 @@
 use column::error::{Error, Refusal};
 use column::sequence;
 use job::inner::Job;
+use job::inner::output::Output;
 use std::io;
 use std::io::Write;
+
+// No message has more bytes, so each is written at once.
+const MESSAGE: usize = 512;
+
+fn write_code<W: Write>(out: &mut W, word: &[u8]) -> io::Result<()> {
+    out.write_all(b"combine: UnknownCode (1): ")?;
+    out.write_all(word)?;
+    out.write_all(b" is none of the codes 0 to 9 or their names\n")
+}
 
 fn write_ends<W: Write>(out: &mut W, job: Job, column: usize, index: usize) -> io::Result<()> {
     let ends = job.ends_of(column);
@@ -32,7 +42,7 @@ fn last_line(job: Job, column: usize) -> i64 {
     job.line_at(column, job.ends_of(column).len())
 }
 
-// The shortest column and the longest.
+// The shortest column and the longest, each in a message of its own: the second is written even where the first cannot be.
 fn write_lengths<W: Write>(out: &mut W, job: Job, least: i64, greatest: i64) -> io::Result<()> {
     let shortest = column_of_length(job, least);
     let longest = column_of_length(job, greatest);
@@ -42,6 +52,7 @@ fn write_lengths<W: Write>(out: &mut W, job: Job, least: i64, greatest: i64) -> 
         last_line(job, shortest),
         job.name_of(shortest)
     )?;
+    let _ = out.flush();
     writeln!(
         out,
         "at line {} column {} ends at {greatest}",
@@ -50,21 +61,19 @@ fn write_lengths<W: Write>(out: &mut W, job: Job, least: i64, greatest: i64) -> 
     )
 }
 
-// Writes why the columns are not combined. The code is the word.
-pub fn write_refusal<W: Write>(
-    out: &mut W,
-    refusal: Refusal,
-    word: &[u8],
-    job: Job,
-) -> io::Result<()> {
+fn write_refusal<W: Write>(out: &mut W, refusal: Refusal, word: &[u8], job: Job) -> io::Result<()> {
     match refusal.error {
-        Error::UnknownCode { code: _ } => {
-            out.write_all(b"combine: UnknownCode (1): ")?;
-            out.write_all(word)?;
-            out.write_all(b" is none of the codes 0 to 9 or their names\n")
-        }
-        Error::InvalidEnds { index } => write_ends(out, job, refusal.in_key.unwrap_or(0), index),
-        Error::UnequalLength { left, right } => write_lengths(out, job, left, right),
-        _ => writeln!(out, "combine: refused"),
+        Error::UnknownCode { code: _ } => write_code(out, word)?,
+        Error::InvalidEnds { index } => write_ends(out, job, refusal.in_key.unwrap_or(0), index)?,
+        Error::UnequalLength { left, right } => write_lengths(out, job, left, right)?,
+        _ => writeln!(out, "combine: refused")?,
     }
+    out.flush()
+}
+
+// Says why the columns are not combined. The code is the word. Never a part of its caller, where its buffer would take stack in every run.
+#[inline(never)]
+pub fn say_refusal(err: &impl Print, refusal: Refusal, word: &[u8], job: Job) {
+    let mut out: Output<_, MESSAGE> = Output::new(io::writer(err));
+    let _ = write_refusal(&mut out, refusal, word, job);
 }

@@ -49,16 +49,10 @@ impl Window {
 pub struct Seam {
     pub first: i64,
     pub last: i64,
-    pub count: i64,
+    pub count: u32,
 }
 
 impl Seam {
-    const NONE: Seam = Seam {
-        first: 0,
-        last: 0,
-        count: 0,
-    };
-
     // Whether its breaks are at several positions.
     pub fn is_near(self) -> bool {
         self.first < self.last
@@ -91,37 +85,61 @@ impl Seam {
     }
 }
 
-// The seams of a drawing, one for each x.
+// The first position and the last of the breaks on one x.
+#[derive(Clone, Copy)]
+struct Span {
+    first: i64,
+    last: i64,
+}
+
+impl Span {
+    const NONE: Span = Span { first: 0, last: 0 };
+}
+
+// The seams of a drawing, one for each x. The counts stand apart, where each takes 4 bytes of the stack and not 8.
 #[derive(Drop)]
 pub struct Seams {
-    pub all: [Seam; UNITS],
+    spans: [Span; UNITS],
+    counts: [u32; UNITS],
 }
 
 impl Seams {
-    // The breaks of a job's columns within the window.
-    pub fn new(window: Window, job: Job) -> Self {
-        let mut seams = Seams {
-            all: [Seam::NONE; UNITS],
-        };
+    // No breaks.
+    pub fn new() -> Self {
+        Seams {
+            spans: [Span::NONE; UNITS],
+            counts: [0; UNITS],
+        }
+    }
+
+    // Marks the breaks of a job's columns within the window.
+    pub fn mark_columns(&mut self, window: Window, job: Job) {
         for c in 0..job.columns() {
             for end in job.ends_of(c) {
-                seams.mark(window, *end);
+                self.mark(window, *end);
             }
         }
-        seams
     }
 
     fn mark(&mut self, window: Window, position: i64) {
         if position <= window.from || position >= window.to {
             return;
         }
-        let x = sequence::to_nat(window.x_of(position));
-        if let Some(seam) = self.all.get_mut(x) {
-            *seam = seam.with_break(position);
+        let x = window.x_of(position);
+        let Seam { first, last, count } = self.at(x).with_break(position);
+        let x = sequence::to_nat(x);
+        if let Some(place) = self.spans.get_mut(x) {
+            *place = Span { first, last };
+        }
+        if let Some(place) = self.counts.get_mut(x) {
+            *place = count;
         }
     }
 
     pub fn at(&self, x: i64) -> Seam {
-        sequence::entry_or(&self.all, sequence::to_nat(x), Seam::NONE)
+        let x = sequence::to_nat(x);
+        let Span { first, last } = sequence::entry_or(&self.spans, x, Span::NONE);
+        let count = sequence::entry_or(&self.counts, x, 0);
+        Seam { first, last, count }
     }
 }

@@ -1,8 +1,8 @@
 // Columns and their combination as strips, one above the other, as SVG. A position has the same x in every strip. A run narrower than a
 // unit is left out; where columns break at several positions on one x, the line there says so, and a drawing of fewer positions shows
 // them apart.
-use crate::colours::Colours;
-use crate::seams::{Seam, Seams, Window};
+use crate::colours::{Colours, FREE, LIST};
+use crate::seams::{Seam, Seams, UNITS, Window};
 use column::sequence;
 use job::inner::Job;
 use std::io;
@@ -38,7 +38,7 @@ fn result_y(columns: usize) -> i64 {
 struct Scene<'a> {
     window: Window,
     seams: &'a Seams,
-    colours: &'a Colours,
+    colours: &'a Colours<'a>,
 }
 
 // The value of a run, if the run is wide enough for it.
@@ -287,10 +287,10 @@ fn draw_seams<W: Write>(out: &mut W, seams: &Seams, bottom: i64) -> io::Result<(
         above: -100,
         below: -100,
     };
-    for (i, seam) in seams.all.iter().enumerate() {
-        let x = (i as u64).cast_signed();
-        draw_seam(out, x, *seam, bottom, room)?;
-        room = room.after(x, *seam);
+    for x in 0..(UNITS as u64).cast_signed() {
+        let seam = seams.at(x);
+        draw_seam(out, x, seam, bottom, room)?;
+        room = room.after(x, seam);
     }
     Ok(())
 }
@@ -381,8 +381,11 @@ pub fn draw<W: Write>(
         return draw_nothing(out, window, name, columns, sequence::length(ends));
     }
     let bottom = result_y(columns).wrapping_add(40);
-    let seams = Seams::new(window, job);
-    let colours = Colours::new(job, values);
+    let mut seams = Seams::new();
+    seams.mark_columns(window, job);
+    let mut own = [FREE; LIST];
+    let mut others = [FREE; LIST];
+    let colours = Colours::new(&mut own, &mut others, job, values);
     let scene = Scene {
         window,
         seams: &seams,

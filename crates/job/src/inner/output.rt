@@ -2,17 +2,15 @@
 use std::io;
 use std::io::Write;
 
-const SIZE: usize = 65_536;
-
 // Writes to another writer, as many bytes at once as the buffer holds.
 #[derive(Drop)]
-pub struct Output<W> {
+pub struct Output<W, const SIZE: usize> {
     to: W,
     buffer: [u8; SIZE],
     filled: usize,
 }
 
-impl<W: Write> Output<W> {
+impl<W: Write, const SIZE: usize> Output<W, SIZE> {
     pub fn new(to: W) -> Self {
         Output {
             to,
@@ -33,7 +31,7 @@ impl<W: Write> Output<W> {
     }
 }
 
-impl<W: Write> Write for Output<W> {
+impl<W: Write, const SIZE: usize> Write for Output<W, SIZE> {
     fn write(&mut self, bytes: &[u8]) -> io::Result<usize> {
         for byte in bytes {
             self.put(*byte)?;
