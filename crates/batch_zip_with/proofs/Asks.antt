@@ -3,15 +3,15 @@
 use Prim.Native.Nat.{ℕ, ◌+◌, ◌<◌, ◌^◌}
 use Rattle.std.specs.Prelude.{Some, None, Option, Ok}
 use mathlib.Core.List.{List, [], ◌∷◌, map}
-use mathlib.Core.Path.{◌≡◌, refl, ap, sym, ◌∙◌}
+use mathlib.Core.Path.{◌≡◌, ap, sym, ◌∙◌}
 use lib.IntN.{ℤ}
 use lib.ListN.{length}
 use Rattle.num.specs.Numbers.{saturated, operation}
 use Rattle.column.specs.declared.answer.RleBatch.{RleBatch}
-use Rattle.column.specs.Asking.{Question, first_no, ◌otherwise◌}
+use Rattle.column.specs.Asking.{Question, first_no}
 use Rattle.column.specs.Combine.{value_of, combined, table, greatest_length, row_at, value_at}
 use Rattle.column.specs.Lists.{total}
-use Rattle.column.specs.Paper.{PaperRefusal, Outcome, answers, refuses}
+use Rattle.column.specs.Paper.{PaperRefusal}
 use Rattle.column.specs.Questions.{listed, room}
 use Rattle.column.proofs.FirstNo.{all_yes, alone, goes_on}
 use Rattle.batch.specs.Batch.{Batch, batch_needs, WrittenBatch, both_valid}
@@ -21,21 +21,6 @@ use Rattle.batch.proofs.Laying.{batch-written}
 use Rattle.batch_zip_with.specs.Calls.{pair_runs, filled_pairs, zip_needs, zip_pair, zip_asked, zip_with}
 use Rattle.batch_zip_with.specs.Workers.{ZipRoom}
 use Rattle.batch_zip_with.proofs.Pairs.{all_pairs}
-
--- ---- an outcome, read back
-
-module _ {X : Type 0} where
-  abbrev question_of : Outcome X → Question
-  question_of (answers x) = None
-  question_of (refuses r) = Some r
-
-  abbrev answer_of : X → Outcome X → X
-  answer_of y (answers x) = x
-  answer_of y (refuses r) = y
-
-  asked_of : (q : Question) (x : X) → question_of (q otherwise x) ≡ q
-  asked_of None x = refl
-  asked_of (Some r) x = refl
 
 module _ (a b : Batch) (how code : ℕ) where
   -- both batches are valid
@@ -53,17 +38,15 @@ module _ (a b : Batch) (how code : ℕ) where
 
     module _ (yes : zip_asked a b how code ≡ None) (k x e v : ℕ) where
       -- a "no" to 10 of a pair
-      pub pairs-refused : {r : PaperRefusal} (n : ℕ) → refuses r ≡ filled_pairs fa fb (all_pairs how a b) otherwise n → Some r ≡ every_asked (k ∷ x ∷ e ∷ v ∷ [])
-      pairs-refused n h = rw yes (first-refused (room (zip_needs a b (all_pairs how a b)) (k ∷ x ∷ e ∷ v ∷ []) ∷ []) (ap question_of h ∙ asked_of _ _))
+      pub pairs-refused : {r : PaperRefusal} → Some r ≡ filled_pairs fa fb (all_pairs how a b) → Some r ≡ every_asked (k ∷ x ∷ e ∷ v ∷ [])
+      pairs-refused h = rw yes (first-refused (room (zip_needs a b (all_pairs how a b)) (k ∷ x ∷ e ∷ v ∷ []) ∷ []) h)
 
       -- 12, after a "yes" to 10 of every pair
-      pub all_asked : {q : Question} {n : ℕ} → e < 2 ^ 63 → v < 2 ^ 63
-          → answers n ≡ filled_pairs fa fb (all_pairs how a b) otherwise saturated (total (map pair_runs (all_pairs how a b)))
+      pub all_asked : {q : Question} {n : ℕ} → e < 2 ^ 63 → v < 2 ^ 63 → None ≡ filled_pairs fa fb (all_pairs how a b)
+          → n ≡ saturated (total (map pair_runs (all_pairs how a b)))
           → q ≡ room (batch_needs (length a.keys + length b.keys) n) (k ∷ x ∷ e ∷ v ∷ []) → q ≡ every_asked (k ∷ x ∷ e ∷ v ∷ [])
-      all_asked {n = n} he hv h hq =
-          let filled : None ≡ filled_pairs fa fb (all_pairs how a b) = ap question_of h ∙ asked_of _ _ in
-          let en : n ≡ saturated (total (map pair_runs (all_pairs how a b))) = ap (answer_of n) (rw (sym filled) at h) in
-          rw yes (goes_on _ filled (hq
+      all_asked he hv h en hq =
+          rw yes (goes_on _ h (hq
           ∙ ap (λ (m : ℕ). room (batch_needs (length a.keys + length b.keys) m) (k ∷ x ∷ e ∷ v ∷ [])) en
           ∙ saturated-room (length a.keys + length b.keys) (total (map pair_runs (all_pairs how a b))) k x e v he hv ∙ sym (alone _)))
 

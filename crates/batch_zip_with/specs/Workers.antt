@@ -1,14 +1,13 @@
 -- What the workers leave and require.
-use Rattle.std.specs.Prelude.{ℕ, ◌+◌, ◌-◌, ◌≤◌, Bool, cond, not, ◌||◌, List, map, ◌≡◌, ℤ, length, get_or, ltb, Option, Result}
+use Rattle.std.specs.Prelude.{ℕ, ◌+◌, ◌-◌, ◌≤◌, Bool, cond, not, ◌||◌, List, map, ◌≡◌, ℤ, length, get_or, ltb, Option}
 use Rattle.num.specs.Numbers.{saturated}
-use Rattle.column.specs.declared.error.Refusal.{Refusal}
-use Rattle.column.specs.Asking.{◌otherwise◌}
+use Rattle.column.specs.Asking.{shown_asked}
 use Rattle.column.specs.Lists.{total}
-use Rattle.column.specs.Paper.{outcome_of}
 use Rattle.batch_index.specs.Calls.{lowest}
 use Rattle.batch.specs.declared.two.Joined.{Joined}
 use Rattle.batch.specs.Batch.{Batch}
 use Rattle.batch.specs.Workers.{ValidBatch}
+use Rattle.batch_zip_with.specs.declared.inner.PairsAsked.{PairsAsked}
 use Rattle.batch_zip_with.specs.Calls.{keeps_left, keeps_right, Pair, pair_runs, filled_pairs}
 
 -- the keys of both batches stand one after the other, the right's only where its own are kept: how many places there are
@@ -30,8 +29,9 @@ pair_kept how ka kb n =
     (not (ltb (lowest (get_or kb (n - length ka) 0) ka) (length ka)))
 
 -- 10 of all pairs, and how many runs they have, saturating at 2^64 − 1
-abbrev pub AsksPairs : Option ℤ → Option ℤ → List Pair → Result ℕ Refusal → Type 0
-AsksPairs fa fb ps r = outcome_of r ≡ (filled_pairs fa fb ps otherwise saturated (total (map pair_runs ps)))
+pub record AsksPairs (fa fb : Option ℤ) (ps : List Pair) (r : PairsAsked) : Type 0 where
+  pub filled : shown_asked r.asked ≡ filled_pairs fa fb ps
+  pub runs : r.runs ≡ saturated (total (map pair_runs ps))
 
 -- two valid batches, and room for the pairs
 pub record ZipRoom (a b : Batch) (ps : List Pair) (k x : List ℕ) (e v : List ℤ) : Type 0 where

@@ -137,7 +137,14 @@ fn next_pair(
     None
 }
 
-// 10 of all pairs, and how many runs they have, saturating at usize::MAX.
+// The answer to 10 of all pairs, and how many runs they have, saturating at usize::MAX.
+#[derive(Clone, Copy)]
+pub struct PairsAsked {
+    pub asked: Result<(), Refusal>,
+    pub runs: usize,
+}
+
+// The runs are those of all pairs with a "no", too.
 pub fn ask_pairs(
     a_keys: &[u32],
     a_offsets: &[usize],
@@ -152,7 +159,7 @@ pub fn ask_pairs(
     fill_a: Option<i64>,
     fill_b: Option<i64>,
     block: &mut [u32],
-) -> Result<usize, Refusal>
+) -> PairsAsked
     requires { ValidBatch (batch a_keys.now a_offsets.now a_ends.now a_values.now)
         × ValidBatch (batch b_keys.now b_offsets.now b_ends.now b_values.now)
         × KnownKeys a_keys.now b_keys.now lookup × (lookup.indexed ≡ true → length block.old ≡ block_size) }
@@ -160,6 +167,7 @@ pub fn ask_pairs(
         (pairs how (entries (batch a_keys.now a_offsets.now a_ends.now a_values.now))
         (entries (batch b_keys.now b_offsets.now b_ends.now b_values.now))) result }
 {
+    let mut asked = Ok(());
     let mut runs: usize = 0;
     let mut n: usize = 0;
     let mut near: usize = 0;
@@ -174,13 +182,13 @@ pub fn ask_pairs(
             fill_a,
             fill_b,
         );
-        questions::in_key(filled, n)?;
+        asked = asked.and(questions::in_key(filled, n));
         runs = num::saturating_add(runs, left.len() + right.len());
         n += 1;
         near = near_after(pair, a_keys.len(), b_keys.len(), near);
         next = next_pair(a_keys, b_keys, lookup, how, at + 1, near, &mut *block);
     }
-    Ok(runs)
+    PairsAsked { asked, runs }
 }
 
 // Each pair of the join combined, after those before it.

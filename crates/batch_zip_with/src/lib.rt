@@ -65,7 +65,7 @@ fn zip_with_by(
         (calls.zip_with (batch a_keys.now a_offsets.now a_ends.now a_values.now) (batch b_keys.now b_offsets.now b_ends.now b_values.now)
         how fill_a fill_b code) out_keys out_offsets out_ends out_values result }
 {
-    let runs = inner::ask_pairs(
+    let pairs = inner::ask_pairs(
         a_keys,
         a_offsets,
         a_ends,
@@ -79,12 +79,15 @@ fn zip_with_by(
         fill_a,
         fill_b,
         &mut *block,
-    )?;
+    );
+    if let Err(refusal) = pairs.asked {
+        return Err(refusal);
+    }
     let keys = a_keys.len() + b_keys.len();
     batch::ask_room(
         keys,
         keys + 1,
-        runs,
+        pairs.runs,
         out_keys.len(),
         out_offsets.len(),
         out_ends.len(),

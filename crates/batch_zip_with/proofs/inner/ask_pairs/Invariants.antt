@@ -11,7 +11,7 @@ use Rattle.batch_zip_with.proofs.inner.ask_pairs.Given as goal
 
 abbrev pub invariant-loop-next : goal.invariant-loop-next
 invariant-loop-next l =
-    Asking l.how (batch l.a_keys l.a_offsets l.a_ends l.a_values) (batch l.b_keys l.b_offsets l.b_ends l.b_values) l.fill_a l.fill_b l.runs l.n l.next
+    Asking l.how (batch l.a_keys l.a_offsets l.a_ends l.a_values) (batch l.b_keys l.b_offsets l.b_ends l.b_values) l.fill_a l.fill_b l.asked l.runs l.n l.next
     × IfSome l.next (λ (j : Joined). KeptOther l.a_keys l.b_keys l.lookup.indexed l.block (j.at + 1))
     × (length l.block ≡ length l.initial.block)
 
