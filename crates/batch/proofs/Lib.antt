@@ -1,5 +1,6 @@
 pub mod Entries
 pub mod Asks
+pub mod Copying
 pub mod Laying
 pub mod Getting
 pub mod Places

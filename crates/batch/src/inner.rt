@@ -22,5 +22,8 @@ pub fn copy(entries: &[i64], out: &mut [i64])
     requires { length entries.now ≤ length out.old }
     ensures { out.new ≡ over entries.now out.old }
 {
-    out[..entries.len()].copy_from_slice(entries);
+    for i in 0..entries.len() {
+        let entry = entries[i];
+        out[i] = entry;
+    }
 }
