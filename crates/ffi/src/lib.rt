@@ -153,6 +153,8 @@ fn fields(number: u64, first: u64, second: u64, third: u64, in_key: Option<usize
     }
 }
 
+// Cold, so that no export keeps its fields ready at each turn of a loop, or a register for where they go (docs/SPEED.md).
+#[cold]
 fn refused(r: Refusal) -> RlRefusal
     ensures { (read_refusal result ≡ r) × (result ≡ laid_refusal r) }
 {
