@@ -7,7 +7,7 @@ use native.Mathlib.Numerals.{add-one}
 use native.Mathlib.Omega.{arith}
 use lib.IntN.{ℤ, pos}
 use lib.ListN.{length, get_or, take, set, length-set}
-use lib.Seq.{take-suc, take_all, length-take-le}
+use lib.Seq.{take-suc, length-take-le}
 use Rattle.column.specs.Runs.{over}
 use Rattle.column.proofs.Buffer.{over-next}
 
@@ -32,6 +32,3 @@ copy_next {es} {before} {now} {i} c h l {x} e =
           ∙ ap (λ (ys : List ℤ). over ys before) (sym next));
       long = rw length-set c.long;
     }
-
-pub copy_end : {es before now : List ℤ} {i : ℕ} → Copying es before now i → length es ≤ i → now ≡ over es before
-copy_end {es} {before} {i = i} c h = c.copied ∙ ap (λ (ys : List ℤ). over ys before) (take_all i es h)

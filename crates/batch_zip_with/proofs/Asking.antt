@@ -27,12 +27,13 @@ use Rattle.batch_zip_with.proofs.Pairs.{pair_of, all_pairs, places_in, place_in,
 use Rattle.batch_zip_with.proofs.Pairs.{standing-end}
 
 -- two questions, joined
-both-asked : (x y : Result ⊤ Refusal) → shown_asked (result_and x y) ≡ first_no (shown_asked x ∷ shown_asked y ∷ [])
+pub both-asked : (x y : Result ⊤ Refusal) → shown_asked (result_and x y) ≡ first_no (shown_asked x ∷ shown_asked y ∷ [])
 both-asked (Ok x) y = sym (alone (shown_asked y))
 both-asked (Err e) y = refl
 
 -- one more question, before those that are left
-asked-more : {r b : Question} (a p c : Question) → r ≡ first_no (a ∷ b ∷ []) → b ≡ p → first_no (r ∷ c ∷ []) ≡ first_no (a ∷ first_no (p ∷ c ∷ []) ∷ [])
+asked-more : {r b : Question} (a p c : Question) → r ≡ first_no (a ∷ b ∷ []) → b ≡ p
+    → first_no (r ∷ c ∷ []) ≡ first_no (a ∷ first_no (p ∷ c ∷ []) ∷ [])
 asked-more a p c e h =
     ap (λ (q : Question). first_no (q ∷ c ∷ [])) (e ∙ ap (λ (q : Question). first_no (a ∷ q ∷ [])) h) ∙ sym (first_several (a ∷ p ∷ []) (c ∷ []))
     ∙ sym (first_rest a (p ∷ c ∷ []))
@@ -92,16 +93,16 @@ module _ (how : ℕ) (a b : Batch) (fa fb : Option ℤ) where
             (ex ∙ ap length_of_ends el ∙ column-length a.keys a.flat.offsets a.flat.ends a.flat.values va j.a)
             (ey ∙ ap length_of_ends er ∙ column-length b.keys b.flat.offsets b.flat.ends b.flat.values vb j.b)
 
-        pub asking-next : {x y : ℤ} {q : Question} (r : Result ⊤ Refusal) {asked' : Result ⊤ Refusal} {runs' k : ℕ} {o' : Option Joined}
+        pub asking-next : {x y : ℤ} {q p : Question} {asked' : Result ⊤ Refusal} {runs' k : ℕ} {o' : Option Joined}
             → q ≡ filled x y (side x fa ∷ side y fb ∷ []) → x ≡ length_of_ends left → y ≡ length_of_ends right
-            → shown_asked r ≡ refused_in_key n q → asked' ≡ result_and asked r → runs' ≡ saturated (runs + (length left + length right))
-            → k ≡ j.at + 1 → NextPair how a b k o' → Asking asked' runs' (n + 1) o'
-        asking-next r eq ex ey ep ea en ek t = record {
+            → p ≡ refused_in_key n q → shown_asked asked' ≡ first_no (shown_asked asked ∷ p ∷ [])
+            → runs' ≡ saturated (runs + (length left + length right)) → k ≡ j.at + 1 → NextPair how a b k o' → Asking asked' runs' (n + 1) o'
+        asking-next eq ex ey ep ea en ek t = record {
           shown = omega arith;
           stands = standing-next (place_in how a b) (kept_in how a b) (pair_of a b) (places_in how a b) (all_pairs how a b) s.stands h ek t;
           left =
-              asked-more (shown_asked asked) (question n (pair_of a b j)) (later (n + 1)) (ap shown_asked ea ∙ both-asked asked r)
-              (ep ∙ ap (refused_in_key n) (filled-asked eq ex ey)) ∙ ahead;
+              asked-more (shown_asked asked) (question n (pair_of a b j)) (later (n + 1)) ea (ep ∙ ap (refused_in_key n) (filled-asked eq ex ey))
+              ∙ ahead;
           count =
               let ca = column-count a.keys a.flat.offsets a.flat.ends a.flat.values va j.a in
               let cb = column-count b.keys b.flat.offsets b.flat.ends b.flat.values vb j.b in

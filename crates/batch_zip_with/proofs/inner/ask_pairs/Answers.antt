@@ -1,8 +1,9 @@
-use mathlib.Core.Path.{refl, ◌∙◌}
+use mathlib.Core.Path.{refl, ap, ◌∙◌}
 use native.Mathlib.Omega.{arith}
 use Rattle.num.proofs.Bits.{back}
 use Rattle.batch_zip_with.proofs.Pairs.{stands-few}
-use Rattle.batch_zip_with.proofs.Asking.{asking_start, asking-next, asking_end}
+use Rattle.column.specs.Asking.{shown_asked}
+use Rattle.batch_zip_with.proofs.Asking.{both-asked, asking_start, asking-next, asking_end}
 use borrow.Author.Rules.{rules}
 use Rattle.batch_zip_with.proofs.inner.ask_pairs.Goals as goal
 
@@ -21,8 +22,9 @@ next_pair-next-requires-in-Some c =
 pub loop-next-preserved : goal.loop-next-preserved
 loop-next-preserved c = (
   asking-next _ _ _ _ _ c.requires.0 c.requires.1 c.loop-next.invariant.0 c.in-Some.is c.part_at-left.ensures
-      c.part_at-right.ensures _ c.ask_fills-filled.ensures (back _ c.length.type_inv ∙ c.length.ensures)
-      (back _ c.length-in-Some.type_inv ∙ c.length-in-Some.ensures) c.in_key.ensures c.and-asked.ensures c.saturating_add-runs.ensures refl
+      c.part_at-right.ensures c.ask_fills-filled.ensures (back _ c.length.type_inv ∙ c.length.ensures)
+      (back _ c.length-in-Some.type_inv ∙ c.length-in-Some.ensures) c.in_key.ensures
+      (ap shown_asked c.and-asked.ensures ∙ both-asked _ _) c.saturating_add-runs.ensures refl
       c.next_pair-next-in-Some.ensures.0,
   c.next_pair-next-in-Some.ensures.1,
   search rules,
