@@ -17,7 +17,7 @@ pub fn part_at<'o, 'e>(offsets: &'o [usize], entries: &'e [i64], position: usize
     sequence::part(entries, offsets[position], offsets[position + 1])
 }
 
-// The entries, copied to the front of a buffer.
+// The entries, copied to the front of a buffer. Not by `copy_from_slice`, for which the archive would need `memmove` from outside.
 pub fn copy(entries: &[i64], out: &mut [i64])
     requires { length entries.now ≤ length out.old }
     ensures { out.new ≡ over entries.now out.old }

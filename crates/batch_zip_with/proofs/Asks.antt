@@ -1,14 +1,14 @@
 -- The questions of zip_with of two batches, as the code joins them, and what a "yes" to all of them tells.
 -- Assumes nothing.
 use Prim.Native.Nat.{ℕ, ◌+◌, ◌<◌, ◌^◌}
-use Rattle.std.specs.Prelude.{Some, None, Option, Ok}
+use Rattle.std.specs.Prelude.{Some, None, Option, Ok, ⊤}
 use mathlib.Core.List.{List, [], ◌∷◌, map}
 use mathlib.Core.Path.{◌≡◌, ap, sym, ◌∙◌}
 use lib.IntN.{ℤ}
 use lib.ListN.{length}
-use Rattle.num.specs.Numbers.{saturated, operation}
+use Rattle.num.specs.Numbers.{operation}
 use Rattle.column.specs.declared.answer.RleBatch.{RleBatch}
-use Rattle.column.specs.Asking.{Question, first_no}
+use Rattle.column.specs.Asking.{Question, shown_asked, first_no}
 use Rattle.column.specs.Combine.{value_of, combined, table, greatest_length, row_at, value_at}
 use Rattle.column.specs.Lists.{total}
 use Rattle.column.specs.Paper.{PaperRefusal}
@@ -19,7 +19,8 @@ use Rattle.batch.specs.Workers.{ValidBatch, FilledCounts}
 use Rattle.batch.proofs.Asks.{both_told, first-refused, batch-room, saturated-room}
 use Rattle.batch.proofs.Laying.{batch-written}
 use Rattle.batch_zip_with.specs.Calls.{pair_runs, filled_pairs, zip_needs, zip_pair, zip_asked, zip_with}
-use Rattle.batch_zip_with.specs.Workers.{ZipRoom}
+use Rattle.batch_zip_with.specs.declared.inner.PairsAsked.{PairsAsked}
+use Rattle.batch_zip_with.specs.Workers.{AsksPairs, ZipRoom}
 use Rattle.batch_zip_with.proofs.Pairs.{all_pairs}
 
 module _ (a b : Batch) (how code : ℕ) where
@@ -42,12 +43,11 @@ module _ (a b : Batch) (how code : ℕ) where
       pairs-refused h = rw yes (first-refused (room (zip_needs a b (all_pairs how a b)) (k ∷ x ∷ e ∷ v ∷ []) ∷ []) h)
 
       -- 12, after a "yes" to 10 of every pair
-      pub all_asked : {q : Question} {n : ℕ} → e < 2 ^ 63 → v < 2 ^ 63 → None ≡ filled_pairs fa fb (all_pairs how a b)
-          → n ≡ saturated (total (map pair_runs (all_pairs how a b)))
-          → q ≡ room (batch_needs (length a.keys + length b.keys) n) (k ∷ x ∷ e ∷ v ∷ []) → q ≡ every_asked (k ∷ x ∷ e ∷ v ∷ [])
-      all_asked he hv h en hq =
-          rw yes (goes_on _ h (hq
-          ∙ ap (λ (m : ℕ). room (batch_needs (length a.keys + length b.keys) m) (k ∷ x ∷ e ∷ v ∷ [])) en
+      pub all_asked : {q : Question} {r : PairsAsked} {u : ⊤} → e < 2 ^ 63 → v < 2 ^ 63 → AsksPairs fa fb (all_pairs how a b) r → r.asked ≡ Ok u
+          → q ≡ room (batch_needs (length a.keys + length b.keys) r.runs) (k ∷ x ∷ e ∷ v ∷ []) → q ≡ every_asked (k ∷ x ∷ e ∷ v ∷ [])
+      all_asked he hv h is hq =
+          rw yes (goes_on _ (ap shown_asked (sym is) ∙ h.filled) (hq
+          ∙ ap (λ (m : ℕ). room (batch_needs (length a.keys + length b.keys) m) (k ∷ x ∷ e ∷ v ∷ [])) h.runs
           ∙ saturated-room (length a.keys + length b.keys) (total (map pair_runs (all_pairs how a b))) k x e v he hv ∙ sym (alone _)))
 
     pub zip-room : (k x : List ℕ) (e v : List ℤ) → every_asked (length k ∷ length x ∷ length e ∷ length v ∷ []) ≡ None → ZipRoom a b (all_pairs how a b) k x e v

@@ -23,12 +23,12 @@ pub returns-in_err-ask_room : goal.returns-in_err-ask_room
 unfolding zip_with
 returns-in_err-ask_room c =
     batch-refused _ _ _ c.from_residual.ensures.1
-    (all_asked _ _ _ _ _ _ c.requires.0 _ _ _ _ (omega (arith, c.well_formed)) (omega (arith, c.well_formed)) (ap shown_asked (sym c.in_default.is) ∙ c.ask_pairs-pairs.ensures.filled) c.ask_pairs-pairs.ensures.runs c.in_err-ask_room.ensures)
+    (all_asked _ _ _ _ _ _ c.requires.0 _ _ _ _ (omega (arith, c.well_formed)) (omega (arith, c.well_formed)) c.ask_pairs-pairs.ensures c.in_default.is c.in_err-ask_room.ensures)
 
 pub zip_pairs-joined-requires : goal.zip_pairs-joined-requires
 zip_pairs-joined-requires c = (
   zip-room _ _ _ _ _ _ _ _ _ _
-      (sym (all_asked _ _ _ _ _ _ c.requires.0 _ _ _ _ (omega (arith, c.well_formed)) (omega (arith, c.well_formed)) (ap shown_asked (sym c.in_default.is) ∙ c.ask_pairs-pairs.ensures.filled) c.ask_pairs-pairs.ensures.runs c.in_ok-ask_room.ensures)),
+      (sym (all_asked _ _ _ _ _ _ c.requires.0 _ _ _ _ (omega (arith, c.well_formed)) (omega (arith, c.well_formed)) c.ask_pairs-pairs.ensures c.in_default.is c.in_ok-ask_room.ensures)),
   c.requires.1,
   λ i. omega (arith, c.requires.2 i),
 )
@@ -37,5 +37,5 @@ pub returns : goal.returns
 returns c =
     zip-written _ _ _ _ _ _ (back _ c.unwrap_or.type_inv ∙ c.unwrap_or.ensures ∙ unwrapped c.args.fill_a)
     (back _ c.unwrap_or-2.type_inv ∙ c.unwrap_or-2.ensures ∙ unwrapped c.args.fill_b)
-    (sym (all_asked _ _ _ _ _ _ c.requires.0 _ _ _ _ (omega (arith, c.well_formed)) (omega (arith, c.well_formed)) (ap shown_asked (sym c.in_default.is) ∙ c.ask_pairs-pairs.ensures.filled) c.ask_pairs-pairs.ensures.runs c.in_ok-ask_room.ensures))
+    (sym (all_asked _ _ _ _ _ _ c.requires.0 _ _ _ _ (omega (arith, c.well_formed)) (omega (arith, c.well_formed)) c.ask_pairs-pairs.ensures c.in_default.is c.in_ok-ask_room.ensures))
     c.zip_pairs-joined.ensures
